@@ -1,0 +1,139 @@
+-- Demand 2's conditions, as a person writes them: propositions, with no test in them.
+use mathlib.Core.Path.{_≡_}
+use mathlib.Core.Logic.{_⊎_, _≢_}
+use mathlib.Core.List.{List}
+use Prim.Native.Nat.{ℕ, _+_, _≤_, _<_}
+use lib.IntN.{ℤ, pos, natAbs, _-ℤ_}
+use lib.ListN.{length, getD}
+use Rattle.meaning.specs.Name.{Name}
+use Rattle.meaning.specs.Study.{Settings, Node, Circuit, Station, Study, Runs, node, circuit, station}
+use Rattle.meaning.specs.File.{u32, trailer, sectionOffset, sectionCount, sectionStart, studyOf}
+use Rattle.meaning.specs.declared.System.{System}
+use Rattle.meaning.specs.Grid.{Grid, gridOf, totalDemand, totalTec}
+use Rattle.meaning.specs.Network.{Network, networkOf, Reached}
+use Rattle.meaning.specs.declared.Direction.the-variants.{InDoubt}
+use Rattle.meaning.specs.Direction.{direction}
+use Rattle.meaning.specs.Proposal.{potential, flow, flowOut, flowIn, missSum, Proposed}
+use Rattle.meaning.specs.Systems.{proposed, baseFlow}
+
+-- a number in a range, both ends in it
+pub record InRange (x low high : ℕ) : Type 0 where
+  pub least : low ≤ x
+  pub most : x ≤ high
+
+-- not 1
+pub record WholeFile (file : List ℕ) (runs : Runs) : Type 0 where
+  pub long : 128 ≤ length file
+  pub version : trailer file 14 ≡ 1
+  pub fileLength : trailer file 15 ≡ length file
+  pub oneSettings : sectionCount file 0 ≡ 1
+  pub nodes : InRange (sectionCount file 1) 1 256
+  pub circuits : sectionCount file 2 ≤ 512
+  pub stations : sectionCount file 3 ≤ 512
+  pub solutions : (section : ℕ) → InRange section 4 6 → sectionCount file section ≡ sectionCount file 1 + sectionCount file 2
+  pub chain : (section : ℕ) → section ≤ 6 → sectionOffset file section ≡ sectionStart file section
+  pub end : sectionStart file 7 + 64 ≡ length file
+  pub settingsZero : u32 file 52 ≡ 0
+  pub baseRun : length (runs .base) ≡ sectionCount file 4
+  pub widerRun : length (runs .wider) ≡ sectionCount file 5
+  pub localRun : length (runs .local) ≡ sectionCount file 6
+
+-- "1 to 12 of A-Z, 0-9 and underscore, then spaces to 12"
+pub record WellFormed (name : Name) : Type 0 where
+  pub long : length name ≡ 12
+  pub letters : ℕ
+  pub some : InRange letters 1 12
+  pub each : (i : ℕ) → i < letters
+      → InRange (getD name i 0) 65 90 ⊎ InRange (getD name i 0) 48 57 ⊎ (getD name i 0 ≡ 95)
+  pub spaces : (i : ℕ) → letters ≤ i → i < 12 → getD name i 0 ≡ 32
+
+-- not 2
+pub record SoundSettings (nodes : ℕ) (s : Settings) : Type 0 where
+  pub generationZones : InRange (s .generationZones) 1 32
+  pub demandZones : InRange (s .demandZones) 1 32
+  pub p : s .p ≤ 1000
+  pub constant : InRange (s .constant) 1 10000
+  pub widerFactor : InRange (s .widerFactor) 1000 5000
+  pub localFactor : InRange (s .localFactor) 1000 5000
+  pub overhead400 : s .overhead400 ≡ 1000
+  pub cable400 : InRange (s .cable400) 1000 30000
+  pub overhead275 : InRange (s .overhead275) 1000 30000
+  pub cable275 : InRange (s .cable275) 1000 30000
+  pub overhead132 : InRange (s .overhead132) 1000 30000
+  pub cable132 : InRange (s .cable132) 1000 30000
+  pub reference : InRange (s .reference) 1 nodes
+  pub revenue : s .revenue ≤ 10000000000
+
+-- not 3 at row i
+pub record SoundNode (S : Study) (i : ℕ) : Type 0 where
+  pub name : WellFormed (node (S .nodes) i .name)
+  pub generationZone : InRange (node (S .nodes) i .generationZone) 1 (S .settings .generationZones)
+  pub demandZone : InRange (node (S .nodes) i .demandZone) 1 (S .settings .demandZones)
+  pub demand : node (S .nodes) i .demand ≤ 20000000
+  pub new : (j : ℕ) → j < i → node (S .nodes) j .name ≢ node (S .nodes) i .name
+
+-- some node has this name
+pub record Known (S : Study) (name : Name) : Type 0 where
+  pub place : ℕ
+  pub isNode : place < length (S .nodes)
+  pub named : node (S .nodes) place .name ≡ name
+
+-- not 4 at row i
+pub record SoundCircuit (S : Study) (i : ℕ) : Type 0 where
+  pub firstName : WellFormed (circuit (S .circuits) i .first)
+  pub secondName : WellFormed (circuit (S .circuits) i .second)
+  pub first : Known S (circuit (S .circuits) i .first)
+  pub second : Known S (circuit (S .circuits) i .second)
+  pub apart : circuit (S .circuits) i .first ≢ circuit (S .circuits) i .second
+  pub voltage : (circuit (S .circuits) i .voltage ≡ 132) ⊎ (circuit (S .circuits) i .voltage ≡ 275) ⊎ (circuit (S .circuits) i .voltage ≡ 400)
+  pub x : InRange (circuit (S .circuits) i .x) 1 10000
+  pub overhead : circuit (S .circuits) i .overhead ≤ 500000
+  pub cable : circuit (S .circuits) i .cable ≤ 500000
+  pub localMark : circuit (S .circuits) i .localMark ≤ 1
+
+-- not 5 at row i
+pub record SoundStation (S : Study) (i : ℕ) : Type 0 where
+  pub identifier : WellFormed (station (S .stations) i .identifier)
+  pub nodeName : WellFormed (station (S .stations) i .node)
+  pub node : Known S (station (S .stations) i .node)
+  pub plantType : InRange (station (S .stations) i .plantType) 1 7
+  pub tec : station (S .stations) i .tec ≤ 20000000
+  pub new : (j : ℕ) → j < i → station (S .stations) j .identifier ≢ station (S .stations) i .identifier
+
+-- "Tables are sound when none of 1 to 7 holds": 2 to 7 of a whole file's study
+pub record SoundTables (S : Study) : Type 0 where
+  pub settings : SoundSettings (length (S .nodes)) (S .settings)
+  pub nodes : (i : ℕ) → i < length (S .nodes) → SoundNode S i
+  pub circuits : (i : ℕ) → i < length (S .circuits) → SoundCircuit S i
+  pub stations : (i : ℕ) → i < length (S .stations) → SoundStation S i
+  pub reached : (v : ℕ) → v < length (S .nodes) → Reached (networkOf (gridOf S)) v
+  pub demandTotal : InRange (totalDemand (gridOf S)) 1 100000000
+  pub tecTotal : InRange (totalTec (gridOf S)) 1 100000000
+  pub enough : totalDemand (gridOf S) ≤ totalTec (gridOf S)
+
+-- step 2, for any network, supply and offset, potentials and flows, and a bound on the sum of misses
+pub record Solves (N : Network) (bound : ℕ) (supply offset potential flow : ℕ → ℤ) : Type 0 where
+  pub ground : potential (N .reference) ≡ pos 0
+  pub balanced : (v : ℕ) → v < N .nodes → flowOut N flow v -ℤ flowIn N flow v ≡ supply v
+  pub close : missSum N offset potential flow ≤ bound
+
+-- not 8, 9 or 10 of a system: every proposed number in range, and step 2 with 01's bound
+pub record SolvesSystem (N : Network) (P : Proposed) : Type 0 where
+  pub potentials : (v : ℕ) → v < N .nodes → natAbs (potential (P .run) v) ≤ P .limit
+  pub flows : (c : ℕ) → c < N .circuits → natAbs (flow N (P .run) c) ≤ 100000000000000
+  pub solves : Solves N 100000000 (P .supply) (P .offset) (potential (P .run)) (flow N (P .run))
+
+-- "a length above zero"
+abbrev pub HasLength : Circuit → Type 0
+HasLength c = 1 ≤ c.overhead + c.cable
+
+-- not 11
+pub record NoDoubt (G : Grid) (runs : Runs) : Type 0 where
+  pub clear : (c : ℕ) → c < length (G .circuits) → HasLength (circuit (G .circuits) c) → direction (baseFlow G runs c) ≢ InDoubt
+
+-- not 1 to 11
+pub record Acceptable (file : List ℕ) (runs : Runs) : Type 0 where
+  pub whole : WholeFile file runs
+  pub tables : SoundTables (studyOf file)
+  pub solved : (system : System) → SolvesSystem (networkOf (gridOf (studyOf file))) (proposed (gridOf (studyOf file)) runs system)
+  pub directions : NoDoubt (gridOf (studyOf file)) runs

@@ -1,0 +1,48 @@
+-- 01, step 4: expanded length, direction and signed length of a circuit.
+use mathlib.Core.Bool.{Bool, true, false, cond}
+use Prim.Native.Nat.{ℕ, _+_, _*_}
+use lib.Dec.{eqb, leb}
+use lib.IntN.{ℤ, pos, negsuc, negℤ, natAbs, _*ℤ_}
+use lib.Signed.{nonNeg}
+use Rattle.meaning.specs.declared.Direction.{Direction}
+use Rattle.meaning.specs.declared.Direction.the-variants.{Idle, Forward, Backward, InDoubt}
+use Rattle.meaning.specs.Study.{Settings, Circuit}
+
+-- the factors of a voltage, in thousandths
+unfoldable pub overheadFactor : Settings → (voltage : ℕ) → ℕ
+overheadFactor s voltage = cond (eqb voltage 400) s.overhead400 (cond (eqb voltage 275) s.overhead275 s.overhead132)
+
+unfoldable pub cableFactor : Settings → (voltage : ℕ) → ℕ
+cableFactor s voltage = cond (eqb voltage 400) s.cable400 (cond (eqb voltage 275) s.cable275 s.cable132)
+
+-- "Expanded length in mm is overhead metres times its factor plus cable metres times its factor, by voltage."
+unfoldable pub expandedLength : Settings → Circuit → ℕ
+expandedLength s c = c.overhead * overheadFactor s c.voltage + c.cable * cableFactor s c.voltage
+
+-- "idle at a base flow of magnitude up to 200,000,000, directed above 400,000,000, and in doubt between"
+unfoldable pub direction : (flow : ℤ) → Direction
+direction flow =
+    cond (leb (natAbs flow) 200000000) Idle
+    (cond (leb (natAbs flow) 400000000) InDoubt
+    (cond (nonNeg flow) Forward Backward))
+
+unfoldable pub inDoubt : Direction → Bool
+inDoubt Idle = false
+inDoubt Forward = false
+inDoubt Backward = false
+inDoubt InDoubt = true
+
+-- "A circuit with a length above zero"
+unfoldable pub hasLength : Circuit → Bool
+hasLength c = leb 1 (c.overhead + c.cable)
+
+-- a length with a direction's sign; in doubt is refused as 11 before any length is used
+unfoldable pub signed : Direction → ℤ → ℤ
+signed Idle length = pos 0
+signed Forward length = length
+signed Backward length = negℤ length
+signed InDoubt length = pos 0
+
+-- "Its signed length in nm is 1,000,000 times the expanded length, with the base flow's sign, or 0 when idle."
+unfoldable pub signedLength : Settings → Circuit → (flow : ℤ) → ℤ
+signedLength s c flow = signed (direction flow) (pos (1000000 * expandedLength s c))

@@ -1,0 +1,97 @@
+-- A study with its stations added up: all that the later steps see. How a node's capacity is divided among stations is gone.
+use mathlib.Core.Bool.{Bool, true, cond, _&&_}
+use mathlib.Core.List.{List, []}
+use mathlib.Core.Option.{Option, Option·getD}
+use Prim.Native.Nat.{ℕ, suc}
+use lib.Dec.{eqb, leb}
+use lib.ListN.{length, getD}
+use Rattle.integers.specs.Numbers.{sum}
+use Rattle.meaning.specs.Rows.{_between_and_, lowest, rows}
+use Rattle.meaning.specs.Name.{Name, sameName}
+use Rattle.meaning.specs.Study.{Kw, Settings, Node, Circuit, Station, Study, node, station}
+use Rattle.meaning.specs.declared.Plant.{Plant}
+use Rattle.meaning.specs.declared.Plant.the-variants.{Intermittent, NuclearAndCcs, Interconnector, Hydro, PumpedStorage, Peaking, Other}
+use Rattle.meaning.specs.declared.Answer.{Answer}
+use Rattle.meaning.specs.declared.Answer.the-variants.{BadTotal}
+use Rattle.meaning.specs.Answers.{unless}
+
+-- 01, The case file: plant types 1 to 7 "are the rows of the table in 14.15.7, in order"
+unfoldable pub plantOf : (plantType : ℕ) → Plant
+plantOf t =
+    cond (eqb t 1) Intermittent
+    (cond (eqb t 2) NuclearAndCcs
+    (cond (eqb t 3) Interconnector (cond (eqb t 4) Hydro (cond (eqb t 5) PumpedStorage (cond (eqb t 6) Peaking Other)))))
+
+-- whether the TEC of a plant type scales (step 1) and weighs (step 7): all of it
+unfoldable pub scales : Plant → Bool
+scales Intermittent = true
+scales NuclearAndCcs = true
+scales Interconnector = true
+scales Hydro = true
+scales PumpedStorage = true
+scales Peaking = true
+scales Other = true
+
+-- whether the TEC of a plant type pays (steps 8 and 10): all of it
+unfoldable pub pays : Plant → Bool
+pays Intermittent = true
+pays NuclearAndCcs = true
+pays Interconnector = true
+pays Hydro = true
+pays PumpedStorage = true
+pays Peaking = true
+pays Other = true
+
+pub record Grid : Type 0 where
+  pub settings : Settings
+  pub nodes : List Node
+  pub circuits : List Circuit
+  pub capacity : List (List Kw)
+
+-- the number of the node of that name; the count of nodes where there is none
+unfoldable pub place : List Node → Name → ℕ
+place nodes name = Option·getD (lowest (λ v. sameName (node nodes v .name) name) (length nodes)) (length nodes)
+
+-- the TEC that a station adds to node v and a plant type
+unfoldable pub tecAt : List Node → Station → (v plantType : ℕ) → Kw
+tecAt nodes s v plantType = cond (eqb (place nodes s.node) v && eqb s.plantType plantType) s.tec 0
+
+-- TEC at node v of a plant type: the sum over its stations
+unfoldable pub capacityOf : Study → (v plantType : ℕ) → Kw
+capacityOf S v plantType = sum (length (S .stations)) (λ k. tecAt (S .nodes) (station (S .stations) k) v plantType)
+
+-- for each node a list of seven, one a plant type
+unfoldable pub gridOf : Study → Grid
+gridOf S =
+    record {
+      settings = S .settings;
+      nodes = S .nodes;
+      circuits = S .circuits;
+      capacity = rows (length (S .nodes)) (λ v. rows 7 (λ t. capacityOf S v (suc t)));
+    }
+
+-- TEC at node v of the plant types that pass a test
+unfoldable pub tecOf : (Plant → Bool) → Grid → ℕ → Kw
+tecOf test G v = sum 7 (λ t. cond (test (plantOf (suc t))) (getD (getD (G .capacity) v []) t 0) 0)
+
+-- step 1, "Node TEC is the sum over its stations": the TEC that scales and weighs
+abbrev pub nodeTec : Grid → ℕ → Kw
+nodeTec = tecOf scales
+
+-- the TEC that pays
+abbrev pub payingTec : Grid → ℕ → Kw
+payingTec = tecOf pays
+
+abbrev pub nodeDemand : Grid → ℕ → Kw
+nodeDemand G v = node (G .nodes) v .demand
+
+abbrev pub totalTec : Grid → Kw
+totalTec G = sum (length (G .nodes)) (nodeTec G)
+
+abbrev pub totalDemand : Grid → Kw
+totalDemand G = sum (length (G .nodes)) (nodeDemand G)
+
+-- 01, What stops a case, 7: "a total outside its range, or total TEC below total demand"
+unfoldable pub totalsStage : Grid → Answer
+totalsStage G =
+    unless (totalDemand G between 1 and 100000000 && totalTec G between 1 and 100000000 && leb (totalDemand G) (totalTec G)) BadTotal

@@ -1,0 +1,77 @@
+-- 01, steps 1, 3, 4 and 5: supply and offset of the three systems, and the order in which their runs are judged.
+use mathlib.Core.Bool.{Bool, cond, not, _||_}
+use mathlib.Core.List.{List}
+use Prim.Native.Nat.{ℕ}
+use lib.Dec.{eqb}
+use lib.IntN.{ℤ, pos, _-ℤ_, _*ℤ_}
+use lib.ListN.{length}
+use Rattle.meaning.specs.Rows.{failing}
+use Rattle.meaning.specs.Study.{Runs, circuit}
+use Rattle.meaning.specs.declared.System.{System}
+use Rattle.meaning.specs.declared.System.the-variants.{Base, Wider, Local}
+use Rattle.meaning.specs.declared.Answer.{Answer}
+use Rattle.meaning.specs.declared.Answer.the-variants.{DirectionInDoubt}
+use Rattle.meaning.specs.Answers.{_orElse_, at}
+use Rattle.meaning.specs.Grid.{Grid, nodeTec, nodeDemand, totalDemand}
+use Rattle.meaning.specs.Network.{networkOf}
+use Rattle.meaning.specs.Scaled.{scaled}
+use Rattle.meaning.specs.Direction.{direction, inDoubt, hasLength, signedLength}
+use Rattle.meaning.specs.Proposal.{flow, Proposed, systemStage}
+
+-- the run of a system
+unfoldable pub runOf : Runs → System → List ℤ
+runOf runs Base = runs .base
+runOf runs Wider = runs .wider
+runOf runs Local = runs .local
+
+-- Quantities: base potential up to 2 x 10^18, wider and local potential up to 10^16
+unfoldable pub limitOf : System → ℕ
+limitOf Base = 2000000000000000000
+limitOf Wider = 10000000000000000
+limitOf Local = 10000000000000000
+
+module _ (G : Grid) where
+  open Grid G using (settings, nodes, circuits)
+
+  -- step 1: "Net is scaled generation less demand."
+  unfoldable pub net : ℕ → ℤ
+  net v = pos (scaled (length nodes) (nodeTec G) (totalDemand G) v) -ℤ pos (nodeDemand G v)
+
+  -- step 3: "supply 1,000,000 times the net kW"; step 5: supply 0
+  unfoldable pub supply : System → ℕ → ℤ
+  supply Base v = pos 1000000 *ℤ net v
+  supply Wider v = pos 0
+  supply Local v = pos 0
+
+  module _ (runs : Runs) where
+    abbrev pub baseFlow : ℕ → ℤ
+    baseFlow = flow (networkOf G) (runs .base)
+
+    -- step 4: the signed length of circuit c
+    unfoldable pub lengthOf : ℕ → ℤ
+    lengthOf c = signedLength settings (circuit circuits c) (baseFlow c)
+
+    -- step 3: offset 0; step 5: "the signed length of circuits without local mark, 0 for others", and "the mark turned round"
+    unfoldable pub offset : System → ℕ → ℤ
+    offset Base c = pos 0
+    offset Wider c = cond (eqb (circuit circuits c .localMark) 0) (lengthOf c) (pos 0)
+    offset Local c = cond (eqb (circuit circuits c .localMark) 0) (pos 0) (lengthOf c)
+
+    -- what is proposed for a system
+    unfoldable pub proposed : System → Proposed
+    proposed s = record { system = s; limit = limitOf s; supply = supply s; offset = offset s; run = runOf runs s }
+
+    -- 8, 9, 10 of a system
+    abbrev pub solutionStage : System → Answer
+    solutionStage s = systemStage (networkOf G) (proposed s)
+
+    -- 11: the direction of a circuit with a length is not in doubt
+    unfoldable pub directionClear : ℕ → Bool
+    directionClear c = not (hasLength (circuit circuits c)) || not (inDoubt (direction (baseFlow c)))
+
+    unfoldable pub directionStage : Answer
+    directionStage = at (failing directionClear (length circuits)) DirectionInDoubt
+
+    -- "8, 9, 10 for system 1 (base); 11; 8, 9, 10 for system 2 (wider), then 3 (local)"
+    unfoldable pub proposalsStage : Answer
+    proposalsStage = solutionStage Base orElse directionStage orElse solutionStage Wider orElse solutionStage Local

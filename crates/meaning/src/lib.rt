@@ -1,0 +1,66 @@
+// The types that definitions and code share. What they mean is said in specs/; there is no code here.
+
+// 01, Quantities: kilowatts, metres of marginal distance, micro-pounds per kilowatt. A number of one never stands for another.
+pub struct Kw(pub u64);
+
+pub struct Metres(pub i64);
+
+pub struct MicroPerKw(pub i64);
+
+// 01, The case file: the three solutions, systems 1, 2 and 3.
+pub enum System {
+    Base,
+    Wider,
+    Local,
+}
+
+// 01, The case file: plant types 1 to 7, the rows of the table in 14.15.7.
+pub enum Plant {
+    Intermittent,
+    NuclearAndCcs,
+    Interconnector,
+    Hydro,
+    PumpedStorage,
+    Peaking,
+    Other,
+}
+
+// 01, steps 7 to 10 are the same for both.
+pub enum Side {
+    Generation,
+    Demand,
+}
+
+// 01, step 4: the direction of a circuit's base flow. Forward is from the first node to the second.
+pub enum Direction {
+    Idle,
+    Forward,
+    Backward,
+    InDoubt,
+}
+
+// 01, What stops a case: a case for each number 1 to 12, with the system and the row (from 1) where the table has one;
+// and accepted, with the length of the sheet.
+pub enum Answer {
+    Accepted(usize),
+    BadFile,
+    BadSetting,
+    BadNode(usize),
+    BadCircuit(usize),
+    BadStation(usize),
+    Unreached(usize),
+    BadTotal,
+    BadNumber(System, usize),
+    Unbalanced(System, usize),
+    MissesTooHigh(System),
+    DirectionInDoubt(usize),
+    ShortBuffer,
+}
+
+// What an answer carries: 01's number (0 for accepted), system and row, and the sheet's length.
+pub struct Values {
+    pub number: usize,
+    pub system: usize,
+    pub row: usize,
+    pub length: usize,
+}
