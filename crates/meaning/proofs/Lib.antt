@@ -1,3 +1,4 @@
+-- laws of the definitions
 pub mod Rows
 pub mod Says
 pub mod Answers
@@ -5,4 +6,10 @@ pub mod Walk
 pub mod Shares
 pub mod Starts
 pub mod Tables
+-- the definitions computed: the starred rows, case KILN and its damaged forms
 pub mod Write
+pub mod Opened
+pub mod Starred
+pub mod Kiln
+pub mod Damaged
+pub mod Small

@@ -1,0 +1,119 @@
+-- Two small cases on the edges of 01's bands and sums: PAIR, two nodes and a circuit, and ALONE, one node.
+use mathlib.Core.Path.{_≡_, refl}
+use mathlib.Core.List.{List, [], _∷_}
+use Prim.Native.Nat.{ℕ, _+_, _*_}
+use lib.IntN.{ℤ, pos}
+use lib.ListN.{replicate}
+use Rattle.meaning.specs.Text.{text}
+use Rattle.meaning.specs.Study.{Settings, Study, Runs}
+use Rattle.meaning.specs.declared.System.the-variants.{Base}
+use Rattle.meaning.specs.declared.Answer.the-variants.{MissesTooHigh, DirectionInDoubt}
+use Rattle.meaning.specs.Outcome.{Settled, settle, written, refused}
+use Rattle.meaning.proofs.Write.{name, fileOf}
+use Rattle.meaning.proofs.Opened.{opened}
+use Rattle.meaning.proofs.Kiln.{nodeOf, stationOf}
+
+-- a buffer of 100 bytes before, and a study settled in it
+abbrev before : List ℕ
+before = replicate 100 7
+
+abbrev settled : Study → Runs → Settled
+settled S runs = settle (fileOf S runs) runs before
+
+-- ---- PAIR: two nodes, one circuit of 10 m and x 1, k kW from A to B; the base misses by m
+abbrev pairStudy : (k mark : ℕ) → Study
+pairStudy k mark =
+    record {
+      settings = record {
+        generationZones = 2;
+        demandZones = 1;
+        p = 270;
+        constant = 1007;
+        widerFactor = 1800;
+        localFactor = 1000;
+        overhead400 = 1000;
+        cable400 = 1000;
+        overhead275 = 1000;
+        cable275 = 1000;
+        overhead132 = 1000;
+        cable132 = 1000;
+        reference = 2;
+        revenue = 1;
+      };
+      nodes = nodeOf "A" 0 ∷ nodeOf "B" k ∷ [];
+      circuits = record { first = name "A"; second = name "B"; voltage = 400; x = 1; overhead = 10; cable = 0; localMark = mark } ∷ [];
+      stations = stationOf "S" "A" k ∷ [];
+    }
+
+abbrev pair : (k m : ℕ) → (potential : ℤ) → Settled
+pair k m potential =
+    settled (pairStudy k 0)
+    (record {
+      base = pos (1000000 * k + m) ∷ pos 0 ∷ pos (1000000 * k) ∷ [];
+      wider = potential ∷ pos 0 ∷ pos 0 ∷ [];
+      local = pos 0 ∷ pos 0 ∷ pos 0 ∷ [];
+    })
+
+-- 10: "Misses summing to 100,000,000 pass; one more is 10."
+passing : pair 200 100000000 (pos 0) ≡ written (text "C 0\nG 1 0 0 0 3650 3650\nG 2 -\nD 1 0 0 0 1350 1350\nL A 0 0\nR 0 0\n") before
+unfolding opened
+passing = refl
+
+missed : pair 200 100000001 (pos 0) ≡ refused (MissesTooHigh Base) before
+unfolding opened
+missed = refl
+
+-- 11: 200 kW is idle, 201 and 400 kW are in doubt, 401 kW is directed: its 10 m stand in the wider solution
+doubt : pair 201 0 (pos 0) ≡ refused (DirectionInDoubt 1) before
+unfolding opened
+doubt = refl
+
+doubt₄₀₀ : pair 400 0 (pos 0) ≡ refused (DirectionInDoubt 1) before
+unfolding opened
+doubt₄₀₀ = refl
+
+directed : pair 401 0 (pos 10000000000) ≡ written (text "C -3\nG 1 10 7 127 1693 1820\nG 2 -\nD 1 0 3 54 619 673\nL A 0 0\nR 180 127\n") before
+unfolding opened
+directed = refl
+
+-- the same circuit with a local mark: its 10 m stand in the local solution, and pay a local tariff. By hand: 10 x 1,007 x 1,000 / 100,000 is 100.7, so 101;
+-- 730,000 less 101 x 401 is 689,499, which is 1,719 x 401 + 180; and 270,000 is 673 x 401 + 127
+local-mark : settled (pairStudy 401 1)
+    (record {
+      base = pos 401000000 ∷ pos 0 ∷ pos 401000000 ∷ [];
+      wider = pos 0 ∷ pos 0 ∷ pos 0 ∷ [];
+      local = pos 10000000000 ∷ pos 0 ∷ pos 0 ∷ [];
+    })
+    ≡ written (text "C 0\nG 1 0 0 0 1719 1719\nG 2 -\nD 1 0 0 0 673 673\nL A 10 101\nR 180 127\n") before
+unfolding opened
+local-mark = refl
+
+-- ---- ALONE: "One node and no circuits may pass."
+abbrev aloneStudy : Study
+aloneStudy =
+    record {
+      settings = record {
+        generationZones = 1;
+        demandZones = 1;
+        p = 0;
+        constant = 1;
+        widerFactor = 1000;
+        localFactor = 1000;
+        overhead400 = 1000;
+        cable400 = 1000;
+        overhead275 = 1000;
+        cable275 = 1000;
+        overhead132 = 1000;
+        cable132 = 1000;
+        reference = 1;
+        revenue = 0;
+      };
+      nodes = nodeOf "A" 3 ∷ [];
+      circuits = [];
+      stations = stationOf "A" "A" 3 ∷ [];
+    }
+
+one-node : settled aloneStudy (record { base = pos 0 ∷ []; wider = pos 0 ∷ []; local = pos 0 ∷ [] })
+    ≡ written (text "C 0\nG 1 0 0 0 0 0\nD 1 0 0 0 0 0\nL A 0 0\nR 0 0\n") before
+unfolding opened
+one-node = refl
