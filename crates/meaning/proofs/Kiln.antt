@@ -1,7 +1,7 @@
 -- Case KILN of document 01, from its text, and what the definitions make of it.
 use mathlib.Core.Path.{_≡_, refl}
 use mathlib.Core.List.{List, [], _∷_, _++_}
-use Prim.Native.Nat.{ℕ}
+use Prim.Native.Nat.{ℕ, _*_, _-_}
 use Prim.Native.String.{String}
 use lib.IntN.{ℤ, pos, negℤ}
 use lib.ListN.{length, replicate}
@@ -11,6 +11,9 @@ use Rattle.meaning.specs.File.{studyOf}
 use Rattle.meaning.specs.declared.Answer.the-variants.{Accepted}
 use Rattle.meaning.specs.Answers.{passed}
 use Rattle.meaning.specs.Outcome.{judged, prints, Settled, settle}
+use Rattle.meaning.specs.declared.Side.the-variants.{Generation, Demand}
+use Rattle.meaning.specs.Grid.{gridOf}
+use Rattle.meaning.specs.Read.{printedIncome, printedRemainder}
 use Rattle.meaning.proofs.Write.{name, fileOf}
 use Rattle.meaning.proofs.Opened.{opened}
 
@@ -98,3 +101,12 @@ kiln-judged = refl
 pub kiln-settled : settle kiln kilnRuns (replicate 200 7) ≡ record { answer = Accepted 117; buffer = kilnSheet ++ replicate 83 7 }
 unfolding opened
 kiln-settled = refl
+
+-- read back from its bytes, the sheet brings in 100,000 pounds less the two remainders
+kiln-income : printedIncome (gridOf kilnStudy) kilnSheet ≡ pos (100000 * 1000000 - 250000)
+unfolding opened
+kiln-income = refl
+
+kiln-remainders : (printedRemainder Generation kilnSheet ≡ pos 200000) × (printedRemainder Demand kilnSheet ≡ pos 50000)
+unfolding opened
+kiln-remainders = (refl, refl)

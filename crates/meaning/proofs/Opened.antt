@@ -1,4 +1,4 @@
--- Every definition on the way from bytes to a settled buffer, open: a test that names `opened` on its `unfolding` line computes.
+-- Every definition on the way from bytes to a settled buffer, and back from a sheet, open: a test that names `opened` on its `unfolding` line computes.
 use mathlib.Core.List.{List}
 use Prim.Native.Nat.{ℕ}
 use Rattle.integers.specs.Numbers.{sum, Σ, floorDiv, nearest}
@@ -19,7 +19,8 @@ use Rattle.meaning.specs.Figures.{metres, tariff, residualOf, remainderO
 use Rattle.meaning.specs.Text.{digits, natural, decimal, line}
 use Rattle.meaning.specs.Sheet.{letter, zoneLine, zoneLines, localLine, sheet}
 use Rattle.meaning.specs.Outcome.{fileStage, runsStage, rowsStage, gridStage, tablesStage, judged, refused, written, settle, refusedLine, prints}
+use Rattle.meaning.specs.Read.{withFront, pieces, field, readNatural, readWhole, hasLetter, padded, overLines, zoneIncome, nodeIncome, printedIncome, remainderField, printedRemainder}
 
 unfoldable pub opened : (file : List ℕ) → Runs → (buffer : List ℕ) → Settled
-unfolding sum Σ floorDiv nearest _between_and_ firstOf lowest found all rows joined nameByte unpadded every wellFormed sameName u32 u64 nameAt recordSize trailer sectionStart chained counted fileWhole runsWhole settingsAt nodeAt circuitAt stationAt studyOf i64 runIn runsIn systemNumber refusal values stops _orElse_ unless at seenEarlier known soundSettings soundNodeRow soundCircuitRow soundStationRow soundNode soundCircuit soundStation settingsStage nodesStage circuitsStage stationsStage plantOf scales pays place tecAt capacityOf gridOf tecOf totalsStage networkOf leadsTo spread reachedBy reachedNodes reachStage wholeShare leftOver missing scaled overheadFactor cableFactor expandedLength direction inDoubt hasLength signed signedLength flowOut flowIn miss missSum numberInRange balanced rangeStage balanceStage missStage systemStage runOf limitOf net supply lengthOf offset proposed directionClear directionStage proposalsStage metres tariff residualOf remainderOf widerMetres localMetres distance zones zoneOf weight paying zoneWeight zonePaying totalPaying overZones target zonalMetres C afterC zoneTariff localTariff localIncome rest residual remainder zoneTotal digits natural decimal line letter zoneLine zoneLines localLine sheet fileStage runsStage rowsStage gridStage tablesStage judged refused written settle refusedLine prints
+unfolding sum Σ floorDiv nearest _between_and_ firstOf lowest found all rows joined nameByte unpadded every wellFormed sameName u32 u64 nameAt recordSize trailer sectionStart chained counted fileWhole runsWhole settingsAt nodeAt circuitAt stationAt studyOf i64 runIn runsIn systemNumber refusal values stops _orElse_ unless at seenEarlier known soundSettings soundNodeRow soundCircuitRow soundStationRow soundNode soundCircuit soundStation settingsStage nodesStage circuitsStage stationsStage plantOf scales pays place tecAt capacityOf gridOf tecOf totalsStage networkOf leadsTo spread reachedBy reachedNodes reachStage wholeShare leftOver missing scaled overheadFactor cableFactor expandedLength direction inDoubt hasLength signed signedLength flowOut flowIn miss missSum numberInRange balanced rangeStage balanceStage missStage systemStage runOf limitOf net supply lengthOf offset proposed directionClear directionStage proposalsStage metres tariff residualOf remainderOf widerMetres localMetres distance zones zoneOf weight paying zoneWeight zonePaying totalPaying overZones target zonalMetres C afterC zoneTariff localTariff localIncome rest residual remainder zoneTotal digits natural decimal line letter zoneLine zoneLines localLine sheet fileStage runsStage rowsStage gridStage tablesStage judged refused written settle refusedLine prints withFront pieces field readNatural readWhole hasLetter padded overLines zoneIncome nodeIncome printedIncome remainderField printedRemainder
 opened file runs buffer = settle file runs buffer

@@ -17,5 +17,5 @@ pub mod Sheet
 pub mod Outcome
 pub mod Edges
 pub mod Conditions
-
--- pub mod Demands
+pub mod Read
+pub mod Demands
