@@ -1,3 +1,5 @@
 pub mod Sums
 pub mod Regroup
 pub mod Rounding
+pub mod Ranges
+pub mod Kilowatts

@@ -1,0 +1,49 @@
+-- No part of a side's kilowatts is above their total, and the zones have all of them.
+use mathlib.Core.Path.{_≡_}
+use Prim.Native.Nat.{ℕ, suc, _≤_, _<_}
+use native.Mathlib.Nat.{le-trans}
+use lib.Dec.{eqb}
+use lib.ListN.{length}
+use Rattle.integers.specs.Numbers.{sum}
+use Rattle.meaning.specs.Study.{Study}
+use Rattle.meaning.specs.Grid.{Grid, gridOf}
+use Rattle.meaning.specs.declared.Side.{Side}
+use Rattle.meaning.specs.Figures.{zones, zoneOf, weight, paying, zoneWeight, zonePaying, totalPaying}
+use Rattle.sizes.specs.Bounds.{KilowattsFit, KilowattsAlwaysFit}
+use Rattle.sizes.proofs.Sums.{sum-part, sum-term, sum-picked}
+use Rattle.sizes.proofs.Regroup.{regroup}
+use Rattle.sizes.proofs.Ranges.{Ranged, ranged}
+
+module _ (G : Grid) (r : Ranged G) where
+  pub zones-cover : (side : Side) → sum (zones G side) (λ i. zonePaying G side (suc i)) ≡ totalPaying G side
+  unfolding zonePaying totalPaying
+  zones-cover side = regroup (zones G side) (zoneOf G side) (paying G side) (length (G .nodes)) (r .inZone side)
+
+  zones-to : (side : Side) (k : ℕ) → k ≤ zones G side → sum k (λ i. zonePaying G side (suc i)) ≤ totalPaying G side
+  zones-to side k h = rw (zones-cover side) at (sum-part (λ i. zonePaying G side (suc i)) k (zones G side) h)
+
+  zone-weighs : (side : Side) (zone : ℕ) → zoneWeight G side zone ≤ 100000000
+  unfolding zoneWeight
+  zone-weighs side zone = le-trans (sum-picked (λ v. eqb (zoneOf G side v) zone) (weight G side) (length (G .nodes))) (r .weighing side)
+
+  pays-most : (side : Side) → sum (length (G .nodes)) (paying G side) ≤ 100000000
+  unfolding totalPaying
+  pays-most side = r .payers side .most
+
+  zone-pays : (side : Side) (zone : ℕ) → zonePaying G side zone ≤ 100000000
+  unfolding zonePaying
+  zone-pays side zone = le-trans (sum-picked (λ v. eqb (zoneOf G side v) zone) (paying G side) (length (G .nodes))) (pays-most side)
+
+  pub kilowatts : KilowattsFit G
+  kilowatts = record {
+    all = r .payers;
+    nodeWeighs = λ side v h. le-trans (sum-term (weight G side) v (length (G .nodes)) h) (r .weighing side);
+    nodePays = λ side v h. le-trans (sum-term (paying G side) v (length (G .nodes)) h) (pays-most side);
+    zoneWeighs = zone-weighs;
+    zonePays = zone-pays;
+    zonesTo = zones-to;
+    zonesAll = zones-cover;
+  }
+
+pub kilowatts-fit : KilowattsAlwaysFit
+kilowatts-fit S sound = kilowatts (gridOf S) (ranged S sound)

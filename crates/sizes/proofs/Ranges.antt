@@ -1,0 +1,99 @@
+-- What sound tables say of the grid that the figures are made from. Past this file nothing looks into a study.
+use mathlib.Core.Path.{_≡_, refl, sym, _∙_, ap}
+use mathlib.Core.Logic.{_⊎_, inl, inr}
+use mathlib.Core.Bool.{Bool, true, false, cond}
+use Prim.Native.Nat.{ℕ, zero, suc, _+_, _*_, _≤_, _<_}
+use native.Mathlib.Nat.{mul-le-mul}
+use native.Mathlib.Omega.{arith}
+use lib.Dec.{eqb}
+use lib.ListN.{length}
+use Rattle.integers.specs.Numbers.{sum}
+use Rattle.meaning.specs.Study.{Study, Settings, Circuit, node, circuit}
+use Rattle.meaning.specs.Grid.{Grid, gridOf, plantOf, scales, pays, tecOf, nodeTec, payingTec, totalTec, totalDemand}
+use Rattle.meaning.specs.Direction.{overheadFactor, cableFactor, expandedLength}
+use Rattle.meaning.specs.declared.Side.{Side}
+use Rattle.meaning.specs.declared.Side.the-variants.{Generation, Demand}
+use Rattle.meaning.specs.Figures.{zones, zoneOf, weight, paying, totalPaying}
+use Rattle.meaning.specs.Conditions.{InRange, SoundSettings, SoundTables}
+
+pub record Ranged (G : Grid) : Type 0 where
+  pub zonesMost : (side : Side) → zones G side ≤ 32
+  pub inZone : (side : Side) (v : ℕ) → v < length (G .nodes) → InRange (zoneOf G side v) 1 (zones G side)
+  pub weighing : (side : Side) → sum (length (G .nodes)) (weight G side) ≤ 100000000
+  pub payers : (side : Side) → InRange (totalPaying G side) 1 100000000
+  pub someTec : 1 ≤ totalTec G
+  pub enough : totalDemand G ≤ totalTec G
+  pub p : G .settings .p ≤ 1000
+  pub constant : G .settings .constant ≤ 10000
+  pub widerFactor : G .settings .widerFactor ≤ 5000
+  pub localFactor : G .settings .localFactor ≤ 5000
+  pub revenue : G .settings .revenue ≤ 10000000000
+  pub names : (v : ℕ) → v < length (G .nodes) → length (node (G .nodes) v .name) ≡ 12
+  pub expanded : (c : ℕ) → c < length (G .circuits) → expandedLength (G .settings) (circuit (G .circuits) c) ≤ 30000000000
+
+-- all TEC pays, and all demand
+tec-pays : (G : Grid) → InRange (totalTec G) 1 100000000 → InRange (totalPaying G Generation) 1 100000000
+unfolding totalPaying paying tecOf sum plantOf scales pays
+tec-pays G h = h
+
+demand-pays : (G : Grid) → InRange (totalDemand G) 1 100000000 → InRange (totalPaying G Demand) 1 100000000
+unfolding totalPaying paying
+demand-pays G h = h
+
+-- 01, step 4: two lengths of up to 500 km, each at a factor of up to 30
+module _ (s : Settings) (nodes : ℕ) (sound : SoundSettings nodes s) where
+  overhead-most : (voltage : ℕ) → overheadFactor s voltage ≤ 30000
+  unfolding overheadFactor
+  overhead-most voltage = go (eqb voltage 400) (eqb voltage 275)
+    where
+      go : (a b : Bool) → cond a (s .overhead400) (cond b (s .overhead275) (s .overhead132)) ≤ 30000
+      go true b = omega (arith, sound .overhead400)
+      go false true = sound .overhead275 .most
+      go false false = sound .overhead132 .most
+
+  cable-most : (voltage : ℕ) → cableFactor s voltage ≤ 30000
+  unfolding cableFactor
+  cable-most voltage = go (eqb voltage 400) (eqb voltage 275)
+    where
+      go : (a b : Bool) → cond a (s .cable400) (cond b (s .cable275) (s .cable132)) ≤ 30000
+      go true b = sound .cable400 .most
+      go false true = sound .cable275 .most
+      go false false = sound .cable132 .most
+
+  expanded-most : (c : Circuit) → c .overhead ≤ 500000 → c .cable ≤ 500000 → expandedLength s c ≤ 30000000000
+  unfolding expandedLength
+  expanded-most c o k = omega (arith, mul-le-mul o (overhead-most (c .voltage)), mul-le-mul k (cable-most (c .voltage)))
+
+pub ranged : (S : Study) → SoundTables S → Ranged (gridOf S)
+unfolding gridOf zones zoneOf weight
+ranged S sound = record {
+  zonesMost = zonesMost;
+  inZone = inZone;
+  weighing = weighing;
+  payers = payers;
+  someTec = sound .tecTotal .least;
+  enough = sound .enough;
+  p = sound .settings .p;
+  constant = sound .settings .constant .most;
+  widerFactor = sound .settings .widerFactor .most;
+  localFactor = sound .settings .localFactor .most;
+  revenue = sound .settings .revenue;
+  names = λ v h. sound .nodes v h .name .long;
+  expanded = λ c h. expanded-most (S .settings) (length (S .nodes)) (sound .settings) (circuit (S .circuits) c) (sound .circuits c h .overhead) (sound .circuits c h .cable);
+}
+  where
+    zonesMost : (side : Side) → zones (gridOf S) side ≤ 32
+    zonesMost Generation = sound .settings .generationZones .most
+    zonesMost Demand = sound .settings .demandZones .most
+
+    inZone : (side : Side) (v : ℕ) → v < length (S .nodes) → InRange (zoneOf (gridOf S) side v) 1 (zones (gridOf S) side)
+    inZone Generation v h = sound .nodes v h .generationZone
+    inZone Demand v h = sound .nodes v h .demandZone
+
+    weighing : (side : Side) → sum (length (S .nodes)) (weight (gridOf S) side) ≤ 100000000
+    weighing Generation = sound .tecTotal .most
+    weighing Demand = sound .demandTotal .most
+
+    payers : (side : Side) → InRange (totalPaying (gridOf S) side) 1 100000000
+    payers Generation = tec-pays (gridOf S) (sound .tecTotal)
+    payers Demand = demand-pays (gridOf S) (sound .demandTotal)
