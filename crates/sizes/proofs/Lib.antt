@@ -3,3 +3,4 @@ pub mod Regroup
 pub mod Rounding
 pub mod Ranges
 pub mod Kilowatts
+pub mod Metres

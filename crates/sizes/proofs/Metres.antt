@@ -1,0 +1,108 @@
+-- 01, steps 6 to 8: metres of nodes and zones, and C. An average is within what its terms are within.
+use mathlib.Core.Path.{_≡_, refl, sym, _∙_, ap}
+use Prim.Native.Nat.{ℕ, suc, _+_, _*_, _-_, _≤_, _<_}
+use native.Mathlib.Nat.{le-refl, le-trans, mul-le-mul, mul-le-mul-left}
+use native.Mathlib.Omega.{arith}
+use lib.Dec.{eqb}
+use lib.IntN.{ℤ, pos, natAbs, _+ℤ_, _-ℤ_, _*ℤ_}
+use lib.ListN.{length}
+use Rattle.integers.specs.Numbers.{sum, Σ}
+use Rattle.integers.proofs.Laws.{abs-add, abs-sub, abs-neg, abs-mul-le}
+use Rattle.meaning.specs.Study.{Runs}
+use Rattle.meaning.specs.Grid.{Grid}
+use Rattle.meaning.specs.Proposal.{potential}
+use Rattle.meaning.specs.declared.Side.{Side}
+use Rattle.meaning.specs.declared.Side.the-variants.{Generation, Demand}
+use Rattle.meaning.specs.Figures.{metres, widerMetres, localMetres, distance, zones, zoneOf, weight, zoneWeight, zonePaying, totalPaying, overZones, zonalMetres, C, afterC}
+use Rattle.meaning.specs.Conditions.{InRange}
+use Rattle.sizes.specs.Bounds.{PotentialsInRange, MetresFit, zoneShare, aboveOfC, belowOfC}
+use Rattle.sizes.proofs.Sums.{sum-part, Σ-weighed, Σ-picked}
+use Rattle.sizes.proofs.Rounding.{nearest-within}
+use Rattle.sizes.proofs.Ranges.{Ranged}
+use Rattle.sizes.proofs.Kilowatts.{zones-cover, kilowatts}
+
+metres-within : (z : ℤ) → natAbs z ≤ 10000000000000000 → natAbs (metres z) ≤ 10000000
+unfolding metres
+metres-within z h = nearest-within z 1000000000 10000000 h
+
+-- over zones: within 10^7 times the kilowatts, as far as a loop has come and in all
+module _ (G : Grid) (r : Ranged G) (f : ℕ → ℤ) (b : ℕ) (fits : (zone : ℕ) → natAbs (f zone) ≤ b) where
+  pub zones-within : (side : Side) (k : ℕ)
+      → natAbs (Σ k (λ i. f (suc i) *ℤ pos (zonePaying G side (suc i)))) ≤ b * sum k (λ i. zonePaying G side (suc i))
+  zones-within side k = Σ-weighed b k (λ i. f (suc i)) (λ i. zonePaying G side (suc i)) (λ i l. fits (suc i))
+
+  pub overZones-within : (side : Side) → natAbs (overZones G side f) ≤ b * totalPaying G side
+  unfolding overZones
+  overZones-within side = rw (zones-cover G r side) at (zones-within side (zones G side))
+
+-- step 8 over plain numbers: p and q = 1000 - p thousandths
+mixed : (q p k l : ℕ) (x y : ℤ) → natAbs x ≤ 10000000 * k → natAbs y ≤ 10000000 * l → natAbs (pos q *ℤ x -ℤ pos p *ℤ y) ≤ 10000000 * (p * l + q * k)
+mixed q p k l x y h j = omega (arith, abs-sub (pos q *ℤ x) (pos p *ℤ y), abs-mul-le (pos q) x (le-refl q) h, abs-mul-le (pos p) y (le-refl p) j)
+
+shared : (p k l : ℕ) → p ≤ 1000 → InRange k 1 100000000 → InRange l 1 100000000 → InRange (p * k + (1000 - p) * l) 1 100000000000
+shared p k l h a b = record {
+  least = omega (arith, mul-le-mul-left p (a .least), mul-le-mul-left (1000 - p) (b .least));
+  most = omega (arith, mul-le-mul-left p (a .most), mul-le-mul-left (1000 - p) (b .most));
+}
+
+module _ (G : Grid) (runs : Runs) (r : Ranged G) (u : PotentialsInRange (length (G .nodes)) runs) where
+  wider-node : (v : ℕ) → v < length (G .nodes) → natAbs (widerMetres runs v) ≤ 10000000
+  unfolding widerMetres
+  wider-node v h = metres-within (potential (runs .wider) v) (u .wider v h)
+
+  local-node : (v : ℕ) → v < length (G .nodes) → natAbs (localMetres runs v) ≤ 10000000
+  unfolding localMetres
+  local-node v h = metres-within (potential (runs .local) v) (u .local v h)
+
+  node-distance : (side : Side) (v : ℕ) → v < length (G .nodes) → natAbs (distance runs side v) ≤ 10000000
+  unfolding distance
+  node-distance Generation v h = wider-node v h
+  node-distance Demand v h = rw (abs-neg (widerMetres runs v)) (wider-node v h)
+
+  zone-to : (side : Side) (zone k : ℕ) → k ≤ length (G .nodes) → natAbs (Σ k (zoneShare G runs side zone)) ≤ 10000000 * zoneWeight G side zone
+  unfolding zoneWeight
+  zone-to side zone k h = le-trans
+      (Σ-picked 10000000 k (λ v. eqb (zoneOf G side v) zone) (distance runs side) (weight G side) (λ v l. node-distance side v (omega arith)))
+      (mul-le-mul-left 10000000 (sum-part _ k (length (G .nodes)) h))
+
+  zonal : (side : Side) (zone : ℕ) → natAbs (zonalMetres G runs side zone) ≤ 10000000
+  unfolding zonalMetres
+  zonal side zone = nearest-within _ (zoneWeight G side zone) 10000000 (zone-to side zone (length (G .nodes)) (le-refl _))
+
+  above-within : natAbs (aboveOfC G runs) ≤ 10000000 * belowOfC G
+  above-within =
+      mixed (1000 - G .settings .p) (G .settings .p) (totalPaying G Demand) (totalPaying G Generation)
+      (overZones G Demand (zonalMetres G runs Demand))
+      (overZones G Generation (zonalMetres G runs Generation))
+      (overZones-within G r (zonalMetres G runs Demand) 10000000 (zonal Demand) Demand)
+      (overZones-within G r (zonalMetres G runs Generation) 10000000 (zonal Generation) Generation)
+
+  below-range : InRange (belowOfC G) 1 100000000000
+  below-range = shared (G .settings .p) (totalPaying G Generation) (totalPaying G Demand) (r .p) (r .payers Generation) (r .payers Demand)
+
+  centre : natAbs (C G runs) ≤ 10000000
+  unfolding C
+  centre = nearest-within (aboveOfC G runs) (belowOfC G) 10000000 above-within
+
+  with-C : (side : Side) (zone : ℕ) → natAbs (afterC G runs side zone) ≤ 20000000
+  unfolding afterC
+  with-C Generation zone = omega (arith, abs-add (zonalMetres G runs Generation zone) (C G runs), zonal Generation zone, centre)
+  with-C Demand zone = omega (arith, abs-sub (zonalMetres G runs Demand zone) (C G runs), zonal Demand zone, centre)
+
+  pub metres-fit : MetresFit G runs
+  metres-fit = record {
+    widerNode = wider-node;
+    localNode = local-node;
+    zoneTo = zone-to;
+    zonal = zonal;
+    zonesTo = λ side k h. omega (
+      arith,
+      zones-within G r (zonalMetres G runs side) 10000000 (zonal side) side k,
+      kilowatts G r .zonesTo side k h,
+      r .payers side .most,
+    );
+    above = omega (arith, above-within, below-range .most);
+    below = below-range;
+    centre = centre;
+    withC = with-C;
+  }
