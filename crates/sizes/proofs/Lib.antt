@@ -4,3 +4,4 @@ pub mod Rounding
 pub mod Ranges
 pub mod Kilowatts
 pub mod Metres
+pub mod Tariffs

@@ -1,0 +1,41 @@
+-- 01, step 9: tariffs, from the metres, the constant and the security factor.
+use Prim.Native.Nat.{ℕ, _*_, _≤_, _<_}
+use native.Mathlib.Omega.{arith}
+use lib.IntN.{ℤ, pos, natAbs, _*ℤ_}
+use lib.ListN.{length}
+use Rattle.integers.proofs.Laws.{abs-mul-le}
+use Rattle.meaning.specs.Study.{Runs}
+use Rattle.meaning.specs.Grid.{Grid}
+use Rattle.meaning.specs.declared.Side.{Side}
+use Rattle.meaning.specs.Figures.{tariff, localMetres, afterC, zoneTariff, localTariff}
+use Rattle.sizes.specs.Bounds.{MetresFit, TariffsFit}
+use Rattle.sizes.proofs.Rounding.{nearest-within}
+use Rattle.sizes.proofs.Ranges.{Ranged}
+
+-- metres within b, a constant of up to 10,000 and a factor of up to 5,000
+module _ (m : ℤ) (b constant factor : ℕ) (h : natAbs m ≤ b) (c : constant ≤ 10000) (f : factor ≤ 5000) where
+  product-within : natAbs (m *ℤ pos constant *ℤ pos factor) ≤ b * 10000 * 5000
+  product-within = abs-mul-le (m *ℤ pos constant) (pos factor) (abs-mul-le m (pos constant) h c) f
+
+  tariff-within : natAbs (tariff m constant factor) ≤ b * 500
+  unfolding tariff
+  tariff-within = nearest-within (m *ℤ pos constant *ℤ pos factor) 100000 (b * 500) (omega (arith, product-within))
+
+module _ (G : Grid) (runs : Runs) (r : Ranged G) (m : MetresFit G runs) where
+  zone-tariff : (side : Side) (zone : ℕ) → natAbs (zoneTariff G runs side zone) ≤ 10000000000
+  unfolding zoneTariff
+  zone-tariff side zone =
+      tariff-within (afterC G runs side zone) 20000000 (G .settings .constant) (G .settings .widerFactor) (m .withC side zone) (r .constant) (r .widerFactor)
+
+  local-tariff : (v : ℕ) → v < length (G .nodes) → natAbs (localTariff G runs v) ≤ 5000000000
+  unfolding localTariff
+  local-tariff v h =
+      tariff-within (localMetres runs v) 10000000 (G .settings .constant) (G .settings .localFactor) (m .localNode v h) (r .constant) (r .localFactor)
+
+  pub tariffs-fit : TariffsFit G runs
+  tariffs-fit = record {
+    zoneProduct = λ side zone. product-within (afterC G runs side zone) 20000000 (G .settings .constant) (G .settings .widerFactor) (m .withC side zone) (r .constant) (r .widerFactor);
+    ofZone = zone-tariff;
+    localProduct = λ v h. product-within (localMetres runs v) 10000000 (G .settings .constant) (G .settings .localFactor) (m .localNode v h) (r .constant) (r .localFactor);
+    ofNode = local-tariff;
+  }
