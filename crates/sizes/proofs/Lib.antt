@@ -3,5 +3,7 @@ pub mod Regroup
 pub mod Rounding
 pub mod Ranges
 pub mod Kilowatts
+pub mod Scaling
 pub mod Metres
 pub mod Tariffs
+pub mod Rest

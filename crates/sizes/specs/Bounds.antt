@@ -41,6 +41,7 @@ pub record KilowattsFit (G : Grid) : Type 0 where
 -- steps 1, 3 and 4: scaled generation, supply and signed length
 pub record SystemsFit (G : Grid) (runs : Runs) : Type 0 where
   pub scaledMost : (v : ℕ) → scaled (length (G .nodes)) (nodeTec G) (totalDemand G) v ≤ nodeTec G v
+  pub scaledNone : (v : ℕ) → nodeTec G v ≡ 0 → scaled (length (G .nodes)) (nodeTec G) (totalDemand G) v ≡ 0
   pub netKw : (v : ℕ) → v < length (G .nodes) → natAbs (net G v) ≤ 100000000
   pub baseSupply : (v : ℕ) → v < length (G .nodes) → natAbs (supply G Base v) ≤ 100000000000000
   pub expanded : (c : ℕ) → c < length (G .circuits) → expandedLength (G .settings) (circuit (G .circuits) c) ≤ 30000000000
@@ -86,8 +87,11 @@ pub record RestFits (G : Grid) (runs : Runs) : Type 0 where
   pub targetMost : (side : Side) → natAbs (target G side) ≤ 10000000000000000
   pub incomeTo : (side : Side) (k : ℕ) → k ≤ zones G side
       → natAbs (Σ k (λ i. zoneTariff G runs side (suc i) *ℤ pos (zonePaying G side (suc i)))) ≤ 10000000000 * sum k (λ i. zonePaying G side (suc i))
+  pub incomeMost : (side : Side) (k : ℕ) → k ≤ zones G side
+      → natAbs (Σ k (λ i. zoneTariff G runs side (suc i) *ℤ pos (zonePaying G side (suc i)))) ≤ 1000000000000000000
   pub localTo : (k : ℕ) → k ≤ length (G .nodes)
       → natAbs (Σ k (λ v. localTariff G runs v *ℤ pos (payingTec G v))) ≤ 5000000000 * sum k (payingTec G)
+  pub localMost : (k : ℕ) → k ≤ length (G .nodes) → natAbs (Σ k (λ v. localTariff G runs v *ℤ pos (payingTec G v))) ≤ 500000000000000000
   pub restMost : (side : Side) → natAbs (rest G runs side) ≤ 1510000000000000000
   pub restFits : (side : Side) → SFits w64 (rest G runs side)
   pub residualRange : (side : Side) → (negℤ (pos 15000000000) ≤ℤ residual G runs side) × (residual G runs side ≤ℤ pos 10000015000000000)
