@@ -7,3 +7,5 @@ pub mod Scaling
 pub mod Metres
 pub mod Tariffs
 pub mod Rest
+pub mod Widths
+pub mod SheetLength

@@ -115,7 +115,8 @@ abbrev pub FiguresAlwaysFit : Type 0
 FiguresAlwaysFit = (S : Study) → SoundTables S → (runs : Runs) → PotentialsInRange (length (S .nodes)) runs → FiguresFit (gridOf S) runs
 
 -- 01, The sheet: "Its own buffer holds any sheet these ranges allow, so it never prints 12."
--- C line 12, 64 zone lines of 74, 256 node lines of 37, R line 20
+-- C line 12, 64 zone lines of 74, 256 node lines of 37, R line 20. That the nodes are at most 256 is judged with 1
 abbrev pub SheetAlwaysFits : Type 0
 SheetAlwaysFits =
-    (S : Study) → SoundTables S → (runs : Runs) → PotentialsInRange (length (S .nodes)) runs → length (sheet (gridOf S) runs) ≤ 14240
+    (S : Study) → SoundTables S → length (S .nodes) ≤ 256 → (runs : Runs) → PotentialsInRange (length (S .nodes)) runs
+    → length (sheet (gridOf S) runs) ≤ 14240

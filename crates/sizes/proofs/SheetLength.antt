@@ -1,0 +1,128 @@
+-- 01, The sheet: no sheet is longer than 14,240 bytes. A zone line takes at most 74, a node line 37, the C line 12, the R line 20.
+use mathlib.Core.Path.{_≡_, refl}
+use mathlib.Core.Bool.{Bool, true, false, cond}
+use mathlib.Core.List.{List, [], _∷_, _++_}
+use Prim.Native.Nat.{ℕ, zero, suc, _+_, _*_, _^_, _≤_, _<_}
+use native.Mathlib.Omega.{arith}
+use lib.Dec.{eqb}
+use lib.IntN.{ℤ, pos, negℤ, natAbs}
+use lib.Signed.{_≤ℤ_, _<ℤ_}
+use lib.ListN.{length, length-append}
+use Rattle.integers.proofs.Core.{Z}
+use Rattle.meaning.specs.Study.{Study, Runs, node}
+use Rattle.meaning.specs.Grid.{Grid, gridOf, nodeTec}
+use Rattle.meaning.specs.declared.Side.{Side}
+use Rattle.meaning.specs.declared.Side.the-variants.{Generation, Demand}
+use Rattle.meaning.specs.Figures.{zones, zoneWeight, zonalMetres, C, afterC, zoneTariff, residual, zoneTotal, localMetres, localTariff, remainder}
+use Rattle.meaning.specs.Rows.{joined}
+use Rattle.meaning.specs.Name.{unpadded}
+use Rattle.meaning.specs.Text.{text, natural, decimal, line}
+use Rattle.meaning.specs.Sheet.{letter, zoneLine, zoneLines, localLine, sheet}
+use Rattle.sizes.specs.Bounds.{PotentialsInRange, MetresFit, TariffsFit, RestFits, FiguresFit, FiguresAlwaysFit, SheetAlwaysFits}
+use Rattle.sizes.proofs.Ranges.{Ranged, ranged}
+use Rattle.sizes.proofs.Metres.{metres-fit}
+use Rattle.sizes.proofs.Tariffs.{tariffs-fit}
+use Rattle.sizes.proofs.Rest.{rest-fits}
+use Rattle.sizes.proofs.Widths.{taken, natural-length, decimal-length, unpadded-length, line-length, joined-length}
+
+-- a number of magnitude below 10 ^ (k + 1) takes k + 1 digits and perhaps a sign
+within-length : (k : ℕ) (z : ℤ) → natAbs z < 10 ^ suc k → length (decimal z) ≤ suc (suc k)
+within-length k z h = decimal-length k k (suc (suc k)) z (omega arith) (omega arith) (simp Z (omega (arith, simp Z at h))) (simp Z (omega (arith, simp Z at h)))
+
+-- residual and total: above zero 17 digits, below it at most 11 and a sign
+rest-length : (z : ℤ) → (negℤ (pos 25000000000) ≤ℤ z) × (z ≤ℤ pos 10000025000000000) → length (decimal z) ≤ 17
+rest-length z h = decimal-length 10 16 17 z (omega arith) (omega arith) (simp Z (omega (arith, simp Z at (h .0)))) (simp Z (omega (arith, simp Z at (h .1))))
+
+residual-length : (z : ℤ) → (negℤ (pos 15000000000) ≤ℤ z) × (z ≤ℤ pos 10000015000000000) → length (decimal z) ≤ 17
+residual-length z h = rest-length z (simp Z (omega (arith, simp Z at (h .0))), simp Z (omega (arith, simp Z at (h .1))))
+
+remainder-length : (z : ℤ) → (pos 0 ≤ℤ z) × (z ≤ℤ pos 99999999) → length (decimal z) ≤ 8
+remainder-length z h = decimal-length 0 7 8 z (omega arith) (omega arith) (simp Z (omega (arith, simp Z at (h .0)))) (simp Z (omega (arith, simp Z at (h .1))))
+
+letter-length : (side : Side) → length (letter side) ≡ 1
+unfolding letter
+letter-length Generation = refl
+letter-length Demand = refl
+
+-- one of two texts
+either-length : (b : Bool) (x y : List ℕ) (w : ℕ) → length x ≤ w → length y ≤ w → length (cond b x y) ≤ w
+either-length true x y w h k = h
+either-length false x y w h k = k
+
+module _ (G : Grid) (runs : Runs) (r : Ranged G) (f : FiguresFit G runs) where
+  zone-line : (side : Side) (zone : ℕ) → zone ≤ 32 → length (zoneLine G runs side zone) ≤ 74
+  unfolding zoneLine taken
+  zone-line side zone h =
+      let number = natural-length 1 zone (omega arith) in
+      either-length (eqb (zoneWeight G side zone) 0) _ _ 74
+      (rw (line-length (letter side) (natural zone ∷ text "-" ∷ [])) (omega (arith, letter-length side)))
+      (rw (line-length (letter side) _) (omega (
+        arith,
+        letter-length side,
+        within-length 7 (zonalMetres G runs side zone) (omega (arith, f .metres .zonal side zone)),
+        within-length 7 (afterC G runs side zone) (omega (arith, f .metres .withC side zone)),
+        within-length 10 (zoneTariff G runs side zone) (omega (arith, f .tariffs .ofZone side zone)),
+        residual-length (residual G runs side) (f .rests .residualRange side),
+        rest-length (zoneTotal G runs side zone) (f .rests .totalRange side zone),
+      )))
+
+  zone-lines : (side : Side) → length (zoneLines G runs side) ≤ 2368
+  unfolding zoneLines
+  zone-lines side = omega (
+    arith,
+    joined-length (zones G side) 74 (λ k. zoneLine G runs side (suc k)) (λ k l. zone-line side (suc k) (omega (arith, r .zonesMost side))),
+    r .zonesMost side,
+  )
+
+  local-line : (v : ℕ) → v < length (G .nodes) → length (localLine G runs v) ≤ 37
+  unfolding localLine taken
+  local-line v h =
+      either-length (eqb (nodeTec G v) 0) [] _ 37 (omega arith)
+      (rw (line-length (text "L") _) (omega (
+        arith,
+        unpadded-length (node (G .nodes) v .name),
+        r .names v h,
+        within-length 7 (localMetres runs v) (omega (arith, f .metres .localNode v h)),
+        within-length 9 (localTariff G runs v) (omega (arith, f .tariffs .ofNode v h)),
+      )))
+
+  C-line : length (line (text "C" ∷ decimal (C G runs) ∷ [])) ≤ 12
+  unfolding taken
+  C-line = rw (line-length (text "C") (decimal (C G runs) ∷ [])) (omega (arith, within-length 7 (C G runs) (omega (arith, f .metres .centre))))
+
+  R-line : length (line (text "R" ∷ decimal (remainder G runs Generation) ∷ decimal (remainder G runs Demand) ∷ [])) ≤ 20
+  unfolding taken
+  R-line = rw (line-length (text "R") (decimal (remainder G runs Generation) ∷ decimal (remainder G runs Demand) ∷ [])) (omega (
+    arith,
+    remainder-length (remainder G runs Generation) (f .rests .remainderRange Generation),
+    remainder-length (remainder G runs Demand) (f .rests .remainderRange Demand),
+  ))
+
+  pub sheet-length : length (G .nodes) ≤ 256 → length (sheet G runs) ≤ 14240
+  unfolding sheet
+  sheet-length h = simp length-append (omega (
+    arith,
+    C-line,
+    zone-lines Generation,
+    zone-lines Demand,
+    joined-length (length (G .nodes)) 37 (localLine G runs) local-line,
+    R-line,
+  ))
+
+pub figures-fit : FiguresAlwaysFit
+unfolding gridOf
+figures-fit S sound runs u = record { metres = metres; tariffs = tariffs; rests = rest-fits (gridOf S) runs range tariffs }
+  where
+    range : Ranged (gridOf S)
+    range = ranged S sound
+
+    metres : MetresFit (gridOf S) runs
+    metres = metres-fit (gridOf S) runs range u
+
+    tariffs : TariffsFit (gridOf S) runs
+    tariffs = tariffs-fit (gridOf S) runs range metres
+
+-- "so it never prints 12"
+pub sheet-fits : SheetAlwaysFits
+unfolding gridOf
+sheet-fits S sound few runs u = sheet-length (gridOf S) runs (ranged S sound) (figures-fit S sound runs u) few
