@@ -1,11 +1,10 @@
 -- No part of a side's kilowatts is above their total, and the zones have all of them.
 use mathlib.Core.Path.{_≡_}
-use Prim.Native.Nat.{ℕ, suc, _≤_, _<_}
+use Prim.Native.Nat.{ℕ, suc, _≤_}
 use native.Mathlib.Nat.{le-trans}
 use lib.Dec.{eqb}
 use lib.ListN.{length}
 use Rattle.integers.specs.Numbers.{sum}
-use Rattle.meaning.specs.Study.{Study}
 use Rattle.meaning.specs.Grid.{Grid, gridOf}
 use Rattle.meaning.specs.declared.Side.{Side}
 use Rattle.meaning.specs.Figures.{zones, zoneOf, weight, paying, zoneWeight, zonePaying, totalPaying}

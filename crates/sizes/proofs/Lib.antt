@@ -7,5 +7,7 @@ pub mod Scaling
 pub mod Metres
 pub mod Tariffs
 pub mod Rest
+pub mod Figures
 pub mod Widths
 pub mod SheetLength
+pub mod Accepted

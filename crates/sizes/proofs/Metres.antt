@@ -1,12 +1,12 @@
 -- 01, steps 6 to 8: metres of nodes and zones, and C. An average is within what its terms are within.
-use mathlib.Core.Path.{_≡_, refl, sym, _∙_, ap}
+use mathlib.Core.Path.{_≡_, _∙_, ap₂}
 use Prim.Native.Nat.{ℕ, suc, _+_, _*_, _-_, _≤_, _<_}
-use native.Mathlib.Nat.{le-refl, le-trans, mul-le-mul, mul-le-mul-left}
+use native.Mathlib.Nat.{le-refl, le-trans, mul-le-mul-left}
 use native.Mathlib.Omega.{arith}
 use lib.Dec.{eqb}
-use lib.IntN.{ℤ, pos, natAbs, _+ℤ_, _-ℤ_, _*ℤ_}
+use lib.IntN.{ℤ, pos, natAbs, _-ℤ_, _*ℤ_}
 use lib.ListN.{length}
-use Rattle.integers.specs.Numbers.{sum, Σ}
+use Rattle.integers.specs.Numbers.{sum, Σ, nearest}
 use Rattle.integers.proofs.Laws.{abs-add, abs-sub, abs-neg, abs-mul-le}
 use Rattle.meaning.specs.Study.{Runs}
 use Rattle.meaning.specs.Grid.{Grid}
@@ -16,8 +16,8 @@ use Rattle.meaning.specs.declared.Side.the-variants.{Generation, Demand}
 use Rattle.meaning.specs.Figures.{metres, widerMetres, localMetres, distance, zones, zoneOf, weight, zoneWeight, zonePaying, totalPaying, overZones, zonalMetres, C, afterC}
 use Rattle.meaning.specs.Conditions.{InRange}
 use Rattle.sizes.specs.Bounds.{PotentialsInRange, MetresFit, zoneShare, aboveOfC, belowOfC}
-use Rattle.sizes.proofs.Sums.{sum-part, Σ-weighed, Σ-picked}
-use Rattle.sizes.proofs.Rounding.{nearest-within}
+use Rattle.sizes.proofs.Sums.{sum-part, Σ-weighed, Σ-picked, Σ-none}
+use Rattle.sizes.proofs.Rounding.{nearest-none, nearest-within}
 use Rattle.sizes.proofs.Ranges.{Ranged}
 use Rattle.sizes.proofs.Kilowatts.{zones-cover, kilowatts}
 
@@ -44,6 +44,12 @@ shared p k l h a b = record {
   least = omega (arith, mul-le-mul-left p (a .least), mul-le-mul-left (1000 - p) (b .least));
   most = omega (arith, mul-le-mul-left p (a .most), mul-le-mul-left (1000 - p) (b .most));
 }
+
+-- a zone without kilowatts, whatever the potentials are
+pub zonal-none : (G : Grid) (runs : Runs) (side : Side) (zone : ℕ) → zoneWeight G side zone ≡ 0 → zonalMetres G runs side zone ≡ pos 0
+unfolding zonalMetres zoneWeight
+zonal-none G runs side zone h =
+    ap₂ nearest (Σ-none (length (G .nodes)) (λ v. eqb (zoneOf G side v) zone) (distance runs side) (weight G side) h) h ∙ nearest-none
 
 module _ (G : Grid) (runs : Runs) (r : Ranged G) (u : PotentialsInRange (length (G .nodes)) runs) where
   wider-node : (v : ℕ) → v < length (G .nodes) → natAbs (widerMetres runs v) ≤ 10000000
@@ -95,6 +101,7 @@ module _ (G : Grid) (runs : Runs) (r : Ranged G) (u : PotentialsInRange (length 
     localNode = local-node;
     zoneTo = zone-to;
     zonal = zonal;
+    zonalNone = zonal-none G runs;
     zonesTo = λ side k h. omega (
       arith,
       zones-within G r (zonalMetres G runs side) 10000000 (zonal side) side k,

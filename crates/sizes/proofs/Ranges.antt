@@ -1,15 +1,14 @@
 -- What sound tables say of the grid that the figures are made from. Past this file nothing looks into a study.
-use mathlib.Core.Path.{_≡_, refl, sym, _∙_, ap}
-use mathlib.Core.Logic.{_⊎_, inl, inr}
+use mathlib.Core.Path.{_≡_}
 use mathlib.Core.Bool.{Bool, true, false, cond}
-use Prim.Native.Nat.{ℕ, zero, suc, _+_, _*_, _≤_, _<_}
+use Prim.Native.Nat.{ℕ, _≤_, _<_}
 use native.Mathlib.Nat.{mul-le-mul}
 use native.Mathlib.Omega.{arith}
 use lib.Dec.{eqb}
 use lib.ListN.{length}
 use Rattle.integers.specs.Numbers.{sum}
 use Rattle.meaning.specs.Study.{Study, Settings, Circuit, node, circuit}
-use Rattle.meaning.specs.Grid.{Grid, gridOf, plantOf, scales, pays, tecOf, nodeTec, payingTec, totalTec, totalDemand}
+use Rattle.meaning.specs.Grid.{Grid, gridOf, plantOf, scales, pays, tecOf, totalTec, totalDemand}
 use Rattle.meaning.specs.Direction.{overheadFactor, cableFactor, expandedLength}
 use Rattle.meaning.specs.declared.Side.{Side}
 use Rattle.meaning.specs.declared.Side.the-variants.{Generation, Demand}

@@ -1,11 +1,11 @@
 -- 01, step 10: incomes, rest, residual, total and remainder.
-use Prim.Native.Nat.{ℕ, suc, _+_, _*_, _-_, _≤_, _<_}
+use Prim.Native.Nat.{ℕ, _+_, _*_, _-_, _≤_, _<_}
 use native.Mathlib.Nat.{le-refl, le-trans, mul-le-mul}
 use native.Mathlib.Omega.{arith}
 use lib.IntN.{ℤ, pos, negℤ, natAbs, _+ℤ_, _-ℤ_, _*ℤ_}
-use lib.Signed.{_≤ℤ_}
+use lib.Signed.{_≤ℤ_, _<ℤ_}
 use lib.ListN.{length}
-use Rattle.integers.specs.Numbers.{sum, Σ, floorDiv}
+use Rattle.integers.specs.Numbers.{sum, Σ}
 use Rattle.integers.proofs.Core.{Z}
 use Rattle.integers.proofs.Laws.{sfits-abs}
 use Rattle.integers.proofs.Div.{floor-is}
@@ -13,7 +13,7 @@ use Rattle.meaning.specs.Study.{Runs}
 use Rattle.meaning.specs.Grid.{Grid, payingTec}
 use Rattle.meaning.specs.declared.Side.{Side}
 use Rattle.meaning.specs.declared.Side.the-variants.{Generation, Demand}
-use Rattle.meaning.specs.Figures.{residualOf, remainderOf, paying, zonePaying, totalPaying, overZones, target, zoneTariff, localTariff, localIncome, rest, residual, remainder, zoneTotal}
+use Rattle.meaning.specs.Figures.{residualOf, remainderOf, paying, totalPaying, overZones, target, zoneTariff, localTariff, localIncome, rest, residual, remainder, zoneTotal}
 use Rattle.sizes.specs.Bounds.{TariffsFit, RestFits}
 use Rattle.sizes.proofs.Sums.{sum-part, Σ-weighed}
 use Rattle.sizes.proofs.Rounding.{floor-least, floor-most}
@@ -33,7 +33,9 @@ rest-between t o l k h a b = (
   simp Z (omega (arith, simp Z at (h .1), simp Z at a, simp Z at b)),
 )
 
-rest-size : (z : ℤ) (k : ℕ) → k ≤ 100000000 → Between (negℤ (pos (15000000000 * k))) z (pos (10000000000000000 + 15000000000 * k)) → natAbs z ≤ 1510000000000000000
+rest-size : (z : ℤ) (k : ℕ) → k ≤ 100000000
+    → Between (negℤ (pos (15000000000 * k))) z (pos (10000000000000000 + 15000000000 * k))
+    → natAbs z ≤ 1510000000000000000
 rest-size z k h b = simp Z (omega (arith, simp Z at (b .0), simp Z at (b .1)))
 
 residual-between : (z : ℤ) (k : ℕ) → 1 ≤ k → Between (negℤ (pos (15000000000 * k))) z (pos (10000000000000000 + 15000000000 * k))
@@ -44,9 +46,9 @@ residual-between z k h b = (
   floor-most z (pos 10000015000000000) k h (simp Z (omega (arith, simp Z at (b .1)))),
 )
 
-remainder-between : (z : ℤ) (k : ℕ) → 1 ≤ k → k ≤ 100000000 → Between (pos 0) (remainderOf z k) (pos 99999999)
+pub remainder-between : (z : ℤ) (k : ℕ) → 1 ≤ k → (pos 0 ≤ℤ remainderOf z k) × (remainderOf z k <ℤ pos k)
 unfolding remainderOf residualOf
-remainder-between z k h l =
+remainder-between z k h =
     let f = floor-is z k h in
     (simp Z (omega (arith, simp Z at (f .low))), simp Z (omega (arith, simp Z at (f .high))))
 
@@ -94,9 +96,9 @@ module _ (G : Grid) (runs : Runs) (r : Ranged G) (t : TariffsFit G runs) where
   unfolding zoneTotal
   total-range side zone = total-between (zoneTariff G runs side zone) (residual G runs side) (t .ofZone side zone) (residual-range side)
 
-  remainder-range : (side : Side) → Between (pos 0) (remainder G runs side) (pos 99999999)
+  remainder-range : (side : Side) → (pos 0 ≤ℤ remainder G runs side) × (remainder G runs side <ℤ pos (totalPaying G side))
   unfolding remainder
-  remainder-range side = remainder-between (rest G runs side) (totalPaying G side) (r .payers side .least) (r .payers side .most)
+  remainder-range side = remainder-between (rest G runs side) (totalPaying G side) (r .payers side .least)
 
   pub rest-fits : RestFits G runs
   rest-fits = record {

@@ -1,6 +1,6 @@
 -- A quotient is within what its number is within times the divisor. Only order and exact division are used, whatever happens to a half.
 use mathlib.Core.Path.{_≡_, refl}
-use Prim.Native.Nat.{ℕ, zero, suc, _*_, _≤_, _<_, zero-le}
+use Prim.Native.Nat.{ℕ, zero, suc, _*_, _≤_, _<_}
 use native.Mathlib.Nat.{zero-lt-suc}
 use native.Mathlib.Omega.{arith}
 use lib.IntN.{ℤ, pos, negsuc, negℤ, natAbs, _*ℤ_}
@@ -22,14 +22,17 @@ nearest-most : (z b : ℤ) (d : ℕ) → 0 < d → z ≤ℤ (b *ℤ pos d) → n
 nearest-most z b d p h = rw (nearest-exact b d p) at (nearest-mono z (b *ℤ pos d) d p h)
 
 -- 0 / 0 is 0: a zone without kilowatts
-nearest-none : (z : ℤ) → natAbs z ≤ 0 → natAbs (nearest z 0) ≡ 0
+pub nearest-none : nearest (pos 0) 0 ≡ pos 0
 unfolding nearest floorDiv
-nearest-none (pos zero) h = refl
-nearest-none (pos (suc n)) h = absurd (omega arith)
-nearest-none (negsuc n) h = absurd (omega arith)
+nearest-none = refl
+
+abs-none : (z : ℤ) → natAbs z ≤ 0 → z ≡ pos 0
+abs-none (pos zero) h = refl
+abs-none (pos (suc n)) h = absurd (omega arith)
+abs-none (negsuc n) h = absurd (omega arith)
 
 pub nearest-within : (z : ℤ) (d b : ℕ) → natAbs z ≤ b * d → natAbs (nearest z d) ≤ b
-nearest-within z zero b h = omega (arith, nearest-none z (omega arith))
+nearest-within z zero b h = rw (abs-none z (omega arith)) (rw nearest-none (omega arith))
 nearest-within z (suc d) b h =
     let p = zero-lt-suc d in
     simp Z (omega (

@@ -1,16 +1,16 @@
 -- 01, steps 1, 3 and 4: scaled generation is at most the TEC, so supplies are small; signed lengths.
-use mathlib.Core.Path.{_≡_, refl, sym}
+use mathlib.Core.Path.{_≡_, sym}
 use mathlib.Core.Bool.{Bool, true, false, cond, true≢false}
-use Prim.Native.Nat.{ℕ, zero, suc, _+_, _*_, _/_, _%_, _≤_, _<_}
+use Prim.Native.Nat.{ℕ, _+_, _*_, _/_, _%_, _≤_, _<_}
 use native.Mathlib.Nat.{div-add-mod', mul-le-mul-left, le-of-mul-le-mul-right, lt-of-mul-lt-mul-right}
 use native.Mathlib.Omega.{arith}
 use lib.Dec.{eqb, ltb}
-use lib.IntN.{ℤ, pos, natAbs, _-ℤ_, _*ℤ_}
+use lib.IntN.{ℤ, pos, natAbs, _-ℤ_}
 use lib.ListN.{length}
 use Rattle.integers.specs.Numbers.{sum}
 use Rattle.integers.proofs.Core.{Z}
 use Rattle.integers.proofs.Laws.{abs-neg, abs-mul-le}
-use Rattle.meaning.specs.Study.{Study, Runs, Settings, Circuit, circuit}
+use Rattle.meaning.specs.Study.{Runs, circuit}
 use Rattle.meaning.specs.Grid.{Grid, gridOf, nodeTec, nodeDemand, totalDemand}
 use Rattle.meaning.specs.Scaled.{wholeShare, leftOver, missing, scaled}
 use Rattle.meaning.specs.declared.Direction.{Direction}
@@ -21,7 +21,7 @@ use Rattle.meaning.specs.Systems.{net, supply, lengthOf, baseFlow}
 use Rattle.meaning.specs.declared.Side.the-variants.{Generation, Demand}
 use Rattle.meaning.specs.Figures.{weight}
 use Rattle.meaning.proofs.Says.{Says, says-eq}
-use Rattle.sizes.specs.Bounds.{KilowattsFit, SystemsFit, SystemsAlwaysFit}
+use Rattle.sizes.specs.Bounds.{SystemsFit, SystemsAlwaysFit}
 use Rattle.sizes.proofs.Ranges.{Ranged, ranged}
 use Rattle.sizes.proofs.Kilowatts.{kilowatts}
 

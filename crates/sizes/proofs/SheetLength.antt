@@ -1,28 +1,24 @@
 -- 01, The sheet: no sheet is longer than 14,240 bytes. A zone line takes at most 74, a node line 37, the C line 12, the R line 20.
 use mathlib.Core.Path.{_≡_, refl}
 use mathlib.Core.Bool.{Bool, true, false, cond}
-use mathlib.Core.List.{List, [], _∷_, _++_}
-use Prim.Native.Nat.{ℕ, zero, suc, _+_, _*_, _^_, _≤_, _<_}
+use mathlib.Core.List.{List, [], _∷_}
+use Prim.Native.Nat.{ℕ, suc, _^_, _≤_, _<_}
 use native.Mathlib.Omega.{arith}
 use lib.Dec.{eqb}
 use lib.IntN.{ℤ, pos, negℤ, natAbs}
 use lib.Signed.{_≤ℤ_, _<ℤ_}
 use lib.ListN.{length, length-append}
 use Rattle.integers.proofs.Core.{Z}
-use Rattle.meaning.specs.Study.{Study, Runs, node}
+use Rattle.meaning.specs.Study.{Runs, node}
 use Rattle.meaning.specs.Grid.{Grid, gridOf, nodeTec}
 use Rattle.meaning.specs.declared.Side.{Side}
 use Rattle.meaning.specs.declared.Side.the-variants.{Generation, Demand}
-use Rattle.meaning.specs.Figures.{zones, zoneWeight, zonalMetres, C, afterC, zoneTariff, residual, zoneTotal, localMetres, localTariff, remainder}
-use Rattle.meaning.specs.Rows.{joined}
-use Rattle.meaning.specs.Name.{unpadded}
+use Rattle.meaning.specs.Figures.{zones, zoneWeight, zonalMetres, C, afterC, zoneTariff, residual, zoneTotal, localMetres, localTariff, remainder, totalPaying}
 use Rattle.meaning.specs.Text.{text, natural, decimal, line}
 use Rattle.meaning.specs.Sheet.{letter, zoneLine, zoneLines, localLine, sheet}
-use Rattle.sizes.specs.Bounds.{PotentialsInRange, MetresFit, TariffsFit, RestFits, FiguresFit, FiguresAlwaysFit, SheetAlwaysFits}
+use Rattle.sizes.specs.Bounds.{FiguresFit, SheetAlwaysFits}
 use Rattle.sizes.proofs.Ranges.{Ranged, ranged}
-use Rattle.sizes.proofs.Metres.{metres-fit}
-use Rattle.sizes.proofs.Tariffs.{tariffs-fit}
-use Rattle.sizes.proofs.Rest.{rest-fits}
+use Rattle.sizes.proofs.Figures.{figures-fit}
 use Rattle.sizes.proofs.Widths.{taken, natural-length, decimal-length, unpadded-length, line-length, joined-length}
 
 -- a number of magnitude below 10 ^ (k + 1) takes k + 1 digits and perhaps a sign
@@ -36,8 +32,8 @@ rest-length z h = decimal-length 10 16 17 z (omega arith) (omega arith) (simp Z 
 residual-length : (z : ℤ) → (negℤ (pos 15000000000) ≤ℤ z) × (z ≤ℤ pos 10000015000000000) → length (decimal z) ≤ 17
 residual-length z h = rest-length z (simp Z (omega (arith, simp Z at (h .0))), simp Z (omega (arith, simp Z at (h .1))))
 
-remainder-length : (z : ℤ) → (pos 0 ≤ℤ z) × (z ≤ℤ pos 99999999) → length (decimal z) ≤ 8
-remainder-length z h = decimal-length 0 7 8 z (omega arith) (omega arith) (simp Z (omega (arith, simp Z at (h .0)))) (simp Z (omega (arith, simp Z at (h .1))))
+remainder-length : (z : ℤ) (k : ℕ) → k ≤ 100000000 → (pos 0 ≤ℤ z) × (z <ℤ pos k) → length (decimal z) ≤ 8
+remainder-length z k m h = decimal-length 0 7 8 z (omega arith) (omega arith) (simp Z (omega (arith, simp Z at (h .0)))) (simp Z (omega (arith, simp Z at (h .1))))
 
 letter-length : (side : Side) → length (letter side) ≡ 1
 unfolding letter
@@ -94,8 +90,8 @@ module _ (G : Grid) (runs : Runs) (r : Ranged G) (f : FiguresFit G runs) where
   unfolding taken
   R-line = rw (line-length (text "R") (decimal (remainder G runs Generation) ∷ decimal (remainder G runs Demand) ∷ [])) (omega (
     arith,
-    remainder-length (remainder G runs Generation) (f .rests .remainderRange Generation),
-    remainder-length (remainder G runs Demand) (f .rests .remainderRange Demand),
+    remainder-length (remainder G runs Generation) (totalPaying G Generation) (r .payers Generation .most) (f .rests .remainderRange Generation),
+    remainder-length (remainder G runs Demand) (totalPaying G Demand) (r .payers Demand .most) (f .rests .remainderRange Demand),
   ))
 
   pub sheet-length : length (G .nodes) ≤ 256 → length (sheet G runs) ≤ 14240
@@ -108,19 +104,6 @@ module _ (G : Grid) (runs : Runs) (r : Ranged G) (f : FiguresFit G runs) where
     joined-length (length (G .nodes)) 37 (localLine G runs) local-line,
     R-line,
   ))
-
-pub figures-fit : FiguresAlwaysFit
-unfolding gridOf
-figures-fit S sound runs u = record { metres = metres; tariffs = tariffs; rests = rest-fits (gridOf S) runs range tariffs }
-  where
-    range : Ranged (gridOf S)
-    range = ranged S sound
-
-    metres : MetresFit (gridOf S) runs
-    metres = metres-fit (gridOf S) runs range u
-
-    tariffs : TariffsFit (gridOf S) runs
-    tariffs = tariffs-fit (gridOf S) runs range metres
 
 -- "so it never prints 12"
 pub sheet-fits : SheetAlwaysFits

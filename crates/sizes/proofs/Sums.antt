@@ -1,5 +1,5 @@
 -- Sums that are a part of another, and sums of products whose first factors are bounded. Plain numbers.
-use mathlib.Core.Path.{_≡_, refl}
+use mathlib.Core.Path.{_≡_, refl, _∙_}
 use mathlib.Core.Bool.{Bool, true, false, cond}
 use Prim.Native.Nat.{ℕ, zero, suc, _+_, _*_, _≤_, _<_}
 use native.Mathlib.Nat.{mul-add, le-refl}
@@ -7,6 +7,7 @@ use native.Mathlib.Decide.{decLe}
 use native.Mathlib.Omega.{arith}
 use lib.IntN.{ℤ, pos, natAbs, _+ℤ_, _*ℤ_}
 use Rattle.integers.specs.Numbers.{sum, Σ}
+use Rattle.integers.proofs.Core.{Z}
 use Rattle.integers.proofs.Laws.{abs-add, abs-mul-le}
 
 -- the first k terms are at most all of them
@@ -62,3 +63,17 @@ unfolding Σ sum
     go : (t : Bool) → natAbs A ≤ b * W → natAbs (A +ℤ cond t (f n *ℤ pos (w n)) (pos 0)) ≤ b * (W + cond t (w n) 0)
     go true e = omega (arith, abs-add A (f n *ℤ pos (w n)), abs-mul-le (f n) (pos (w n)) (h n (omega arith)) (le-refl (w n)), mul-add b W (w n))
     go false e = omega (arith, abs-add A (pos 0))
+
+-- no weight, no sum
+pub Σ-none : (n : ℕ) (test : ℕ → Bool) (f : ℕ → ℤ) (w : ℕ → ℕ) → sum n (λ k. cond (test k) (w k) 0) ≡ 0
+    → Σ n (λ k. cond (test k) (f k *ℤ pos (w k)) (pos 0)) ≡ pos 0
+unfolding Σ sum
+Σ-none zero test f w h = refl
+Σ-none (suc n) test f w h = go (test n) (omega arith) ∙ Σ-none n test f w (omega arith)
+  where
+    A : ℤ
+    A = Σ n (λ k. cond (test k) (f k *ℤ pos (w k)) (pos 0))
+
+    go : (t : Bool) → cond t (w n) 0 ≡ 0 → A +ℤ cond t (f n *ℤ pos (w n)) (pos 0) ≡ A
+    go true e = rw e (simp Z (omega arith))
+    go false e = simp Z (omega arith)

@@ -22,20 +22,22 @@ module _ (m : ℤ) (b constant factor : ℕ) (h : natAbs m ≤ b) (c : constant 
   tariff-within = nearest-within (m *ℤ pos constant *ℤ pos factor) 100000 (b * 500) (omega (arith, product-within))
 
 module _ (G : Grid) (runs : Runs) (r : Ranged G) (m : MetresFit G runs) where
+  abbrev constant : ℕ
+  constant = G .settings .constant
+
+  zone-product : (side : Side) (zone : ℕ) → natAbs (afterC G runs side zone *ℤ pos constant *ℤ pos (G .settings .widerFactor)) ≤ 1000000000000000
+  zone-product side zone = product-within (afterC G runs side zone) 20000000 constant (G .settings .widerFactor) (m .withC side zone) (r .constant) (r .widerFactor)
+
   zone-tariff : (side : Side) (zone : ℕ) → natAbs (zoneTariff G runs side zone) ≤ 10000000000
   unfolding zoneTariff
-  zone-tariff side zone =
-      tariff-within (afterC G runs side zone) 20000000 (G .settings .constant) (G .settings .widerFactor) (m .withC side zone) (r .constant) (r .widerFactor)
+  zone-tariff side zone = tariff-within (afterC G runs side zone) 20000000 constant (G .settings .widerFactor) (m .withC side zone) (r .constant) (r .widerFactor)
+
+  local-product : (v : ℕ) → v < length (G .nodes) → natAbs (localMetres runs v *ℤ pos constant *ℤ pos (G .settings .localFactor)) ≤ 500000000000000
+  local-product v h = product-within (localMetres runs v) 10000000 constant (G .settings .localFactor) (m .localNode v h) (r .constant) (r .localFactor)
 
   local-tariff : (v : ℕ) → v < length (G .nodes) → natAbs (localTariff G runs v) ≤ 5000000000
   unfolding localTariff
-  local-tariff v h =
-      tariff-within (localMetres runs v) 10000000 (G .settings .constant) (G .settings .localFactor) (m .localNode v h) (r .constant) (r .localFactor)
+  local-tariff v h = tariff-within (localMetres runs v) 10000000 constant (G .settings .localFactor) (m .localNode v h) (r .constant) (r .localFactor)
 
   pub tariffs-fit : TariffsFit G runs
-  tariffs-fit = record {
-    zoneProduct = λ side zone. product-within (afterC G runs side zone) 20000000 (G .settings .constant) (G .settings .widerFactor) (m .withC side zone) (r .constant) (r .widerFactor);
-    ofZone = zone-tariff;
-    localProduct = λ v h. product-within (localMetres runs v) 10000000 (G .settings .constant) (G .settings .localFactor) (m .localNode v h) (r .constant) (r .localFactor);
-    ofNode = local-tariff;
-  }
+  tariffs-fit = record { zoneProduct = zone-product; ofZone = zone-tariff; localProduct = local-product; ofNode = local-tariff }

@@ -5,7 +5,7 @@ use mathlib.Core.Bool.{cond}
 use Prim.Native.Nat.{ℕ, suc, _+_, _*_, _-_, _≤_, _<_}
 use lib.Dec.{eqb}
 use lib.IntN.{ℤ, pos, negℤ, natAbs, _-ℤ_, _*ℤ_}
-use lib.Signed.{_≤ℤ_}
+use lib.Signed.{_≤ℤ_, _<ℤ_}
 use lib.ListN.{length}
 use mir.Syntax.{w64}
 use mir.Val.{SFits}
@@ -66,6 +66,7 @@ pub record MetresFit (G : Grid) (runs : Runs) : Type 0 where
   pub localNode : (v : ℕ) → v < length (G .nodes) → natAbs (localMetres runs v) ≤ 10000000
   pub zoneTo : (side : Side) (zone k : ℕ) → k ≤ length (G .nodes) → natAbs (Σ k (zoneShare G runs side zone)) ≤ 10000000 * zoneWeight G side zone
   pub zonal : (side : Side) (zone : ℕ) → natAbs (zonalMetres G runs side zone) ≤ 10000000
+  pub zonalNone : (side : Side) (zone : ℕ) → zoneWeight G side zone ≡ 0 → zonalMetres G runs side zone ≡ pos 0
   pub zonesTo : (side : Side) (k : ℕ) → k ≤ zones G side
       → natAbs (Σ k (λ i. zonalMetres G runs side (suc i) *ℤ pos (zonePaying G side (suc i)))) ≤ 1000000000000000
   pub above : natAbs (aboveOfC G runs) ≤ 1000000000000000000
@@ -97,7 +98,7 @@ pub record RestFits (G : Grid) (runs : Runs) : Type 0 where
   pub residualRange : (side : Side) → (negℤ (pos 15000000000) ≤ℤ residual G runs side) × (residual G runs side ≤ℤ pos 10000015000000000)
   pub totalRange : (side : Side) (zone : ℕ)
       → (negℤ (pos 25000000000) ≤ℤ zoneTotal G runs side zone) × (zoneTotal G runs side zone ≤ℤ pos 10000025000000000)
-  pub remainderRange : (side : Side) → (pos 0 ≤ℤ remainder G runs side) × (remainder G runs side ≤ℤ pos 99999999)
+  pub remainderRange : (side : Side) → (pos 0 ≤ℤ remainder G runs side) × (remainder G runs side <ℤ pos (totalPaying G side))
 
 -- ---- the claims
 abbrev pub KilowattsAlwaysFit : Type 0
@@ -114,8 +115,8 @@ pub record FiguresFit (G : Grid) (runs : Runs) : Type 0 where
 abbrev pub FiguresAlwaysFit : Type 0
 FiguresAlwaysFit = (S : Study) → SoundTables S → (runs : Runs) → PotentialsInRange (length (S .nodes)) runs → FiguresFit (gridOf S) runs
 
--- 01, The sheet: "Its own buffer holds any sheet these ranges allow, so it never prints 12."
--- C line 12, 64 zone lines of 74, 256 node lines of 37, R line 20. That the nodes are at most 256 is judged with 1
+-- 01, The sheet: "Its own buffer holds any sheet these ranges allow, so it never prints 12." C line 12, 64 zone lines of 74,
+-- 256 node lines of 37, R line 20. That the nodes are at most 256 is judged with 1. The claim about files is `SheetsFit` of Demands
 abbrev pub SheetAlwaysFits : Type 0
 SheetAlwaysFits =
     (S : Study) → SoundTables S → length (S .nodes) ≤ 256 → (runs : Runs) → PotentialsInRange (length (S .nodes)) runs

@@ -1,0 +1,28 @@
+-- An accepted case has its potentials in range and at most 256 nodes, so its sheet fits the program's buffer.
+use Prim.Native.Nat.{ℕ, _≤_}
+use native.Mathlib.Omega.{arith}
+use mathlib.Core.List.{List}
+use lib.ListN.{length}
+use Rattle.meaning.specs.Study.{Study, Runs}
+use Rattle.meaning.specs.File.{studyOf}
+use Rattle.meaning.specs.Grid.{gridOf}
+use Rattle.meaning.specs.Network.{networkOf}
+use Rattle.meaning.specs.declared.System.{System}
+use Rattle.meaning.specs.declared.System.the-variants.{Wider, Local}
+use Rattle.meaning.specs.Systems.{runOf, limitOf, proposed}
+use Rattle.meaning.specs.Conditions.{SolvesSystem, Acceptable}
+use Rattle.meaning.specs.Demands.{SheetsFit}
+use Rattle.meaning.proofs.Starts.{counts}
+use Rattle.sizes.specs.Bounds.{PotentialsInRange}
+use Rattle.sizes.proofs.SheetLength.{sheet-fits}
+
+pub solved-in-range : (S : Study) (runs : Runs) → ((system : System) → SolvesSystem (networkOf (gridOf S)) (proposed (gridOf S) runs system))
+    → PotentialsInRange (length (S .nodes)) runs
+unfolding gridOf networkOf proposed runOf limitOf
+solved-in-range S runs solved = record { wider = solved Wider .potentials; local = solved Local .potentials }
+
+few-nodes : (file : List ℕ) (runs : Runs) → Acceptable file runs → length (studyOf file .nodes) ≤ 256
+few-nodes file runs a = omega (arith, counts file runs (a .whole) .0, a .whole .nodes .most)
+
+pub sheets-fit : SheetsFit
+sheets-fit file runs a = sheet-fits (studyOf file) (a .tables) (few-nodes file runs a) runs (solved-in-range (studyOf file) runs (a .solved))

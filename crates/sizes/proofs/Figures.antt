@@ -1,0 +1,20 @@
+-- All figures of a sound study with potentials in range: the three records put together.
+use Rattle.meaning.specs.Grid.{gridOf}
+use Rattle.sizes.specs.Bounds.{MetresFit, TariffsFit, FiguresAlwaysFit}
+use Rattle.sizes.proofs.Ranges.{Ranged, ranged}
+use Rattle.sizes.proofs.Metres.{metres-fit}
+use Rattle.sizes.proofs.Tariffs.{tariffs-fit}
+use Rattle.sizes.proofs.Rest.{rest-fits}
+
+pub figures-fit : FiguresAlwaysFit
+unfolding gridOf
+figures-fit S sound runs u = record { metres = metres; tariffs = tariffs; rests = rest-fits (gridOf S) runs range tariffs }
+  where
+    range : Ranged (gridOf S)
+    range = ranged S sound
+
+    metres : MetresFit (gridOf S) runs
+    metres = metres-fit (gridOf S) runs range u
+
+    tariffs : TariffsFit (gridOf S) runs
+    tariffs = tariffs-fit (gridOf S) runs range metres
