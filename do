@@ -1,0 +1,17 @@
+#!/usr/bin/env bash
+# What a developer types every day. `./do` alone lists it.
+set -euo pipefail
+cd "$(dirname "${BASH_SOURCE[0]}")"
+case "${1:-help}" in
+gate) exec .ci/run ;;                                   # the verdict, from nothing
+kiln)                                                   # build the program and print the sheet of case KILN
+    rt check tariff >target.log 2>&1 || { cat target.log; rm -f target.log; exit 1; }
+    rm -f target.log
+    exec target/bin/tariff <crates/tariff/stdin
+    ;;
+check) shift && exec rt check "$@" ;;                   # prove these crates and what they depend on
+dev) shift && exec rt dev "$@" ;;                       # the edit loop on one crate, in seconds
+edits) shift && exec rt must-fail "$@" ;;               # try the must-fail edits of these crates
+fmt) exec rt fmt ;;                                     # lay every file out
+*) sed -n 's/^\([a-z]*\)).*# \(.*\)$/.\/do \1: \2/p' "$0" ;;
+esac
