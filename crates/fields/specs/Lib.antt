@@ -1,0 +1,2 @@
+-- What the contracts of `fields` cite beside `meaning`.
+pub mod Field

@@ -1,0 +1,46 @@
+// Total readers of a case file: every slice and every place has its answer, and a byte past the end reads as 0.
+mod bytes;
+
+ghost use mathlib.Core.Path.{_≡_};
+ghost use Rattle.meaning.specs.File.{u64, i64};
+ghost use Rattle.fields.specs.Field.{Field};
+
+// The u32 at a place; where the file ends earlier, the missing bytes are 0.
+pub fn u32_at(file: &[u8], at: usize) -> usize
+    ensures { λ r. ⌜ Field (now (file .entry)) at r ⌝ }
+{
+    if file.len() <= at {
+        return 0;
+    }
+    if file.len() - at < 4 {
+        return bytes::last_u32(file, at);
+    }
+    bytes::whole_u32(file, at)
+}
+
+// The u64 at a place.
+pub fn u64_at(file: &[u8], at: usize) -> u64
+    ensures { λ r. ⌜ r ≡ u64 (now (file .entry)) at ⌝ }
+{
+    let low = u32_at(file, at) as u64;
+    if file.len() <= at {
+        return low;
+    }
+    if file.len() - at <= 4 {
+        return low;
+    }
+    let high = u32_at(file, at + 4) as u64;
+    low + 4294967296 * high
+}
+
+// The i64 at a place, in two's complement.
+pub fn i64_at(file: &[u8], at: usize) -> i64
+    ensures { λ r. ⌜ r ≡ i64 (now (file .entry)) at ⌝ }
+{
+    let v = u64_at(file, at);
+    if v < 0x8000_0000_0000_0000 {
+        v as i64
+    } else {
+        -1 - (0xffff_ffff_ffff_ffff - v) as i64
+    }
+}
