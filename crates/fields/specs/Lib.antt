@@ -1,2 +1,3 @@
 -- What the contracts of `fields` cite beside `meaning`.
 pub mod Field
+pub mod Rest

@@ -1,8 +1,10 @@
 // Total readers of a case file: every slice and every place has its answer, and a byte past the end reads as 0.
 mod bytes;
+mod names;
 
 ghost use mathlib.Core.Path.{_≡_};
-ghost use Rattle.meaning.specs.File.{u64, i64};
+ghost use Rattle.meaning.specs.Name.{wellFormed, sameName};
+ghost use Rattle.meaning.specs.File.{u64, i64, nameAt};
 ghost use Rattle.fields.specs.Field.{Field};
 
 // The u32 at a place; where the file ends earlier, the missing bytes are 0.
@@ -43,4 +45,38 @@ pub fn i64_at(file: &[u8], at: usize) -> i64
     } else {
         -1 - (0xffff_ffff_ffff_ffff - v) as i64
     }
+}
+
+// Whether the 12 bytes at a place are a well-formed name.
+pub fn name_formed(file: &[u8], at: usize) -> bool
+    ensures { λ r. ⌜ r ≡ wellFormed (nameAt (now (file .entry)) at) ⌝ }
+{
+    if file.len() < 12 {
+        return false;
+    }
+    if file.len() - 12 < at {
+        return false;
+    }
+    let b = file[at];
+    if names::is_name_byte(b) {
+        names::padded_from(file, at, 1)
+    } else {
+        false
+    }
+}
+
+// Whether the names at two places are the same, also where the file's end cuts one of them.
+pub fn same_name(file: &[u8], a: usize, b: usize) -> bool
+    ensures { λ r. ⌜ r ≡ sameName (nameAt (now (file .entry)) a) (nameAt (now (file .entry)) b) ⌝ }
+{
+    if file.len() < 12 {
+        return names::same_cut(file, a, b);
+    }
+    if file.len() - 12 < a {
+        return names::same_cut(file, a, b);
+    }
+    if file.len() - 12 < b {
+        return names::same_cut(file, a, b);
+    }
+    names::same_whole(file, a, b)
 }

@@ -4,7 +4,7 @@ use native.Mathlib.Omega.{arith}
 use borrow.Author.Needs.{needs}
 use mir.Facts.{toZ-ofZ}
 use Rattle.integers.proofs.Machine.{of-nat}
-use Rattle.fields.proofs.Numbers.{i64-above, i64-below, complement-fits}
+use Rattle.fields.proofs.NumberLaws.{i64-above, i64-below, complement-fits}
 use Rattle.fields.proofs.i64_at.Statement.{statement}
 use Rattle.fields.proofs.i64_at.Tie as tie
 

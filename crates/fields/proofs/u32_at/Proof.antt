@@ -1,6 +1,6 @@
 use native.Mathlib.Omega.{arith}
 use borrow.Author.Needs.{needs}
-use Rattle.fields.proofs.Numbers.{u32-past}
+use Rattle.fields.proofs.NumberLaws.{u32-past}
 use Rattle.fields.proofs.u32_at.Statement.{statement}
 use Rattle.fields.proofs.u32_at.Tie as tie
 

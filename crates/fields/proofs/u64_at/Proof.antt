@@ -1,7 +1,7 @@
 use native.Mathlib.Omega.{arith}
 use borrow.Author.Needs.{needs}
 use Rattle.meaning.specs.File.{u64}
-use Rattle.fields.proofs.Numbers.{u64-low}
+use Rattle.fields.proofs.NumberLaws.{u64-low}
 use Rattle.fields.proofs.u64_at.Statement.{statement}
 use Rattle.fields.proofs.u64_at.Tie as tie
 

@@ -1,6 +1,6 @@
 use native.Mathlib.Omega.{arith}
 use borrow.Author.Needs.{needs}
-use Rattle.fields.proofs.Numbers.{u32-one, u32-two, u32-three}
+use Rattle.fields.proofs.NumberLaws.{u32-one, u32-two, u32-three}
 use Rattle.fields.proofs.bytes.last_u32.Statement.{statement}
 use Rattle.fields.proofs.bytes.last_u32.Tie as tie
 
