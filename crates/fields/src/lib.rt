@@ -1,11 +1,13 @@
 // Total readers of a case file: every slice and every place has its answer, and a byte past the end reads as 0.
 mod bytes;
 mod names;
+mod rows;
 
 ghost use mathlib.Core.Path.{_≡_};
 ghost use Rattle.meaning.specs.Name.{wellFormed, sameName};
 ghost use Rattle.meaning.specs.File.{u64, i64, nameAt};
 ghost use Rattle.fields.specs.Field.{Field};
+ghost use Rattle.fields.specs.Search.{firstRepeated, firstNamed};
 
 // The u32 at a place; where the file ends earlier, the missing bytes are 0.
 pub fn u32_at(file: &[u8], at: usize) -> usize
@@ -79,4 +81,39 @@ pub fn same_name(file: &[u8], a: usize, b: usize) -> bool
         return names::same_cut(file, a, b);
     }
     names::same_whole(file, a, b)
+}
+
+// The lowest row whose name an earlier row has; the count of rows where there is none.
+pub fn repeated(file: &[u8], start: u32, stride: u32, count: u32) -> usize
+    ensures { λ r. ⌜ r ≡ firstRepeated (now (file .entry)) start stride count ⌝ }
+{
+    let mut row = 0u32;
+    'rows: loop {
+        if row >= count {
+            break 'rows count as usize;
+        }
+        let later = rows::row_at(start, stride, row);
+        let mut early = 0u32;
+        while early < row {
+            if rows::row_is(file, start, stride, early, later) {
+                break 'rows row as usize;
+            }
+            early += 1;
+        }
+        row += 1;
+    }
+}
+
+// The lowest row that has the name at a place; the count of rows where there is none.
+pub fn place(file: &[u8], start: u32, stride: u32, count: u32, at: usize) -> usize
+    ensures { λ r. ⌜ r ≡ firstNamed (now (file .entry)) start stride count at ⌝ }
+{
+    let mut row = 0u32;
+    while row < count {
+        if rows::row_is(file, start, stride, row, at) {
+            return row as usize;
+        }
+        row += 1;
+    }
+    count as usize
 }
