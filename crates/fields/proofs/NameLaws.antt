@@ -1,0 +1,180 @@
+-- A name field byte by byte, and names that the file's end cuts.
+use mathlib.Core.Path.{_≡_, refl, sym, ap, _∙_}
+use mathlib.Core.Bool.{Bool, true, false, cond, true≢false, _&&_, and-assoc}
+use mathlib.Core.List.{List, [], _∷_}
+use Prim.Native.Nat.{ℕ, suc, _+_, _-_, _≤_, _<_, min, max}
+use lib.Dec.{eqb, leb}
+use lib.ListN.{length, getD, take, drop, length-take, length-drop, drop-of-length-le}
+use lib.Seq.{drop-cons}
+use native.Mathlib.Nat.{add-zero}
+use native.Mathlib.Omega.{arith}
+use borrow.Author.Tests.{eq-eqb, ne-eqb, eqb-true, eqb-false, lt-leb, le-leb}
+use Rattle.meaning.specs.Rows.{_between_and_}
+use Rattle.meaning.specs.Name.{Name, nameByte, unpadded, every, wellFormed, sameName}
+use Rattle.meaning.specs.File.{nameAt}
+use Rattle.meaning.proofs.Says.{says-name}
+use Rattle.fields.specs.Rest.{rest, padded}
+
+module _ (file : List ℕ) (at : ℕ) where
+  -- what is left of a name begins with its byte k
+  pub rest-cons : (k : ℕ) → k < 12 → at + 12 ≤ length file → rest file at k ≡ getD file (at + k) 0 ∷ rest file at (k + 1)
+  unfolding rest
+  rest-cons k h l =
+      let e : 12 - k ≡ suc (12 - (k + 1)) = omega arith in
+      let f : suc (at + k) ≡ at + (k + 1) = omega arith in
+      rw (e, drop-cons file (at + k) 0 (omega arith), f)
+
+  pub rest-none : (k : ℕ) → 12 ≤ k → rest file at k ≡ []
+  unfolding rest
+  rest-none k h = let e : 12 - k ≡ 0 = omega arith in rw e
+
+  pub rest-whole : nameAt file at ≡ rest file at 0
+  unfolding rest nameAt
+  rest-whole = rw add-zero
+
+  pub rest-long : at + 12 ≤ length file → (k : ℕ) → length (rest file at k) ≡ 12 - k
+  unfolding rest
+  rest-long h k = simp (length-take, length-drop) (omega arith)
+
+  pub name-long : length (nameAt file at) ≡ min 12 (length file - at)
+  unfolding nameAt
+  name-long = simp (length-take, length-drop)
+
+-- ---- a byte by itself
+space-out : (b : ℕ) → eqb b 32 ≡ true → nameByte b ≡ false
+unfolding nameByte _between_and_
+space-out b e = rw (eqb-true b 32 e) refl
+
+no-space : (b : ℕ) → eqb b 32 ≡ false → eqb 32 b ≡ false
+no-space b e = ne-eqb 32 b (λ q. eqb-false b 32 e (sym q))
+
+pub byte-low : (b : ℕ) → b < 48 → nameByte b ≡ false
+unfolding nameByte _between_and_
+byte-low b h = simp (lt-leb 65 b (omega arith), lt-leb 48 b h, ne-eqb b 95 (λ e. omega arith))
+
+pub byte-digit : (b : ℕ) → 48 ≤ b → b ≤ 57 → nameByte b ≡ true
+unfolding nameByte _between_and_
+byte-digit b h k = simp (lt-leb 65 b (omega arith), le-leb 48 b h, le-leb b 57 k)
+
+pub byte-gap : (b : ℕ) → 57 < b → b < 65 → nameByte b ≡ false
+unfolding nameByte _between_and_
+byte-gap b h k = simp (lt-leb 65 b k, le-leb 48 b (omega arith), lt-leb b 57 h, ne-eqb b 95 (λ e. omega arith))
+
+pub byte-letter : (b : ℕ) → 65 ≤ b → b ≤ 90 → nameByte b ≡ true
+unfolding nameByte _between_and_
+byte-letter b h k = simp (le-leb 65 b h, le-leb b 90 k)
+
+pub byte-high : (b : ℕ) → 90 < b → nameByte b ≡ eqb b 95
+unfolding nameByte _between_and_
+byte-high b h = simp (le-leb 65 b (omega arith), lt-leb b 90 h, le-leb 48 b (omega arith), lt-leb b 57 (omega arith))
+
+-- ---- name bytes and then spaces: the definition goes through what stands before the first space
+padded-is : (l : Name) → (every nameByte (unpadded l) && every (eqb 32) (drop (length (unpadded l)) l)) ≡ padded l
+unfolding padded unpadded every
+padded-is [] = refl
+padded-is (b ∷ l) = go (eqb b 32) refl (nameByte b) refl (padded-is l)
+  where
+    go : (s : Bool) → eqb b 32 ≡ s → (n : Bool) → nameByte b ≡ n
+        → (every nameByte (unpadded l) && every (eqb 32) (drop (length (unpadded l)) l)) ≡ padded l
+        → (every nameByte (cond s [] (b ∷ unpadded l)) && every (eqb 32) (drop (length (cond s [] (b ∷ unpadded l))) (b ∷ l)))
+        ≡ cond n (padded l) (every (eqb 32) (b ∷ l))
+    go true e true f p = absurd (true≢false (sym f ∙ space-out b e))
+    go true e false f p = refl
+    go false e true f p = rw f p
+    go false e false f p = simp (f, no-space b e)
+
+padded-head : (b : ℕ) (l : Name) → (leb 1 (length (unpadded (b ∷ l))) && padded (b ∷ l)) ≡ (nameByte b && padded l)
+unfolding padded unpadded every
+padded-head b l = go (eqb b 32) refl (nameByte b) refl
+  where
+    go : (s : Bool) → eqb b 32 ≡ s → (n : Bool) → nameByte b ≡ n
+        → (leb 1 (length (cond s [] (b ∷ unpadded l))) && cond n (padded l) (every (eqb 32) (b ∷ l))) ≡ (n && padded l)
+    go true e true f = absurd (true≢false (sym f ∙ space-out b e))
+    go true e false f = refl
+    go false e true f = simp (le-leb 1 (suc (length (unpadded l))) (omega arith))
+    go false e false f = simp (le-leb 1 (suc (length (unpadded l))) (omega arith), no-space b e)
+
+formed-cons : (b : ℕ) (l : Name) → length l ≡ 11 → wellFormed (b ∷ l) ≡ (nameByte b && padded l)
+unfolding wellFormed
+formed-cons b l h = simp (h, and-assoc, padded-is (b ∷ l), padded-head b l)
+
+-- ---- loops over the bytes of a name that is in the file
+module _ (file : List ℕ) (at k : ℕ) (l : at + 12 ≤ length file) where
+  pub spaces-stop : k < 12 → (getD file (at + k) 0 ≡ 32 → ⊥) → every (eqb 32) (rest file at k) ≡ false
+  unfolding every
+  spaces-stop h e = rw (rest-cons file at k h l) (simp (ne-eqb 32 (getD file (at + k) 0) (λ q. e (sym q))))
+
+  pub spaces-on : k < 12 → getD file (at + k) 0 ≡ 32 → every (eqb 32) (rest file at k) ≡ every (eqb 32) (rest file at (k + 1))
+  unfolding every
+  spaces-on h e = rw (rest-cons file at k h l) (simp (eq-eqb 32 (getD file (at + k) 0) (sym e)))
+
+  pub padded-stop : k < 12 → nameByte (getD file (at + k) 0) ≡ false → padded (rest file at k) ≡ every (eqb 32) (rest file at k)
+  unfolding padded
+  padded-stop h e = rw (rest-cons file at k h l) (simp e)
+
+  pub padded-on : k < 12 → nameByte (getD file (at + k) 0) ≡ true → padded (rest file at k) ≡ padded (rest file at (k + 1))
+  unfolding padded
+  padded-on h e = rw (rest-cons file at k h l) (simp e)
+
+module _ (file : List ℕ) (at k : ℕ) where
+  pub spaces-done : 12 ≤ k → every (eqb 32) (rest file at k) ≡ true
+  unfolding every
+  spaces-done h = rw (rest-none file at k h) refl
+
+  pub padded-done : 12 ≤ k → padded (rest file at k) ≡ true
+  unfolding padded
+  padded-done h = rw (rest-none file at k h) refl
+
+module _ (file : List ℕ) (at : ℕ) where
+  -- a name that the end cuts is not well formed
+  pub formed-cut : length file < at + 12 → wellFormed (nameAt file at) ≡ false
+  unfolding wellFormed
+  formed-cut h = simp (ne-eqb (length (nameAt file at)) 12 (λ e. omega (arith, name-long file at)))
+
+  formed-whole : at + 12 ≤ length file → wellFormed (nameAt file at) ≡ (nameByte (getD file at 0) && padded (rest file at 1))
+  formed-whole h =
+      ap wellFormed (rest-whole file at ∙ rw (add-zero at) at (rest-cons file at 0 (omega arith) h)) ∙ formed-cons _ _ (rest-long file at h 1)
+
+  pub formed-good : at + 12 ≤ length file → nameByte (getD file at 0) ≡ true → wellFormed (nameAt file at) ≡ padded (rest file at 1)
+  formed-good h e = formed-whole h ∙ rw e refl
+
+  pub formed-bad : at + 12 ≤ length file → nameByte (getD file at 0) ≡ false → wellFormed (nameAt file at) ≡ false
+  formed-bad h e = formed-whole h ∙ rw e refl
+
+-- ---- two names
+names-differ : (x y : Name) → (x ≡ y → ⊥) → sameName x y ≡ false
+names-differ x y n = go (sameName x y) refl
+  where
+    go : (t : Bool) → sameName x y ≡ t → t ≡ false
+    go true e = absurd (n (says-name x y .0 e))
+    go false e = refl
+
+module _ (file : List ℕ) (a b : ℕ) where
+  pub same-place : a ≡ b → sameName (nameAt file a) (nameAt file b) ≡ true
+  same-place e = says-name _ _ .1 (ap (nameAt file) e)
+
+  pub same-past : length file ≤ a → length file ≤ b → sameName (nameAt file a) (nameAt file b) ≡ true
+  unfolding nameAt
+  same-past h k = rw (drop-of-length-le file h, drop-of-length-le file k) (says-name _ _ .1 refl)
+
+  -- names of different length differ
+  pub same-never : (min 12 (length file - a) ≡ min 12 (length file - b) → ⊥) → sameName (nameAt file a) (nameAt file b) ≡ false
+  same-never n = names-differ _ _ (λ e. n (sym (name-long file a) ∙ ap length e ∙ name-long file b))
+
+  -- byte by byte
+  pub same-start : sameName (nameAt file a) (nameAt file b) ≡ sameName (rest file a 0) (rest file b 0)
+  same-start = rw (rest-whole file a, rest-whole file b)
+
+  module _ (k : ℕ) (h : a + 12 ≤ length file) (i : b + 12 ≤ length file) where
+    pub same-stop : k < 12 → (getD file (a + k) 0 ≡ getD file (b + k) 0 → ⊥) → sameName (rest file a k) (rest file b k) ≡ false
+    unfolding sameName
+    same-stop l n = rw (rest-cons file a k l h, rest-cons file b k l i) (simp (ne-eqb (getD file (a + k) 0) (getD file (b + k) 0) n))
+
+    pub same-on : k < 12 → getD file (a + k) 0 ≡ getD file (b + k) 0
+        → sameName (rest file a k) (rest file b k) ≡ sameName (rest file a (k + 1)) (rest file b (k + 1))
+    unfolding sameName
+    same-on l e = rw (rest-cons file a k l h, rest-cons file b k l i) (simp (eq-eqb (getD file (a + k) 0) (getD file (b + k) 0) e))
+
+  pub same-done : (k : ℕ) → 12 ≤ k → sameName (rest file a k) (rest file b k) ≡ true
+  unfolding sameName
+  same-done k h = rw (rest-none file a k h, rest-none file b k h) refl
