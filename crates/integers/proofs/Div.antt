@@ -11,7 +11,7 @@ use lib.Signed.{_≤ℤ_, _<ℤ_}
 use mir.Syntax.{Width}
 use mir.Val.{SFits, hbits}
 use Rattle.integers.specs.Numbers.{nearest}
-use Rattle.integers.proofs.Core.{P, N, Z}
+use Rattle.integers.proofs.Core.{Z}
 use Rattle.integers.proofs.Laws.{lt-of-mul-lt, le-or-lt, le-antisymm}
 use Rattle.integers.proofs.Half.{nearest-is, nearest-none}
 pub use Rattle.integers.proofs.Floor.{IsFloor, floor-is, floor-unique, floor-mono, floor-add, floor-exact, floor-floor, floor-within, floor-abs, floor-fits}

@@ -8,7 +8,7 @@ use lib.Signed.{_≤ℤ_, _<ℤ_}
 use mir.Syntax.{Width}
 use mir.Val.{SFits}
 use Rattle.integers.specs.Numbers.{floorDiv}
-use Rattle.integers.proofs.Core.{P, N, Z}
+use Rattle.integers.proofs.Core.{Z}
 use Rattle.integers.proofs.Laws.{lt-of-mul-lt, mul-le}
 
 -- q is z / d rounded down. A record, so that z, d and q are inferred

@@ -6,7 +6,7 @@ use native.Mathlib.Omega.{arith}
 use lib.IntN.{ℤ, pos, _+ℤ_, _*ℤ_}
 use lib.Signed.{_≤ℤ_, _<ℤ_}
 use Rattle.integers.specs.Numbers.{floorDiv, nearest}
-use Rattle.integers.proofs.Core.{P, N, Z}
+use Rattle.integers.proofs.Core.{Z}
 use Rattle.integers.proofs.Laws.{le-or-lt}
 use Rattle.integers.proofs.Floor.{floor-is, floor-unique, floor-none, floor-none-neg}
 
