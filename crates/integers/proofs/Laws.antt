@@ -1,4 +1,4 @@
--- The laws of ℤ by name. Most are `simp Z (omega arith)`, which a proof can say itself: a name is for `rw`, `simp`, and where a law is handed on.
+-- The laws of ℤ by name. Many are `simp Z (omega arith)`, which a proof can say itself: a name is for `rw`, and where a law is handed on.
 use mathlib.Core.Path.{_≡_, refl}
 use mathlib.Core.Logic.{_⊎_, inl, inr, _↔_}
 use Prim.Native.Nat.{ℕ, zero, suc, _+_, _*_, _^_, _≤_, _<_}
@@ -33,21 +33,6 @@ add-mul x y z = simp Z (omega arith)
 pub sub-mul : (x y z : ℤ) → (x -ℤ y) *ℤ z ≡ x *ℤ z -ℤ y *ℤ z
 sub-mul x y z = simp Z (omega arith)
 
-pub neg-mul : (x y : ℤ) → negℤ x *ℤ y ≡ negℤ (x *ℤ y)
-neg-mul x y = simp Z (omega arith)
-
-pub neg-sub : (x y : ℤ) → negℤ (x -ℤ y) ≡ y -ℤ x
-neg-sub x y = simp Z (omega arith)
-
-pub sub-self : (x : ℤ) → x -ℤ x ≡ pos 0
-sub-self x = simp Z (omega arith)
-
-pub sub-add : (x y : ℤ) → (x -ℤ y) +ℤ y ≡ x
-sub-add x y = simp Z (omega arith)
-
-pub add-cancel : (x y z : ℤ) → x +ℤ z ≡ y +ℤ z → x ≡ y
-add-cancel x y z = simp Z (omega arith)
-
 pub mul-zero : (x : ℤ) → x *ℤ pos 0 ≡ pos 0
 mul-zero x = simp Z (omega arith)
 
@@ -64,26 +49,11 @@ le-refl x = simp Z (omega arith)
 pub le-trans : {x y z : ℤ} → x ≤ℤ y → y ≤ℤ z → x ≤ℤ z
 le-trans {x} {y} {z} = simp Z (omega arith)
 
-pub lt-of-le-of-lt : {x y z : ℤ} → x ≤ℤ y → y <ℤ z → x <ℤ z
-lt-of-le-of-lt {x} {y} {z} = simp Z (omega arith)
-
-pub lt-of-lt-of-le : {x y z : ℤ} → x <ℤ y → y ≤ℤ z → x <ℤ z
-lt-of-lt-of-le {x} {y} {z} = simp Z (omega arith)
-
 pub le-antisymm : {x y : ℤ} → x ≤ℤ y → y ≤ℤ x → x ≡ y
 le-antisymm {x} {y} = simp Z (omega arith)
 
 pub le-of-lt : {x y : ℤ} → x <ℤ y → x ≤ℤ y
 le-of-lt {x} {y} = simp Z (omega arith)
-
-pub le-of-eq : {x y : ℤ} → x ≡ y → x ≤ℤ y
-le-of-eq {x} {y} = simp Z (omega arith)
-
-pub lt-iff-add-one-le : (x y : ℤ) → (x <ℤ y) ↔ ((x +ℤ pos 1) ≤ℤ y)
-lt-iff-add-one-le x y = simp Z (omega arith)
-
-pub not-le : (x y : ℤ) → (x ≤ℤ y → ⊥) ↔ (y <ℤ x)
-not-le x y = simp Z (omega arith)
 
 pub le-or-lt : (x y : ℤ) → (x ≤ℤ y) ⊎ (y <ℤ x)
 le-or-lt x y = go (decLe (P x + N y) (P y + N x))
@@ -105,12 +75,6 @@ dec-lt x y = go (decLt (P x + N y) (P y + N x))
     go : Dec (P x + N y < P y + N x) → Dec (x <ℤ y)
     go (yes h) = yes (parts-lt x y h)
     go (no h) = no (λ k. h (lt-parts x y k))
-
-pub add-le-add : {x y z w : ℤ} → x ≤ℤ y → z ≤ℤ w → (x +ℤ z) ≤ℤ (y +ℤ w)
-add-le-add {x} {y} {z} {w} = simp Z (omega arith)
-
-pub neg-le-neg : {x y : ℤ} → x ≤ℤ y → negℤ y ≤ℤ negℤ x
-neg-le-neg {x} {y} = simp Z (omega arith)
 
 -- ---- products: what is not linear takes the product of a hypothesis from ℕ
 pub mul-le : (n : ℕ) {x y : ℤ} → x ≤ℤ y → (x *ℤ pos n) ≤ℤ (y *ℤ pos n)
