@@ -12,39 +12,33 @@ use mir.Syntax.{Width}
 use mir.Val.{SFits, hbits}
 use Rattle.integers.specs.Numbers.{nearest}
 use Rattle.integers.proofs.Core.{Z}
-use Rattle.integers.proofs.Laws.{lt-of-mul-lt, le-or-lt, le-antisymm}
+use Rattle.integers.proofs.Laws.{lt-of-mul-lt, le-or-lt, le-antisymm, le-refl}
 use Rattle.integers.proofs.Half.{nearest-is, nearest-none}
-pub use Rattle.integers.proofs.Floor.{IsFloor, floor-is, floor-unique, floor-mono, floor-add, floor-exact, floor-floor, floor-within, floor-abs, floor-fits}
+pub use Rattle.integers.proofs.Floor.{IsFloor, floor-is, floor-unique, floor-mono, floor-add, floor-exact, floor-floor, floor-le, floor-ge, floor-within, floor-abs, floor-fits}
 
--- q is a nearest whole number to z / d: 2·|z − q·d| ≤ d
-abbrev pub Near : (z : ℤ) (d : ℕ) (q : ℤ) → Type 0
-Near z d q = natAbs (pos 2 *ℤ (z -ℤ q *ℤ pos d)) ≤ d
-
-pub nearest-error : (z : ℤ) (d : ℕ) → 0 < d → Near z d (nearest z d)
+-- 2·|z − q·d| ≤ d
+pub nearest-error : (z : ℤ) (d : ℕ) → 0 < d → natAbs (pos 2 *ℤ (z -ℤ nearest z d *ℤ pos d)) ≤ d
 nearest-error z d p = simp Z (omega (arith, simp Z at (nearest-is z d p .low), simp Z at (nearest-is z d p .high)))
 
--- nearest numbers are in the order of what is divided, where that is not equal
-near-order : (x y : ℤ) (d : ℕ) (k l : ℤ) → Near x d k → Near y d l → x <ℤ y → k ≤ℤ l
-near-order x y d k l f g h =
-    let below = lt-of-mul-lt d k (l +ℤ pos 1) (simp Z (omega (arith, simp Z at f, simp Z at g, simp Z at h))) in
-    simp Z (omega (arith, simp Z at below))
-
 -- numbers less than d apart have nearest ones at most 1 apart
-near-apart : (y z : ℤ) (d : ℕ) (k l : ℤ) → Near y d k → Near z d l → natAbs (y -ℤ z) < d → natAbs (k -ℤ l) ≤ 1
-near-apart y z d k l f g h =
-    let above = lt-of-mul-lt d k (l +ℤ pos 2) (simp Z (omega (arith, simp Z at f, simp Z at g, simp Z at h))) in
-    let below = lt-of-mul-lt d l (k +ℤ pos 2) (simp Z (omega (arith, simp Z at f, simp Z at g, simp Z at h))) in
-    simp Z (omega (arith, simp Z at above, simp Z at below))
-
 pub nearest-apart : (y z : ℤ) (d : ℕ) → 0 < d → natAbs (y -ℤ z) < d → natAbs (nearest y d -ℤ nearest z d) ≤ 1
-nearest-apart y z d p h = near-apart y z d (nearest y d) (nearest z d) (nearest-error y d p) (nearest-error z d p) h
+nearest-apart y z d p h =
+    let f = nearest-error y d p in
+    let g = nearest-error z d p in
+    let above = lt-of-mul-lt d (nearest y d) (nearest z d +ℤ pos 2) (simp Z (omega (arith, simp Z at f, simp Z at g, simp Z at h))) in
+    let below = lt-of-mul-lt d (nearest z d) (nearest y d +ℤ pos 2) (simp Z (omega (arith, simp Z at f, simp Z at g, simp Z at h))) in
+    simp Z (omega (arith, simp Z at above, simp Z at below))
 
 pub nearest-mono : (x y : ℤ) (d : ℕ) → 0 < d → x ≤ℤ y → nearest x d ≤ℤ nearest y d
 nearest-mono x y d p h = go (le-or-lt y x)
   where
     go : (y ≤ℤ x) ⊎ (x <ℤ y) → nearest x d ≤ℤ nearest y d
-    go (inl k) = rw (le-antisymm h k) (simp Z (omega arith))
-    go (inr k) = near-order x y d (nearest x d) (nearest y d) (nearest-error x d p) (nearest-error y d p) k
+    go (inl k) = rw (le-antisymm h k) (le-refl (nearest y d))
+    go (inr k) =
+        let f = nearest-error x d p in
+        let g = nearest-error y d p in
+        let below = lt-of-mul-lt d (nearest x d) (nearest y d +ℤ pos 1) (simp Z (omega (arith, simp Z at f, simp Z at g, simp Z at k))) in
+        simp Z (omega (arith, simp Z at below))
 
 pub nearest-exact : (k : ℤ) (d : ℕ) → 0 < d → nearest (k *ℤ pos d) d ≡ k
 nearest-exact k d p =

@@ -57,14 +57,16 @@ sum-pick n k f h =
     omega (arith, simp Z at e)
 
 -- ---- groups numbered from 1, as zones are: a sum over the groups of what each holds is the sum over all
-pub sum-groups : (m n : ℕ) (group f : ℕ → ℕ) → ((v : ℕ) → v < n → (1 ≤ group v) × (group v ≤ m)) → sum m (λ k. sum n (λ v. cond (eqb (group v) (suc k)) (f v) 0)) ≡ sum n f
+pub sum-groups : (m n : ℕ) (group f : ℕ → ℕ) → ((v : ℕ) → v < n → (1 ≤ group v) × (group v ≤ m))
+    → sum m (λ k. sum n (λ v. cond (eqb (group v) (suc k)) (f v) 0)) ≡ sum n f
 sum-groups m n group f h = sum-swap m n _ ∙ sum-same n _ f (λ v l. one (group v) (f v) (h v l))
   where
     one : (g x : ℕ) → (1 ≤ g) × (g ≤ m) → sum m (λ k. cond (eqb g (suc k)) x 0) ≡ x
     one zero x p = absurd (omega arith)
     one (suc g) x p = sum-same m _ _ (λ k l. ap (λ (b : Bool). cond b x 0) (eqb·suc-suc g k)) ∙ sum-pick m g (λ k. x) (omega arith)
 
-pub Σ-groups : (m n : ℕ) (group : ℕ → ℕ) (f : ℕ → ℤ) → ((v : ℕ) → v < n → (1 ≤ group v) × (group v ≤ m)) → Σ m (λ k. Σ n (λ v. cond (eqb (group v) (suc k)) (f v) (pos 0))) ≡ Σ n f
+pub Σ-groups : (m n : ℕ) (group : ℕ → ℕ) (f : ℕ → ℤ) → ((v : ℕ) → v < n → (1 ≤ group v) × (group v ≤ m))
+    → Σ m (λ k. Σ n (λ v. cond (eqb (group v) (suc k)) (f v) (pos 0))) ≡ Σ n f
 Σ-groups m n group f h = Σ-swap m n _ ∙ Σ-same n _ f (λ v l. one (group v) (f v) (h v l))
   where
     one : (g : ℕ) (x : ℤ) → (1 ≤ g) × (g ≤ m) → Σ m (λ k. cond (eqb g (suc k)) x (pos 0)) ≡ x

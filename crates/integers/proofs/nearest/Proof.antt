@@ -1,16 +1,15 @@
 -- `integers::nearest` meets its contract: the floor where less than half of d is left above it, else one more.
 use borrow.Author.Needs.{needs}
-use mathlib.Core.Path.{_≡_, sym, _∙_, ap}
-use Prim.Native.Nat.{ℕ, _-_, _/_, _%_, _<_}
+use mathlib.Core.Path.{_≡_, sym, _∙_}
+use Prim.Native.Nat.{ℕ, _/_, _<_}
 use native.Mathlib.Nat.{mod-lt}
 use native.Mathlib.Omega.{arith}
 use lib.IntN.{ℤ, pos, negsuc, _+ℤ_, _-ℤ_}
 use lib.Signed.{mag, _≤ℤ_, _<ℤ_}
 use mir.Facts.{toZ-ofZ}
 use mir.Syntax.{w64}
-use mir.Val.{SFits, toZ}
-use Rattle.integers.specs.Numbers.{floorDiv, nearest}
-use Rattle.integers.proofs.Core.{Z}
+use mir.Val.{toZ}
+use Rattle.integers.specs.Numbers.{nearest}
 use Rattle.integers.proofs.Div.{nearest-fits}
 use Rattle.integers.proofs.Half.{nearest-none}
 use Rattle.integers.proofs.Machine.{Back, fit-back, back, of-nat, lt-true, lt-false}
