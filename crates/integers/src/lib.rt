@@ -1,1 +1,59 @@
-// Laws of whole numbers are in proofs/, the few definitions that they are about in specs/Numbers.antt.
+// The two divisions of document 01, of every z and d. Definitions are in specs/Numbers.antt, laws of whole numbers in proofs/.
+ghost use mathlib.Core.Path.{_≡_};
+ghost use Prim.Native.Nat.{_/_};
+ghost use lib.Signed.{mag};
+ghost use Rattle.integers.specs.Numbers.{floorDiv, nearest as nearestOf};
+
+// a, of z = a and of z = -(a + 1): the least i64 has one too.
+fn without_sign(z: i64) -> u64
+    ensures { λ r. ⌜ r ≡ mag z ⌝ }
+{
+    if z < 0 {
+        return (-1 - z) as u64;
+    }
+    z as u64
+}
+
+// a / d, and 0 where d is 0.
+fn quotient(a: u64, d: u64) -> u64
+    ensures { λ r. ⌜ r ≡ a / d ⌝ }
+{
+    if d == 0 {
+        return 0;
+    }
+    a / d
+}
+
+// z / d rounded down, also below zero.
+pub fn floor_div(z: i64, d: u64) -> i64
+    ensures { λ r. ⌜ r ≡ floorDiv z d ⌝ }
+{
+    let whole = quotient(without_sign(z), d) as i64;
+    if z < 0 {
+        return -1 - whole;
+    }
+    whole
+}
+
+// z / d to the nearest, a half going up. What z is above the floor is held to what it lacks of d: nothing is doubled, so nothing wraps.
+pub fn nearest(z: i64, d: u64) -> i64
+    ensures { λ r. ⌜ r ≡ nearestOf z d ⌝ }
+{
+    if d == 0 {
+        return floor_div(z, d);
+    }
+    let a = without_sign(z);
+    let q = (a / d) as i64;
+    if z < 0 {
+        let above = d - 1 - a % d;
+        if above < d - above {
+            return -1 - q;
+        }
+        return 0 - q;
+    }
+    let left = a % d;
+    if left < d - left {
+        return q;
+    }
+    q + 1
+}
