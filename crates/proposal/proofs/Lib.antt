@@ -1,0 +1,3 @@
+pub mod Sizes
+pub mod Found
+pub mod Numbers
