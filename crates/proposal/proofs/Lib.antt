@@ -1,3 +1,4 @@
 pub mod Sizes
 pub mod Found
 pub mod Numbers
+pub mod Net
