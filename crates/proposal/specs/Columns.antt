@@ -8,7 +8,7 @@ use lib.IntN.{ℤ, pos, natAbs, _-ℤ_}
 use lib.ListN.{length, getD}
 use Rattle.meaning.specs.declared.System.{System}
 use Rattle.meaning.specs.Network.{Network}
-use Rattle.meaning.specs.Proposal.{Proposed, potential, flow, flowOut, flowIn, balanced}
+use Rattle.meaning.specs.Proposal.{Proposed, potential, flow, flowOut, flowIn, balanced, miss, missSum}
 
 -- number i of a column
 abbrev pub number : List ℤ → ℕ → ℤ
@@ -37,6 +37,13 @@ netFlow N run v = flowOut N (flow N run) v -ℤ flowIn N (flow N run) v
 
 abbrev pub balancedBy : Network → (supply run : List ℤ) → ℕ → Bool
 balancedBy N supply run = balanced N (number supply) (flow N run)
+
+-- step 2: the miss of circuit c, and the sum of their magnitudes, with the offset in a column
+abbrev pub missBy : Network → (offset run : List ℤ) → ℕ → ℤ
+missBy N offset run = miss N (number offset) (potential run) (flow N run)
+
+abbrev pub missSumBy : Network → (offset run : List ℤ) → ℕ
+missSumBy N offset run = missSum N (number offset) (potential run) (flow N run)
 
 -- the row that was found, or n where none was
 unfoldable pub rowOf : Option ℕ → (n : ℕ) → ℕ
