@@ -2,3 +2,4 @@ pub mod Sizes
 pub mod Found
 pub mod Numbers
 pub mod Net
+pub mod MissSum

@@ -92,9 +92,9 @@ module _ (first second : ℕ → ℕ) (f : ℕ → ℤ) (c : ℕ) (net : List �
   netted-more = record {
     long = length-set (left net (first c) (f c)) _ _ ∙ left-long;
     at = λ v l. set-sub (left net (first c) (f c)) (second c) (f c) v (omega (arith, left-long, t .secondIn))
-      ∙ ap (λ z. z -ℤ only (second c) v (f c)) (left-at v l)
-      ∙ both-sides (Σ c (λ k. only (first k) v (f k))) (Σ c (λ k. only (second k) v (f k))) (only (first c) v (f c)) (only (second c) v (f c))
-      ∙ sym (ap₂ _-ℤ_ (Σ-more c (λ k. only (first k) v (f k))) (Σ-more c (λ k. only (second k) v (f k))));
+        ∙ ap (λ z. z -ℤ only (second c) v (f c)) (left-at v l)
+        ∙ both-sides (Σ c (λ k. only (first k) v (f k))) (Σ c (λ k. only (second k) v (f k))) (only (first c) v (f c)) (only (second c) v (f c))
+        ∙ sym (ap₂ _-ℤ_ (Σ-more c (λ k. only (first k) v (f k))) (Σ-more c (λ k. only (second k) v (f k))));
   }
 
   -- no step wraps
@@ -121,7 +121,7 @@ pub netted-none : (first second : ℕ → ℕ) (f : ℕ → ℤ) → Netted firs
 netted-none first second f = record {
   long = refl;
   at = λ v l. getD-replicate 256 v (pos 0) (pos 0) l
-    ∙ sym (ap₂ _-ℤ_ (Σ-zero (λ k. only (first k) v (f k))) (Σ-zero (λ k. only (second k) v (f k))));
+      ∙ sym (ap₂ _-ℤ_ (Σ-zero (λ k. only (first k) v (f k))) (Σ-zero (λ k. only (second k) v (f k))));
 }
 
 -- after the last

@@ -70,6 +70,14 @@ pub record Measured (m : ℕ) (x : List ℕ) (offset : List ℤ) : Type 0 where
   pub xSmall : (c : ℕ) → c < m → getD x c 0 ≤ 10000
   pub offsetSmall : (c : ℕ) → c < m → natAbs (number offset c) ≤ 30000000000000000
 
+-- the numbers of one circuit's miss
+pub record SmallMiss (p q : ℤ) (x : ℕ) (flow offset : ℤ) : Type 0 where
+  pub first : natAbs p ≤ 2000000000000000000
+  pub second : natAbs q ≤ 2000000000000000000
+  pub times : x ≤ 10000
+  pub carried : natAbs flow ≤ 100000000000000
+  pub less : natAbs offset ≤ 30000000000000000
+
 -- a run whose numbers have passed 8
 pub record Ranged (n m : ℕ) (run : List ℤ) : Type 0 where
   pub potentials : (v : ℕ) → v < n → natAbs (potential run v) ≤ 2000000000000000000

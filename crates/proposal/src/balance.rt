@@ -26,7 +26,14 @@ pub fn net_flows(n: usize, m: usize, first: &[usize], second: &[usize], run: &[i
 }
 
 // The lowest node whose net flow is not its supply, or n.
-pub fn lowest_unbalanced(n: usize, m: usize, first: &[usize], second: &[usize], supply: &[i64], run: &[i64]) -> usize
+pub fn lowest_unbalanced(
+    n: usize,
+    m: usize,
+    first: &[usize],
+    second: &[usize],
+    supply: &[i64],
+    run: &[i64],
+) -> usize
     requires { ⌜ Shaped n m (now run) × Ended n m (now first) (now second) × Ranged n m (now run) × (n ≤ length (now supply)) ⌝ }
     ensures { λ r. ⌜ r ≡ rowOf (failing (balancedBy (netOf n m 0 (now (first .entry)) (now (second .entry)) []) (now (supply .entry)) (now (run .entry))) n) n ⌝ }
 {
