@@ -3,3 +3,4 @@ pub mod Found
 pub mod Numbers
 pub mod Net
 pub mod MissSum
+pub mod Stages
