@@ -4,3 +4,4 @@ pub mod Numbers
 pub mod Net
 pub mod MissSum
 pub mod Stages
+pub mod Same

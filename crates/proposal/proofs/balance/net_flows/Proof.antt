@@ -90,28 +90,28 @@ shared-slice-copy-out-f : tie.Need-shared-slice-copy-out-f Inv-loop μ-loop
 shared-slice-copy-out-f c = omega arith
 
 mul-net : tie.Need-mul-net Inv-loop μ-loop
-mul-net c = omega (arith, turn (c .before .before .before) .firstIn)
+mul-net c = let t = turn (c .before .before .before) in omega (arith, t .firstIn, t .secondIn)
 
 array-copy-out-net : tie.Need-array-copy-out-net Inv-loop μ-loop
-array-copy-out-net c = turn (c .before .before .before) .firstIn
+array-copy-out-net c = let t = turn (c .before .before .before) in omega (arith, t .firstIn, t .secondIn)
 
 add-net : tie.Need-add-net Inv-loop μ-loop
 add-net c = let t = c .before .before .before .before in simp (bf t, bn t) (net-fits _ _ _ _ _ (turn t) _ (turn t .firstIn) .1)
 
 array-set-from-net : tie.Need-array-set-from-net Inv-loop μ-loop
-array-set-from-net c = turn (c .before .before .before .before) .firstIn
+array-set-from-net c = let t = turn (c .before .before .before .before) in omega (arith, t .firstIn, t .secondIn)
 
 mul-net-2 : tie.Need-mul-net-2 Inv-loop μ-loop
-mul-net-2 c = omega (arith, turn (c .before .before .before .before) .secondIn)
+mul-net-2 c = let t = turn (c .before .before .before .before) in omega (arith, t .firstIn, t .secondIn)
 
 array-copy-out-net-2 : tie.Need-array-copy-out-net-2 Inv-loop μ-loop
-array-copy-out-net-2 c = turn (c .before .before .before .before) .secondIn
+array-copy-out-net-2 c = let t = turn (c .before .before .before .before) in omega (arith, t .firstIn, t .secondIn)
 
 sub-net : tie.Need-sub-net Inv-loop μ-loop
 sub-net c = let t = c .before .before .before .before .before in simp (bf t, bn t, bs t, bl t) (left-fits _ _ _ _ _ (turn t) _ (turn t .secondIn) .1)
 
 array-set-from-net-2 : tie.Need-array-set-from-net-2 Inv-loop μ-loop
-array-set-from-net-2 c = turn (c .before .before .before .before .before) .secondIn
+array-set-from-net-2 c = let t = turn (c .before .before .before .before .before) in omega (arith, t .firstIn, t .secondIn)
 
 add-c : tie.Need-add-c Inv-loop μ-loop
 add-c c = omega arith

@@ -39,7 +39,7 @@ loop-again c = (omega arith, pass-more (c .before .before .before .loop .inv .1)
 returns : tie.Need-returns Inv-loop μ-loop
 returns c =
     let l = c .before .before .before in
-    row-here _ _ _ (l .loop .inv .1) (omega arith) (sym (c .before .number-in-range .ensures) ∙ c .if1 .left)
+    row-here _ _ _ (l .loop .inv .1) (omega arith) (rw (← c .before .number-in-range .ensures) (c .if1 .left))
 
 returns-2 : tie.Need-returns-2 Inv-loop μ-loop
 returns-2 c =
