@@ -1,0 +1,7 @@
+pub mod Sizes
+pub mod Found
+pub mod Numbers
+pub mod Net
+pub mod MissSum
+pub mod Stages
+pub mod Same

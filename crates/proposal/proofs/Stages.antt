@@ -1,0 +1,98 @@
+-- 8, then 9, then 10: what the chain answers, by what each part found.
+use mathlib.Core.Path.{_≡_, refl, sym, _∙_, ap}
+use mathlib.Core.Bool.{Bool, true, false}
+use mathlib.Core.List.{List, []}
+use mathlib.Core.Option.{none, some}
+use Prim.Native.Nat.{ℕ, suc, _+_, _≤_, _<_}
+use native.Mathlib.Decide.{ℕ-discrete}
+use native.Mathlib.Numerals.{add-one}
+use native.Mathlib.Omega.{arith}
+use lib.Dec.{leb}
+use lib.IntN.{ℤ, pos, natAbs}
+use lib.ListN.{length, getD}
+use Rattle.meaning.specs.declared.System.{System}
+use Rattle.meaning.specs.declared.Answer.{Answer}
+use Rattle.meaning.specs.declared.Answer.the-variants.{Accepted, BadNumber, Unbalanced, MissesTooHigh}
+use Rattle.meaning.specs.Answers.{values, refusal, stops, passed, unless, at, _orElse_}
+use Rattle.meaning.specs.Rows.{failing}
+use Rattle.meaning.specs.Network.{Network}
+use Rattle.meaning.specs.Proposal.{Proposed, potential, flow, numberInRange, balanced, flowOut, flowIn, miss, missSum, rangeStage, balanceStage, missStage, systemStage}
+use Rattle.meaning.proofs.Says.{says-le}
+use Rattle.meaning.proofs.Answers.{passed-passes, orElse-stops, orElse-passes}
+use Rattle.proposal.specs.Columns.{number, netOf, netFlow, balancedBy, missSumBy, rowOf, Ranged}
+use Rattle.proposal.proofs.Found.{AllPass, row-is, row-past}
+use Rattle.proposal.proofs.Numbers.{flow-in-range, reference-in-range, potential-in-range}
+
+-- ---- the tests of a proposal's rows
+module _ (N : Network) (P : Proposed) where
+  abbrev pub numbers : ℕ → Bool
+  numbers = numberInRange N (P .limit) (P .run)
+
+  abbrev pub nodes : ℕ → Bool
+  nodes = balanced N (P .supply) (flow N (P .run))
+
+  abbrev pub low : Bool
+  low = leb (missSum N (P .offset) (potential (P .run)) (flow N (P .run))) 100000000
+
+abbrev pub count : Network → ℕ
+count N = N .nodes + N .circuits
+
+-- a network with another reference and other reactances
+abbrev pub bare : Network → (reference : ℕ) (x : ℕ → ℕ) → Network
+bare N reference x = record { nodes = N .nodes; circuits = N .circuits; reference = reference; first = N .first; second = N .second; x = x }
+
+-- ---- a test sees only what it needs of the network
+module _ (N : Network) (P : Proposed) where
+  pub number-row : (row k : ℕ) → k ≡ count N → row ≡ rowOf (failing (numbers (netOf (N .nodes) 0 (N .reference) [] [] []) P) k) k
+      → row ≡ rowOf (failing (numbers N P) (count N)) (count N)
+  unfolding numberInRange
+  number-row row k e h = rw (← e) h
+
+  pub node-row : (row : ℕ) → row ≡ rowOf (failing (nodes (bare N 0 (λ c. getD [] c 0)) P) (N .nodes)) (N .nodes) → row ≡ rowOf (failing (nodes N P) (N .nodes)) (N .nodes)
+  unfolding balanced flowOut flowIn
+  node-row row h = h
+
+  pub miss-answer : (r : Bool) → r ≡ low (bare N 0 (N .x)) P → r ≡ low N P
+  unfolding missSum miss
+  miss-answer r h = h
+
+-- ---- a run that has passed 8
+pub ranged : (N : Network) (limit : ℕ) (run : List ℤ) → limit ≤ 2000000000000000000 → AllPass (numberInRange N limit run) (N .nodes + N .circuits) → Ranged (N .nodes) (N .circuits) run
+ranged N limit run h p = record {
+  potentials = λ v l. go v l (ℕ-discrete v (N .reference));
+  flows = λ c l. says-le .0 (sym (flow-in-range N limit run (N .nodes + c) (omega arith)) ∙ p .each (N .nodes + c) (omega arith));
+}
+  where
+    go : (v : ℕ) → v < N .nodes → Dec (v ≡ N .reference) → natAbs (potential run v) ≤ 2000000000000000000
+    go v l (yes e) = omega (arith, says-le {m = natAbs (potential run v)} {n = 0} .0 (sym (reference-in-range N limit run v l e) ∙ p .each v (omega arith)))
+    go v l (no e) = omega (arith, says-le {m = natAbs (potential run v)} {n = limit} .0 (sym (potential-in-range N limit run v l e) ∙ p .each v (omega arith)))
+
+-- ---- the chain
+module _ (N : Network) (P : Proposed) where
+  -- 8 stops at a row
+  pub stops-number : (row : ℕ) → row ≡ rowOf (failing (numbers N P) (count N)) (count N) → row < count N → BadNumber (P .system) (row + 1) ≡ systemStage N P
+  unfolding systemStage rangeStage at stops values refusal
+  stops-number row e h =
+      let f : failing (numbers N P) (count N) ≡ some row = row-is (numbers N P) (count N) (omega arith) ∙ ap some (sym e) in
+      rw (add-one, f) (sym (orElse-stops (BadNumber (P .system) (suc row)) (balanceStage N P orElse missStage N P) refl))
+
+  -- 8 passes
+  passes-numbers : failing (numbers N P) (count N) ≡ none → systemStage N P ≡ balanceStage N P orElse missStage N P
+  unfolding systemStage rangeStage at
+  passes-numbers f = rw f (orElse-passes passed (balanceStage N P orElse missStage N P) passed-passes)
+
+  -- 9 stops at a node
+  pub stops-node : failing (numbers N P) (count N) ≡ none → (row : ℕ) → row ≡ rowOf (failing (nodes N P) (N .nodes)) (N .nodes) → row < N .nodes → Unbalanced (P .system) (row + 1) ≡ systemStage N P
+  unfolding balanceStage at stops values refusal
+  stops-node g row e h =
+      let f : failing (nodes N P) (N .nodes) ≡ some row = row-is (nodes N P) (N .nodes) (omega arith) ∙ ap some (sym e) in
+      rw (add-one, passes-numbers g, f) (sym (orElse-stops (Unbalanced (P .system) (suc row)) (missStage N P) refl))
+
+  -- 9 passes, and 10 decides
+  pub stops-misses : failing (numbers N P) (count N) ≡ none → failing (nodes N P) (N .nodes) ≡ none → low N P ≡ false → MissesTooHigh (P .system) ≡ systemStage N P
+  unfolding balanceStage missStage at unless
+  stops-misses g f e = rw (passes-numbers g, f, e) (sym (orElse-passes passed (MissesTooHigh (P .system)) passed-passes))
+
+  pub passes-all : failing (numbers N P) (count N) ≡ none → failing (nodes N P) (N .nodes) ≡ none → low N P ≡ true → passed ≡ systemStage N P
+  unfolding balanceStage missStage at unless
+  passes-all g f e = rw (passes-numbers g, f, e) (sym (orElse-passes passed passed passed-passes))
