@@ -1,0 +1,5 @@
+pub mod Sums
+pub mod Balance
+pub mod Split
+pub mod Energy
+pub mod Cut
