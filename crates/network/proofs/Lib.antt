@@ -5,3 +5,6 @@ pub mod Energy
 pub mod Cut
 pub mod Exceed
 pub mod Close
+pub mod Bands
+pub mod Metres
+pub mod Theorems
