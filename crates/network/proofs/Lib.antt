@@ -8,3 +8,5 @@ pub mod Close
 pub mod Bands
 pub mod Metres
 pub mod Theorems
+pub mod Example
+pub mod Tight
