@@ -1,8 +1,8 @@
 -- Whole units of two numbers that are less than a unit apart. Only that a nearest number is at most half a unit off is used:
 -- the law holds whichever way a half goes.
-use Prim.Native.Nat.{ℕ, _+_, _*_, _≤_, _<_}
+use Prim.Native.Nat.{ℕ, _≤_, _<_}
 use native.Mathlib.Omega.{arith}
-use lib.IntN.{ℤ, pos, natAbs, _+ℤ_, _-ℤ_, _*ℤ_}
+use lib.IntN.{ℤ, pos, natAbs, _+ℤ_, _-ℤ_}
 use lib.Signed.{_<ℤ_}
 use Rattle.integers.specs.Numbers.{nearest}
 use Rattle.integers.proofs.Core.{Z}
