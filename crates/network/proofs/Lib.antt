@@ -1,0 +1,12 @@
+pub mod Sums
+pub mod Balance
+pub mod Split
+pub mod Energy
+pub mod Cut
+pub mod Exceed
+pub mod Close
+pub mod Bands
+pub mod Metres
+pub mod Theorems
+pub mod Example
+pub mod Tight
