@@ -8,29 +8,9 @@ use native.Mathlib.Nat.{div-add-mod', mod-lt, add-mul, zero-mul, mul-comm, le-of
 use native.Mathlib.Decide.{decLt}
 use lib.Dec.{eqb, ltb}
 use Rattle.integers.specs.Numbers.{sum}
+use Rattle.integers.proofs.Sum.{sum-mul, sum-same, sum-le, sum-add}
 use Rattle.meaning.specs.Scaled.{wholeShare, leftOver, missing, scaled}
 use Rattle.meaning.proofs.Says.{Says, says-eq, says-le}
-
-sum-mul : (f : ℕ → ℕ) (d n : ℕ) → sum n (λ v. f v * d) ≡ sum n f * d
-unfolding sum
-sum-mul f d zero = sym (zero-mul d)
-sum-mul f d (suc n) = rw (sum-mul f d n) (sym (add-mul (sum n f) (f n) d))
-
--- terms that are equal, or at most, one by one
-sum-same : (f g : ℕ → ℕ) (n : ℕ) → ((v : ℕ) → f v ≡ g v) → sum n f ≡ sum n g
-unfolding sum
-sum-same f g zero h = refl
-sum-same f g (suc n) h = ap₂ _+_ (sum-same f g n h) (h n)
-
-sum-most : (f g : ℕ → ℕ) (n : ℕ) → ((v : ℕ) → f v ≤ g v) → sum n f ≤ sum n g
-unfolding sum
-sum-most f g zero h = omega arith
-sum-most f g (suc n) h = omega (arith, sum-most f g n h, h n)
-
-pub sum-add : (f g : ℕ → ℕ) (n : ℕ) → sum n (λ i. f i + g i) ≡ sum n f + sum n g
-unfolding sum
-sum-add f g zero = refl
-sum-add f g (suc n) = rw (sum-add f g n) (omega arith)
 
 -- ones handed to the first that ask, while there are any: all of them, or one to each that asks
 handed : (l : ℕ → ℕ) (m n : ℕ) → ((v : ℕ) → l v ≤ 1)
@@ -62,10 +42,10 @@ module _ (n : ℕ) (tec : ℕ → ℕ) (totalDemand : ℕ) (some : 1 ≤ sum n t
   parts : sum n (wholeShare n tec totalDemand) * sum n tec + sum n (λ v. tec v * totalDemand % sum n tec) ≡ totalDemand * sum n tec
   unfolding wholeShare
   parts =
-      ap (λ (a : ℕ). a + sum n (λ v. tec v * totalDemand % sum n tec)) (sym (sum-mul _ (sum n tec) n))
-      ∙ sym (sum-add _ _ n)
-      ∙ sum-same _ _ n (λ v. div-add-mod' (tec v * totalDemand) (sum n tec))
-      ∙ sum-mul tec totalDemand n
+      ap (λ (a : ℕ). a + sum n (λ v. tec v * totalDemand % sum n tec)) (sym (sum-mul n _ (sum n tec)))
+      ∙ sym (sum-add n _ _)
+      ∙ sum-same n _ _ (λ v h. div-add-mod' (tec v * totalDemand) (sum n tec))
+      ∙ sum-mul n tec totalDemand
       ∙ mul-comm (sum n tec) totalDemand
 
   left-most : (v : ℕ) → tec v * totalDemand % sum n tec ≤ leftOver n tec totalDemand v * sum n tec
@@ -93,8 +73,8 @@ module _ (n : ℕ) (tec : ℕ → ℕ) (totalDemand : ℕ) (some : 1 ≤ sum n t
   missing-fits = le-of-mul-le-mul-right {k = sum n tec} (omega (
     arith,
     parts,
-    sum-most _ _ n left-most,
-    sum-mul (leftOver n tec totalDemand) (sum n tec) n,
+    sum-le n _ _ (λ v h. left-most v),
+    sum-mul n (leftOver n tec totalDemand) (sum n tec),
     add-mul (sum n (wholeShare n tec totalDemand)) (totalDemand - sum n (wholeShare n tec totalDemand)) (sum n tec),
     ap (λ (a : ℕ). a * sum n tec) (whole (sum n (wholeShare n tec totalDemand)) shares-fit),
   )) some
@@ -105,7 +85,7 @@ module _ (n : ℕ) (tec : ℕ → ℕ) (totalDemand : ℕ) (some : 1 ≤ sum n t
   pub scaled-sum : sum n (scaled n tec totalDemand) ≡ totalDemand
   unfolding scaled missing
   scaled-sum =
-      sum-add _ _ n ∙ ap (λ (a : ℕ). sum n (wholeShare n tec totalDemand) + a) (handed (leftOver n tec totalDemand) (missing n tec totalDemand) n left-one .0 missing-fits)
+      sum-add n _ _ ∙ ap (λ (a : ℕ). sum n (wholeShare n tec totalDemand) + a) (handed (leftOver n tec totalDemand) (missing n tec totalDemand) n left-one .0 missing-fits)
       ∙ whole (sum n (wholeShare n tec totalDemand)) shares-fit
     where
       whole : (q : ℕ) → q ≤ totalDemand → q + (totalDemand - q) ≡ totalDemand

@@ -9,21 +9,21 @@ use Rattle.meaning.specs.Grid.{Grid, gridOf}
 use Rattle.meaning.specs.declared.Side.{Side}
 use Rattle.meaning.specs.Figures.{zones, zoneOf, weight, paying, zoneWeight, zonePaying, totalPaying}
 use Rattle.sizes.specs.Bounds.{KilowattsFit, KilowattsAlwaysFit}
-use Rattle.sizes.proofs.Sums.{sum-part, sum-term, sum-picked}
-use Rattle.sizes.proofs.Regroup.{regroup}
+use Rattle.integers.proofs.Sum.{sum-part, sum-item}
+use Rattle.integers.proofs.Group.{sum-groups, sum-of-le}
 use Rattle.sizes.proofs.Ranges.{Ranged, ranged}
 
 module _ (G : Grid) (r : Ranged G) where
   pub zones-cover : (side : Side) → sum (zones G side) (λ i. zonePaying G side (suc i)) ≡ totalPaying G side
   unfolding zonePaying totalPaying
-  zones-cover side = regroup (zones G side) (zoneOf G side) (paying G side) (length (G .nodes)) (r .inZone side)
+  zones-cover side = sum-groups (zones G side) (length (G .nodes)) (zoneOf G side) (paying G side) (λ v h. (r .inZone side v h .least, r .inZone side v h .most))
 
   zones-to : (side : Side) (k : ℕ) → k ≤ zones G side → sum k (λ i. zonePaying G side (suc i)) ≤ totalPaying G side
-  zones-to side k h = rw (zones-cover side) at (sum-part (λ i. zonePaying G side (suc i)) k (zones G side) h)
+  zones-to side k h = rw (zones-cover side) at (sum-part k (zones G side) (λ i. zonePaying G side (suc i)) h)
 
   zone-weighs : (side : Side) (zone : ℕ) → zoneWeight G side zone ≤ 100000000
   unfolding zoneWeight
-  zone-weighs side zone = le-trans (sum-picked (λ v. eqb (zoneOf G side v) zone) (weight G side) (length (G .nodes))) (r .weighing side)
+  zone-weighs side zone = le-trans (sum-of-le (length (G .nodes)) (λ v. eqb (zoneOf G side v) zone) (weight G side)) (r .weighing side)
 
   pays-most : (side : Side) → sum (length (G .nodes)) (paying G side) ≤ 100000000
   unfolding totalPaying
@@ -31,13 +31,13 @@ module _ (G : Grid) (r : Ranged G) where
 
   zone-pays : (side : Side) (zone : ℕ) → zonePaying G side zone ≤ 100000000
   unfolding zonePaying
-  zone-pays side zone = le-trans (sum-picked (λ v. eqb (zoneOf G side v) zone) (paying G side) (length (G .nodes))) (pays-most side)
+  zone-pays side zone = le-trans (sum-of-le (length (G .nodes)) (λ v. eqb (zoneOf G side v) zone) (paying G side)) (pays-most side)
 
   pub kilowatts : KilowattsFit G
   kilowatts = record {
     all = r .payers;
-    nodeWeighs = λ side v h. le-trans (sum-term (weight G side) v (length (G .nodes)) h) (r .weighing side);
-    nodePays = λ side v h. le-trans (sum-term (paying G side) v (length (G .nodes)) h) (pays-most side);
+    nodeWeighs = λ side v h. le-trans (sum-item (length (G .nodes)) v (weight G side) h) (r .weighing side);
+    nodePays = λ side v h. le-trans (sum-item (length (G .nodes)) v (paying G side) h) (pays-most side);
     zoneWeighs = zone-weighs;
     zonePays = zone-pays;
     zonesTo = zones-to;

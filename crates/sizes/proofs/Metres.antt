@@ -16,20 +16,22 @@ use Rattle.meaning.specs.declared.Side.the-variants.{Generation, Demand}
 use Rattle.meaning.specs.Figures.{metres, widerMetres, localMetres, distance, zones, zoneOf, weight, zoneWeight, zonePaying, totalPaying, overZones, zonalMetres, C, afterC}
 use Rattle.meaning.specs.Conditions.{InRange}
 use Rattle.sizes.specs.Bounds.{PotentialsInRange, MetresFit, zoneShare, aboveOfC, belowOfC}
-use Rattle.sizes.proofs.Sums.{sum-part, Σ-weighed, Σ-picked, Σ-none}
-use Rattle.sizes.proofs.Rounding.{nearest-none, nearest-within}
+use Rattle.integers.proofs.Sum.{sum-part, Σ-weighted}
+use Rattle.integers.proofs.Group.{Σ-weighted-of}
+use Rattle.integers.proofs.Div.{nearest-within, nearest-zero}
+use Rattle.sizes.proofs.Unweighted.{Σ-none}
 use Rattle.sizes.proofs.Ranges.{Ranged}
 use Rattle.sizes.proofs.Kilowatts.{zones-cover, kilowatts}
 
 metres-within : (z : ℤ) → natAbs z ≤ 10000000000000000 → natAbs (metres z) ≤ 10000000
 unfolding metres
-metres-within z h = nearest-within z 1000000000 10000000 h
+metres-within z h = nearest-within z 10000000 1000000000 h
 
 -- over zones: within 10^7 times the kilowatts, as far as a loop has come and in all
 module _ (G : Grid) (r : Ranged G) (f : ℕ → ℤ) (b : ℕ) (fits : (zone : ℕ) → natAbs (f zone) ≤ b) where
   pub zones-within : (side : Side) (k : ℕ)
       → natAbs (Σ k (λ i. f (suc i) *ℤ pos (zonePaying G side (suc i)))) ≤ b * sum k (λ i. zonePaying G side (suc i))
-  zones-within side k = Σ-weighed b k (λ i. f (suc i)) (λ i. zonePaying G side (suc i)) (λ i l. fits (suc i))
+  zones-within side k = Σ-weighted b k (λ i. f (suc i)) (λ i. zonePaying G side (suc i)) (λ i l. fits (suc i))
 
   pub overZones-within : (side : Side) → natAbs (overZones G side f) ≤ b * totalPaying G side
   unfolding overZones
@@ -49,7 +51,7 @@ shared p k l h a b = record {
 pub zonal-none : (G : Grid) (runs : Runs) (side : Side) (zone : ℕ) → zoneWeight G side zone ≡ 0 → zonalMetres G runs side zone ≡ pos 0
 unfolding zonalMetres zoneWeight
 zonal-none G runs side zone h =
-    ap₂ nearest (Σ-none (length (G .nodes)) (λ v. eqb (zoneOf G side v) zone) (distance runs side) (weight G side) h) h ∙ nearest-none
+    ap₂ nearest (Σ-none (length (G .nodes)) (λ v. eqb (zoneOf G side v) zone) (distance runs side) (weight G side) h) h ∙ nearest-zero 0
 
 module _ (G : Grid) (runs : Runs) (r : Ranged G) (u : PotentialsInRange (length (G .nodes)) runs) where
   wider-node : (v : ℕ) → v < length (G .nodes) → natAbs (widerMetres runs v) ≤ 10000000
@@ -68,12 +70,12 @@ module _ (G : Grid) (runs : Runs) (r : Ranged G) (u : PotentialsInRange (length 
   zone-to : (side : Side) (zone k : ℕ) → k ≤ length (G .nodes) → natAbs (Σ k (zoneShare G runs side zone)) ≤ 10000000 * zoneWeight G side zone
   unfolding zoneWeight
   zone-to side zone k h = le-trans
-      (Σ-picked 10000000 k (λ v. eqb (zoneOf G side v) zone) (distance runs side) (weight G side) (λ v l. node-distance side v (omega arith)))
-      (mul-le-mul-left 10000000 (sum-part _ k (length (G .nodes)) h))
+      (Σ-weighted-of 10000000 k (λ v. eqb (zoneOf G side v) zone) (distance runs side) (weight G side) (λ v l. node-distance side v (omega arith)))
+      (mul-le-mul-left 10000000 (sum-part k (length (G .nodes)) _ h))
 
   zonal : (side : Side) (zone : ℕ) → natAbs (zonalMetres G runs side zone) ≤ 10000000
   unfolding zonalMetres
-  zonal side zone = nearest-within _ (zoneWeight G side zone) 10000000 (zone-to side zone (length (G .nodes)) (le-refl _))
+  zonal side zone = nearest-within _ 10000000 (zoneWeight G side zone) (zone-to side zone (length (G .nodes)) (le-refl _))
 
   above-within : natAbs (aboveOfC G runs) ≤ 10000000 * belowOfC G
   above-within =
@@ -88,7 +90,7 @@ module _ (G : Grid) (runs : Runs) (r : Ranged G) (u : PotentialsInRange (length 
 
   centre : natAbs (C G runs) ≤ 10000000
   unfolding C
-  centre = nearest-within (aboveOfC G runs) (belowOfC G) 10000000 above-within
+  centre = nearest-within (aboveOfC G runs) 10000000 (belowOfC G) above-within
 
   with-C : (side : Side) (zone : ℕ) → natAbs (afterC G runs side zone) ≤ 20000000
   unfolding afterC

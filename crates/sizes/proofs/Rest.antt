@@ -15,8 +15,8 @@ use Rattle.meaning.specs.declared.Side.{Side}
 use Rattle.meaning.specs.declared.Side.the-variants.{Generation, Demand}
 use Rattle.meaning.specs.Figures.{residualOf, remainderOf, paying, totalPaying, overZones, target, zoneTariff, localTariff, localIncome, rest, residual, remainder, zoneTotal}
 use Rattle.sizes.specs.Bounds.{TariffsFit, RestFits}
-use Rattle.sizes.proofs.Sums.{sum-part, Σ-weighed}
-use Rattle.sizes.proofs.Rounding.{floor-least, floor-most}
+use Rattle.integers.proofs.Sum.{sum-part, Σ-weighted}
+use Rattle.integers.proofs.Div.{floor-le, floor-ge}
 use Rattle.sizes.proofs.Ranges.{Ranged}
 use Rattle.sizes.proofs.Kilowatts.{kilowatts}
 use Rattle.sizes.proofs.Metres.{zones-within, overZones-within}
@@ -42,8 +42,8 @@ residual-between : (z : ℤ) (k : ℕ) → 1 ≤ k → Between (negℤ (pos (150
     → Between (negℤ (pos 15000000000)) (residualOf z k) (pos 10000015000000000)
 unfolding residualOf
 residual-between z k h b = (
-  floor-least z (negℤ (pos 15000000000)) k h (simp Z (omega (arith, simp Z at (b .0)))),
-  floor-most z (pos 10000015000000000) k h (simp Z (omega (arith, simp Z at (b .1)))),
+  floor-ge z (negℤ (pos 15000000000)) k h (simp Z (omega (arith, simp Z at (b .0)))),
+  floor-le z (pos 10000015000000000) k h (simp Z (omega (arith, simp Z at (b .1)))),
 )
 
 pub remainder-between : (z : ℤ) (k : ℕ) → 1 ≤ k → (pos 0 ≤ℤ remainderOf z k) × (remainderOf z k <ℤ pos k)
@@ -66,11 +66,11 @@ module _ (G : Grid) (runs : Runs) (r : Ranged G) (t : TariffsFit G runs) where
   target-between Demand = target-of (G .settings .revenue) (G .settings .p) (r .revenue) (r .p)
 
   local-to : (k : ℕ) → k ≤ length (G .nodes) → natAbs (Σ k (λ v. localTariff G runs v *ℤ pos (payingTec G v))) ≤ 5000000000 * sum k (payingTec G)
-  local-to k h = Σ-weighed 5000000000 k (localTariff G runs) (payingTec G) (λ v l. t .ofNode v (omega arith))
+  local-to k h = Σ-weighted 5000000000 k (localTariff G runs) (payingTec G) (λ v l. t .ofNode v (omega arith))
 
   pays-to : (k : ℕ) → k ≤ length (G .nodes) → sum k (payingTec G) ≤ 100000000
   unfolding totalPaying paying
-  pays-to k h = le-trans (sum-part (payingTec G) k (length (G .nodes)) h) (r .payers Generation .most)
+  pays-to k h = le-trans (sum-part k (length (G .nodes)) (payingTec G) h) (r .payers Generation .most)
 
   local-within : (side : Side) → natAbs (localIncome G runs side) ≤ 5000000000 * totalPaying G side
   unfolding localIncome totalPaying paying

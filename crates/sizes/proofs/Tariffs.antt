@@ -9,7 +9,7 @@ use Rattle.meaning.specs.Grid.{Grid}
 use Rattle.meaning.specs.declared.Side.{Side}
 use Rattle.meaning.specs.Figures.{tariff, localMetres, afterC, zoneTariff, localTariff}
 use Rattle.sizes.specs.Bounds.{MetresFit, TariffsFit}
-use Rattle.sizes.proofs.Rounding.{nearest-within}
+use Rattle.integers.proofs.Div.{nearest-within}
 use Rattle.sizes.proofs.Ranges.{Ranged}
 
 -- metres within b, a constant of up to 10,000 and a factor of up to 5,000
@@ -19,7 +19,7 @@ module _ (m : ℤ) (b constant factor : ℕ) (h : natAbs m ≤ b) (c : constant 
 
   tariff-within : natAbs (tariff m constant factor) ≤ b * 500
   unfolding tariff
-  tariff-within = nearest-within (m *ℤ pos constant *ℤ pos factor) 100000 (b * 500) (omega (arith, product-within))
+  tariff-within = nearest-within (m *ℤ pos constant *ℤ pos factor) (b * 500) 100000 (omega (arith, product-within))
 
 module _ (G : Grid) (runs : Runs) (r : Ranged G) (m : MetresFit G runs) where
   abbrev constant : ℕ
