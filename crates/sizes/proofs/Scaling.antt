@@ -1,18 +1,14 @@
 -- 01, steps 1, 3 and 4: scaled generation is at most the TEC, so supplies are small; signed lengths.
-use mathlib.Core.Path.{_≡_, sym}
-use mathlib.Core.Bool.{Bool, true, false, cond, true≢false}
-use Prim.Native.Nat.{ℕ, _+_, _*_, _/_, _%_, _≤_, _<_}
-use native.Mathlib.Nat.{div-add-mod', mul-le-mul-left, le-of-mul-le-mul-right, lt-of-mul-lt-mul-right}
+use mathlib.Core.Path.{_≡_}
+use Prim.Native.Nat.{ℕ, _*_, _≤_, _<_}
 use native.Mathlib.Omega.{arith}
-use lib.Dec.{eqb, ltb}
 use lib.IntN.{ℤ, pos, natAbs, _-ℤ_}
 use lib.ListN.{length}
-use Rattle.integers.specs.Numbers.{sum}
 use Rattle.integers.proofs.Core.{Z}
 use Rattle.integers.proofs.Laws.{abs-neg, abs-mul-le}
 use Rattle.meaning.specs.Study.{Runs, circuit}
 use Rattle.meaning.specs.Grid.{Grid, gridOf, nodeTec, nodeDemand, totalDemand}
-use Rattle.meaning.specs.Scaled.{wholeShare, leftOver, missing, scaled}
+use Rattle.meaning.specs.Scaled.{scaled}
 use Rattle.meaning.specs.declared.Direction.{Direction}
 use Rattle.meaning.specs.declared.Direction.the-variants.{Idle, Forward, Backward, InDoubt}
 use Rattle.meaning.specs.Direction.{direction, signed, signedLength, expandedLength}
@@ -20,28 +16,10 @@ use Rattle.meaning.specs.declared.System.the-variants.{Base}
 use Rattle.meaning.specs.Systems.{net, supply, lengthOf, baseFlow}
 use Rattle.meaning.specs.declared.Side.the-variants.{Generation, Demand}
 use Rattle.meaning.specs.Figures.{weight}
-use Rattle.meaning.proofs.Says.{Says, says-eq}
+use Rattle.meaning.proofs.Shares.{scaled-most}
 use Rattle.sizes.specs.Bounds.{SystemsFit, SystemsAlwaysFit}
 use Rattle.sizes.proofs.Ranges.{Ranged, ranged}
 use Rattle.sizes.proofs.Kilowatts.{kilowatts}
-
--- whole shares of the total T and what is left over make tec * D, at most tec * T: a kilowatt more goes only where something is left over
-share-most : (tec D T : ℕ) → 1 ≤ T → D ≤ T → (even given : Bool) → Says even (tec * D % T ≡ 0) → tec * D / T + cond given (cond even 0 1) 0 ≤ tec
-share-most tec D T some enough even given s = go even given s (omega (arith, div-add-mod' (tec * D) T, mul-le-mul-left tec enough))
-  where
-    go : (even given : Bool) → Says even (tec * D % T ≡ 0) → tec * D / T * T + tec * D % T ≤ tec * T → tec * D / T + cond given (cond even 0 1) 0 ≤ tec
-    go false true s whole =
-        let odd : tec * D % T ≡ 0 → ⊥ = λ e. true≢false (sym (s .1 e)) in
-        let below : tec * D / T < tec = lt-of-mul-lt-mul-right T (omega arith) in
-        omega arith
-    go false false s whole = le-of-mul-le-mul-right {k = T} (omega arith) some
-    go true true s whole = le-of-mul-le-mul-right {k = T} (omega arith) some
-    go true false s whole = le-of-mul-le-mul-right {k = T} (omega arith) some
-
-pub scaled-most : (n : ℕ) (tec : ℕ → ℕ) (D v : ℕ) → 1 ≤ sum n tec → D ≤ sum n tec → scaled n tec D v ≤ tec v
-unfolding scaled wholeShare leftOver
-scaled-most n tec D v some enough =
-    share-most (tec v) D (sum n tec) some enough (eqb (tec v * D % sum n tec) 0) (ltb (sum v (leftOver n tec D)) (missing n tec D)) says-eq
 
 -- the difference of two numbers that are within b is within b
 difference : (a c b : ℕ) → a ≤ b → c ≤ b → natAbs (pos a -ℤ pos c) ≤ b
