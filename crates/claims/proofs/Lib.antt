@@ -1,0 +1,7 @@
+-- the page to open first
+pub mod Theorems
+-- demands 1 and 2: every input is settled; accepted exactly when
+pub mod Whole
+pub mod Proposals
+pub mod Listed
+pub mod Accepted
