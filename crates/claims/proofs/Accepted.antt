@@ -15,7 +15,7 @@ use Rattle.meaning.specs.Grid.{gridOf}
 use Rattle.meaning.specs.Network.{networkOf}
 use Rattle.meaning.specs.Outcome.{tablesStage, judged, sheetOf, Settled, refused, written, settle}
 use Rattle.meaning.specs.Conditions.{SoundTables, Acceptable}
-use Rattle.meaning.specs.Demands.{ListedFor, shortBuffer, IsWritten, IsRefused, EveryInputSettled, ExactlyWhen, AcceptedExactlyWhen}
+use Rattle.meaning.specs.Demands.{ListedFor, shortBuffer, IsWritten, IsRefused, EveryInputSettled, AcceptedExactlyWhen}
 use Rattle.meaning.proofs.Says.{Says, says-le}
 use Rattle.meaning.proofs.Answers.{Passes, passes-orElse}
 use Rattle.meaning.proofs.Tables.{Rowwise, sound-pass, placed}

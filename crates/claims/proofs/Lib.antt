@@ -5,3 +5,7 @@ pub mod Whole
 pub mod Proposals
 pub mod Listed
 pub mod Accepted
+-- demand 3: solvers agree, and stations stay hidden
+pub mod Same
+pub mod Hidden
+pub mod Agree

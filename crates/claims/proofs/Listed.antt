@@ -1,11 +1,9 @@
 -- Every stage passes, or answers a row of 01's table with its row in range.
-use mathlib.Core.Path.{_≡_, refl}
 use mathlib.Core.List.{List}
 use mathlib.Core.Option.{Option}
 use mathlib.Core.Bool.{Bool, true, false, not, cond}
-use Prim.Native.Nat.{ℕ, suc, _+_, _≤_, _<_}
+use Prim.Native.Nat.{ℕ, suc, _<_}
 use native.Mathlib.Omega.{arith}
-use lib.ListN.{length}
 use Rattle.meaning.specs.Rows.{failing}
 use Rattle.meaning.specs.Study.{Study, Runs}
 use Rattle.meaning.specs.File.{studyOf}
@@ -21,7 +19,7 @@ use Rattle.meaning.specs.Proposal.{flow, numberInRange, balanced, rangeStage, b
 use Rattle.meaning.specs.Systems.{proposed, solutionStage, directionClear, directionStage, proposalsStage}
 use Rattle.meaning.specs.Outcome.{fileStage, runsStage, rowsStage, gridStage, tablesStage, judged}
 use Rattle.meaning.specs.Conditions.{InRange}
-use Rattle.meaning.specs.Demands.{Listed, badFile, badSetting, badNode, badCircuit, badStation, unreached, badTotal, badNumber, unbalanced, missesTooHigh, inDoubt, ListedFor}
+use Rattle.meaning.specs.Demands.{badFile, badSetting, badNode, badCircuit, badStation, unreached, badTotal, badNumber, unbalanced, missesTooHigh, inDoubt, ListedFor}
 use Rattle.meaning.proofs.Rows.{Lowest, nothing, first, lowest-is}
 use Rattle.meaning.proofs.Answers.{Passes, passed-passes}
 

@@ -1,9 +1,9 @@
 -- Refusals 8 to 10 pass exactly when a proposal solves its system, and 11 exactly when no direction is in doubt.
-use mathlib.Core.Path.{_≡_, refl, sym, _∙_, ap}
+use mathlib.Core.Path.{_≡_, refl, sym, ap}
 use mathlib.Core.Logic.{_⊎_, inl, inr, _↔_, _≢_}
 use mathlib.Core.List.{List}
 use mathlib.Core.Bool.{Bool, true, false, not, cond, _&&_, _||_, true≢false}
-use Prim.Native.Nat.{ℕ, zero, suc, _+_, _-_, _≤_, _<_}
+use Prim.Native.Nat.{ℕ, suc, _+_, _-_, _≤_, _<_}
 use native.Mathlib.Omega.{arith}
 use native.Mathlib.Decide.{decLt}
 use lib.Dec.{ltb, eqb, leb}
@@ -19,9 +19,9 @@ use Rattle.meaning.specs.Answers.{stops, values, refusal}
 use Rattle.meaning.specs.Grid.{Grid}
 use Rattle.meaning.specs.Network.{Network, networkOf}
 use Rattle.meaning.specs.Direction.{direction, inDoubt, hasLength}
-use Rattle.meaning.specs.Proposal.{potential, flow, same, flowOut, flowIn, numberInRange, balanced, Proposed, rangeStage, balanceStage, missStage, systemStage}
+use Rattle.meaning.specs.Proposal.{flow, same, flowOut, flowIn, numberInRange, balanced, Proposed, rangeStage, balanceStage, missStage, systemStage}
 use Rattle.meaning.specs.Systems.{baseFlow, proposed, solutionStage, directionClear, directionStage, proposalsStage}
-use Rattle.meaning.specs.Conditions.{Solves, SolvesSystem, HasLength, NoDoubt}
+use Rattle.meaning.specs.Conditions.{SolvesSystem, HasLength, NoDoubt}
 use Rattle.meaning.proofs.Says.{Says, says-as, _also_, _either_, says-not, says-le, says-eq}
 use Rattle.meaning.proofs.Answers.{Passes, passes-orElse, passes-unless, passes-rows}
 

@@ -2,15 +2,15 @@
 use mathlib.Core.Path.{_≡_, refl}
 use mathlib.Core.Logic.{_↔_}
 use mathlib.Core.List.{List}
-use mathlib.Core.Bool.{Bool, _&&_}
-use Prim.Native.Nat.{ℕ, _+_, _-_, _≤_, _<_}
+use mathlib.Core.Bool.{Bool, true, _&&_}
+use Prim.Native.Nat.{ℕ, _+_, _-_, _≤_}
 use native.Mathlib.Omega.{arith}
 use lib.ListN.{length}
 use Rattle.meaning.specs.Study.{Runs}
-use Rattle.meaning.specs.File.{sectionCount, sectionOffset, sectionStart, counted, chained, fileWhole, runsWhole}
+use Rattle.meaning.specs.File.{counted, chained, fileWhole, runsWhole}
 use Rattle.meaning.specs.Answers.{stops, values, refusal}
 use Rattle.meaning.specs.Outcome.{fileStage, runsStage}
-use Rattle.meaning.specs.Conditions.{InRange, WholeFile}
+use Rattle.meaning.specs.Conditions.{WholeFile}
 use Rattle.meaning.proofs.Says.{Says, says-as, _also_, says-le, says-eq, says-between, says-all}
 use Rattle.meaning.proofs.Answers.{Passes, passes-unless}
 
@@ -75,5 +75,6 @@ whole-pass file runs = (
       (passes-unless _ _ refl .1 (t .0), passes-unless _ _ refl .1 (t .1)),
 )
   where
-    both : Says (whole file runs) ((fileWhole file ≡ mathlib.Core.Bool.true) × (runsWhole file (length (runs .base)) (length (runs .wider)) (length (runs .local)) ≡ mathlib.Core.Bool.true))
+    both : Says (whole file runs)
+        ((fileWhole file ≡ true) × (runsWhole file (length (runs .base)) (length (runs .wider)) (length (runs .local)) ≡ true))
     both = (λ h. h, λ h. h) also (λ h. h, λ h. h)
