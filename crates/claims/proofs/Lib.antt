@@ -9,3 +9,12 @@ pub mod Accepted
 pub mod Same
 pub mod Hidden
 pub mod Agree
+-- demand 2: the revenue is recovered, read back from the bytes of the sheet
+pub mod Digits
+pub mod Pieces
+pub mod Names
+pub mod Lines
+pub mod Pays
+pub mod ReadBack
+pub mod Money
+pub mod Recovered

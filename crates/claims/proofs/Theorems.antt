@@ -1,6 +1,7 @@
 -- The user's demands, proved: each statement is a type of meaning/specs/Demands.antt, and its proof is in the file named here.
-use Rattle.meaning.specs.Demands.{EveryInputSettled, AcceptedExactlyWhen, SolversAgree, StationsHidden}
+use Rattle.meaning.specs.Demands.{EveryInputSettled, AcceptedExactlyWhen, RevenueRecovered, SolversAgree, StationsHidden}
 use Rattle.claims.proofs.Accepted
+use Rattle.claims.proofs.Recovered
 use Rattle.claims.proofs.Agree
 use Rattle.claims.proofs.Hidden
 
@@ -11,6 +12,10 @@ every-input-settled = Accepted.every-input-settled
 -- demand 2: accepted exactly when 1 to 11 do not hold, in a person's words, and the sheet fits
 pub accepted-exactly-when : AcceptedExactlyWhen
 accepted-exactly-when = Accepted.accepted-exactly-when
+
+-- demand 2: read back from its bytes, the sheet of an accepted case brings in the allowed revenue, less two printed remainders
+pub revenue-recovered : RevenueRecovered
+revenue-recovered = Recovered.revenue-recovered
 
 -- demand 3: whatever the solver, an accepted case has its directions, its metres to within one, and with equal proposals its sheet
 pub solvers-agree : SolversAgree

@@ -1,0 +1,69 @@
+-- The figures bring in the revenue: of each side, the zones' totals, the local income and the remainder are the target.
+use mathlib.Core.Path.{_≡_, sym, _∙_, ap}
+use Prim.Native.Nat.{ℕ, zero, suc, _+_, _*_, _-_, _≤_}
+use native.Mathlib.Omega.{arith}
+use native.Mathlib.Nat.{mul-add, add-mul}
+use lib.IntN.{ℤ, pos, _+ℤ_, _-ℤ_, _*ℤ_}
+use Rattle.integers.specs.Numbers.{sum, Σ}
+use Rattle.integers.proofs.Core.{Z}
+use Rattle.meaning.specs.Study.{Runs}
+use Rattle.meaning.specs.Grid.{Grid}
+use Rattle.meaning.specs.declared.Side.{Side}
+use Rattle.meaning.specs.declared.Side.the-variants.{Generation, Demand}
+use Rattle.meaning.specs.Figures.{remainderOf, zones, zonePaying, totalPaying, overZones, target, zoneTariff, localIncome, rest, residual, remainder, zoneTotal}
+use Rattle.sizes.specs.Bounds.{KilowattsFit}
+
+-- a price raised by r brings in r times the kilowatts more
+raised : (t : ℕ → ℤ) (r : ℤ) (kw : ℕ → ℕ) (n : ℕ)
+    → Σ n (λ k. (t k +ℤ r) *ℤ pos (kw k)) ≡ Σ n (λ k. t k *ℤ pos (kw k)) +ℤ r *ℤ pos (sum n kw)
+unfolding Σ sum
+raised t r kw zero = simp Z (omega arith)
+raised t r kw (suc n) = rw (raised t r kw n) (step (Σ n (λ k. t k *ℤ pos (kw k))) (t n) r (sum n kw) (kw n))
+  where
+    step : (a b r : ℤ) (m k : ℕ) → a +ℤ r *ℤ pos m +ℤ (b +ℤ r) *ℤ pos k ≡ a +ℤ b *ℤ pos k +ℤ r *ℤ pos (m + k)
+    step a b r m k = simp Z (omega arith)
+
+-- income of generation's zones and of demand's, and local; the two remainders; the two targets. Demand has no local income
+together : (g d l r q t u : ℤ) → g +ℤ l +ℤ r ≡ t → d +ℤ pos 0 +ℤ q ≡ u → g +ℤ d +ℤ l +ℤ r +ℤ q ≡ t +ℤ u
+together g d l r q t u = simp Z (omega arith)
+
+module _ (G : Grid) (fit : KilowattsFit G) (runs : Runs) where
+  -- the residual is paid by each kilowatt, and the zones have all of them
+  income-is : (side : Side)
+      → overZones G side (zoneTotal G runs side) ≡ overZones G side (zoneTariff G runs side) +ℤ residual G runs side *ℤ pos (totalPaying G side)
+  unfolding overZones zoneTotal
+  income-is side =
+      raised (λ k. zoneTariff G runs side (suc k)) (residual G runs side) (λ k. zonePaying G side (suc k)) (zones G side)
+      ∙ ap (λ (m : ℕ). overZones G side (zoneTariff G runs side) +ℤ residual G runs side *ℤ pos m) (fit .zonesAll side)
+
+  side-recovered : (side : Side) → overZones G side (zoneTotal G runs side) +ℤ localIncome G runs side +ℤ remainder G runs side ≡ target G side
+  unfolding remainder remainderOf residual rest
+  side-recovered side =
+      rw (income-is side)
+      (cancel (overZones G side (zoneTariff G runs side)) (residual G runs side) (localIncome G runs side) (target G side) (totalPaying G side))
+    where
+      cancel : (o r l t : ℤ) (k : ℕ) → o +ℤ r *ℤ pos k +ℤ l +ℤ (t -ℤ o -ℤ l -ℤ r *ℤ pos k) ≡ t
+      cancel o r l t k = simp Z (omega arith)
+
+  -- the two targets are the revenue in micro-pounds
+  targets : G .settings .p ≤ 1000 → target G Generation +ℤ target G Demand ≡ pos (G .settings .revenue * 1000000)
+  unfolding target
+  targets h = ap pos (shares (G .settings .revenue) (G .settings .p) h)
+    where
+      shares : (r p : ℕ) → p ≤ 1000 → r * (1000 - p) * 1000 + r * p * 1000 ≡ r * 1000000
+      shares r p h =
+          sym (add-mul (r * (1000 - p)) (r * p) 1000) ∙ ap (λ (m : ℕ). m * 1000) (sym (mul-add r (1000 - p) p)) ∙ rw (whole p h) (omega arith)
+        where
+          whole : (p : ℕ) → p ≤ 1000 → (1000 - p) + p ≡ 1000
+          whole p h = omega arith
+
+  pub both-recovered : G .settings .p ≤ 1000
+      → overZones G Generation (zoneTotal G runs Generation) +ℤ overZones G Demand (zoneTotal G runs Demand) +ℤ localIncome G runs Generation
+      +ℤ remainder G runs Generation
+      +ℤ remainder G runs Demand
+      ≡ pos (G .settings .revenue * 1000000)
+  unfolding localIncome
+  both-recovered h =
+      together (overZones G Generation (zoneTotal G runs Generation)) (overZones G Demand (zoneTotal G runs Demand)) (localIncome G runs Generation)
+      (remainder G runs Generation) (remainder G runs Demand) (target G Generation) (target G Demand) (side-recovered Generation) (side-recovered Demand)
+      ∙ targets h
