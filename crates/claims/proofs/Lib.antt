@@ -18,3 +18,5 @@ pub mod Pays
 pub mod ReadBack
 pub mod Money
 pub mod Recovered
+-- nothing of it is vacuous
+pub mod Instance

@@ -1,5 +1,6 @@
 -- The user's demands, proved: each statement is a type of meaning/specs/Demands.antt, and its proof is in the file named here.
-use Rattle.meaning.specs.Demands.{EveryInputSettled, AcceptedExactlyWhen, RevenueRecovered, SolversAgree, StationsHidden}
+use Rattle.meaning.specs.Demands.{EveryInputSettled, AcceptedExactlyWhen, RevenueRecovered, SolversAgree, StationsHidden, SheetsFit}
+use Rattle.sizes.proofs.Accepted as Sizes
 use Rattle.claims.proofs.Accepted
 use Rattle.claims.proofs.Recovered
 use Rattle.claims.proofs.Agree
@@ -24,3 +25,7 @@ solvers-agree = Agree.solvers-agree
 -- demand 3: how a node's capacity is divided among stations is not seen, in a refusal neither
 pub stations-hidden : StationsHidden
 stations-hidden = Hidden.stations-hidden
+
+-- "Its own buffer holds any sheet these ranges allow, so it never prints 12."
+pub sheets-fit : SheetsFit
+sheets-fit = Sizes.sheets-fit
