@@ -20,7 +20,7 @@ use Rattle.meaning.specs.Conditions.{WellFormed}
 use Rattle.meaning.proofs.Says.{Says, says-eq}
 use Rattle.claims.proofs.Digits.{From, none, more, from-lower, natural-from, decimal-from}
 use Rattle.claims.proofs.Names.{name-from}
-use Rattle.claims.proofs.Pieces.{end, field, Adds, adds-none, adds-line, adds-append, adds-joined}
+use Rattle.claims.proofs.Pieces.{Fields, end, field, Adds, adds-none, adds-line, adds-append, adds-joined}
 
 -- the fields of each line
 abbrev pub Line : Type 0
@@ -61,6 +61,10 @@ unfolding letter
 letter-from Generation = more 71 (omega arith) none
 letter-from Demand = more 68 (omega arith) none
 
+-- a number among the fields
+number : (z : ℤ) {fs : Line} → Fields fs → Fields (decimal z ∷ fs)
+number z t = field (decimal-from z) t
+
 -- one of two texts, by a test
 adds-either : {F : Line → ℤ} {s t : List ℕ} {v : ℤ} {P : Type 0} (b : Bool) → Says b P → (P → Adds F s v) → Adds F t v → Adds F (cond b s t) v
 adds-either true e f a = f (e .0 refl)
@@ -78,7 +82,7 @@ module _ (G : Grid) (runs : Runs) (F : Line → ℤ) (named : (v : ℕ) → v < 
       let k = from-lower {low = 45} (omega arith) (natural-from z) in
       adds-either (eqb (zoneWeight G side z) 0) says-eq
       (λ e. worth (adds-line F l (field k (field (more 45 (omega arith) none) end))) (w .empty side z e))
-      (worth (adds-line F l (field k (field (decimal-from _) (field (decimal-from _) (field (decimal-from _) (field (decimal-from _) (field (decimal-from _) end))))))) (w .full side z))
+      (worth (adds-line F l (field k (number _ (number _ (number _ (number _ (number _ end))))))) (w .full side z))
 
   add-zones : (side : Side) → Adds F (zoneLines G runs side) (Σ (zones G side) (λ k. zone side (suc k)))
   unfolding zoneLines
@@ -89,14 +93,16 @@ module _ (G : Grid) (runs : Runs) (F : Line → ℤ) (named : (v : ℕ) → v < 
   add-local v h =
       let n = from-lower {low = 45} (omega arith) (name-from (named v h)) in
       adds-either (eqb (nodeTec G v) 0) says-eq (λ e. worth (adds-none F) (w .silent v e))
-      (worth (adds-line F (more 76 (omega arith) none) (field n (field (decimal-from _) (field (decimal-from _) end)))) (w .printed v h))
+      (worth (adds-line F (more 76 (omega arith) none) (field n (number _ (number _ end)))) (w .printed v h))
 
   pub add-sheet : Adds F (sheet G runs)
-      (pos 0 +ℤ (Σ (zones G Generation) (λ k. zone Generation (suc k)) +ℤ (Σ (zones G Demand) (λ k. zone Demand (suc k)) +ℤ (Σ (length (G .nodes)) local +ℤ left))))
+      (pos 0
+      +ℤ (Σ (zones G Generation) (λ k. zone Generation (suc k))
+      +ℤ (Σ (zones G Demand) (λ k. zone Demand (suc k)) +ℤ (Σ (length (G .nodes)) local +ℤ left))))
   unfolding sheet
   add-sheet =
-      adds-append F (worth (adds-line F (more 67 (omega arith) none) (field (decimal-from _) end)) (w .start))
+      adds-append F (worth (adds-line F (more 67 (omega arith) none) (number _ end)) (w .start))
       (adds-append F (add-zones Generation)
       (adds-append F (add-zones Demand)
       (adds-append F (adds-joined F (length (G .nodes)) _ local add-local)
-      (worth (adds-line F (more 82 (omega arith) none) (field (decimal-from _) (field (decimal-from _) end))) (w .last)))))
+      (worth (adds-line F (more 82 (omega arith) none) (number _ (number _ end))) (w .last)))))

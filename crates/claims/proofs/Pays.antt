@@ -1,22 +1,17 @@
 -- Kilowatts that pay are among those that weigh: a zone that prints `-`, and a node without a line, pay nothing.
 use mathlib.Core.Bool.{Bool, true, false, cond}
 use mathlib.Core.List.{[]}
-use Prim.Native.Nat.{ℕ, zero, suc, _≤_, _<_}
+use Prim.Native.Nat.{ℕ, suc, _≤_}
 use native.Mathlib.Omega.{arith}
 use lib.Dec.{eqb}
 use lib.ListN.{length, getD}
-use Rattle.integers.specs.Numbers.{sum}
+use Rattle.integers.proofs.Sum.{sum-le}
 use Rattle.meaning.specs.declared.Plant.{Plant}
 use Rattle.meaning.specs.declared.Plant.the-variants.{Intermittent, NuclearAndCcs, Interconnector, Hydro, PumpedStorage, Peaking, Other}
 use Rattle.meaning.specs.declared.Side.{Side}
 use Rattle.meaning.specs.declared.Side.the-variants.{Generation, Demand}
 use Rattle.meaning.specs.Grid.{Grid, plantOf, scales, pays, tecOf, nodeTec, payingTec}
 use Rattle.meaning.specs.Figures.{zoneOf, weight, paying, zoneWeight, zonePaying}
-
-sum-le : (n : ℕ) (f g : ℕ → ℕ) → ((k : ℕ) → k < n → f k ≤ g k) → sum n f ≤ sum n g
-unfolding sum
-sum-le zero f g h = omega arith
-sum-le (suc n) f g h = omega (arith, sum-le n f g (λ k l. h k (omega arith)), h n (omega arith))
 
 -- what pays scales, plant type by plant type
 type-pays : (p : Plant) (kw : ℕ) → cond (pays p) kw 0 ≤ cond (scales p) kw 0

@@ -7,6 +7,7 @@ use lib.IntN.{ℤ, pos, _+ℤ_}
 use Rattle.integers.specs.Numbers.{Σ}
 use Rattle.integers.proofs.Core.{Z}
 use Rattle.integers.proofs.Laws.{add-assoc}
+use Rattle.integers.proofs.Sum.{Σ-front}
 use Rattle.meaning.specs.Rows.{joined}
 use Rattle.meaning.specs.Text.{line}
 use Rattle.meaning.specs.Read.{withFront, pieces, overLines}
@@ -48,12 +49,6 @@ spaced-pieces : {f : List ℕ} {fs : List (List ℕ)} → From 45 f → Fields f
 unfolding spaced
 spaced-pieces h end = pieces-last (omega arith) h
 spaced-pieces {f} h (field k t) = pieces-more (omega arith) h _ ∙ ap (λ ps. f ∷ ps) (spaced-pieces k t)
-
--- a sum's first term
-Σ-front : (n : ℕ) (f : ℕ → ℤ) → Σ (suc n) f ≡ f 0 +ℤ Σ n (λ k. f (suc k))
-unfolding Σ
-Σ-front zero f = simp Z (omega arith)
-Σ-front (suc n) f = rw (Σ-front n f) (simp Z (omega arith))
 
 -- ---- F of the fields of each line, added up over the lines of a text
 abbrev pub over : (List (List ℕ) → ℤ) → List ℕ → ℤ

@@ -2,12 +2,13 @@
 use mathlib.Core.Path.{_≡_, refl, sym, _∙_}
 use mathlib.Core.List.{List, [], _∷_}
 use mathlib.Core.Bool.{cond}
-use Prim.Native.Nat.{ℕ, zero, suc, _≤_, _<_}
+use Prim.Native.Nat.{ℕ, _≤_, _<_}
 use native.Mathlib.Omega.{arith}
 use lib.IntN.{ℤ, pos, _+ℤ_, _*ℤ_}
 use lib.ListN.{length, getD, drop}
 use Rattle.integers.specs.Numbers.{Σ}
 use Rattle.integers.proofs.Core.{Z}
+use Rattle.integers.proofs.Sum.{Σ-none}
 use Rattle.meaning.specs.Study.{Study, Runs, node}
 use Rattle.meaning.specs.Name.{sameName}
 use Rattle.meaning.specs.Grid.{Grid, gridOf, place, nodeTec, payingTec}
@@ -64,11 +65,6 @@ no-letter side Demand fs = refl
 no-remainder : (side : Side) → left side ([] ∷ []) ≡ pos 0
 unfolding left sameName
 no-remainder side = refl
-
-Σ-nought : (n : ℕ) → Σ n (λ k. pos 0) ≡ pos 0
-unfolding Σ
-Σ-nought zero = refl
-Σ-nought (suc n) = rw (Σ-nought n) refl
 
 -- ---- line by line
 module _ (S : Study) (sound : SoundTables S) (runs : Runs) where
@@ -146,4 +142,7 @@ module _ (S : Study) (sound : SoundTables S) (runs : Runs) where
   remainder-read side =
       left-over side (sheet G runs)
       ∙ adds-all (left side) (add-sheet G runs (left side) named _ _ (remainder G runs side) (left-worth side)) (no-remainder side)
-      ∙ rw (Σ-nought (zones G Generation), Σ-nought (zones G Demand), Σ-nought (length (G .nodes))) (simp Z (omega arith))
+      ∙ rw (none (zones G Generation), none (zones G Demand), none (length (G .nodes))) (simp Z (omega arith))
+    where
+      none : (n : ℕ) → Σ n (λ k. pos 0) ≡ pos 0
+      none n = Σ-none n _ (λ k h. refl)
