@@ -1,18 +1,15 @@
--- Laws of columns, and of sums that read them.
-use mathlib.Core.Path.{_≡_, refl, sym, _∙_, ap}
-use mathlib.Core.Bool.{Bool, true, false, cond}
+-- Laws of columns.
+use mathlib.Core.Path.{_≡_, sym, _∙_}
+use mathlib.Core.Bool.{cond}
 use mathlib.Core.Logic.{_≢_}
 use mathlib.Core.List.{List}
-use Prim.Native.Nat.{ℕ, zero, suc, _+_, _*_, _≤_, _<_}
+use Prim.Native.Nat.{ℕ, _+_, _≤_, _<_}
 use native.Mathlib.Decide.{ℕ-discrete, decLt}
-use native.Mathlib.Numerals.{add-one}
 use native.Mathlib.Omega.{arith}
 use borrow.Author.Tests.{lt-ltb, le-ltb}
 use lib.Dec.{ltb}
-use lib.IntN.{ℤ, pos, _+ℤ_, _*ℤ_}
 use lib.ListN.{length, getD, set, length-set, replicate, length-replicate, getD-replicate}
 use lib.Seq.{getD-set-same, getD-set-other, ext-getD}
-use Rattle.integers.specs.Numbers.{sum, Σ}
 use Rattle.meaning.specs.Rows.{rows}
 use Rattle.meaning.proofs.Rows.{rows-at, rows-same, length-rows}
 use Rattle.charges.specs.Columns.{column}
@@ -57,7 +54,7 @@ module _ {A : Type 0} (nothing : A) (size : ℕ) (f : ℕ → A) where
   pub column-turn : {all : List A} {r : A} (i : ℕ) → i < size → all ≡ column nothing size i f → r ≡ f i → set all i r ≡ column nothing size (i + 1) f
   column-turn i h e q = rw (e, q) (column-more i h)
 
--- columns and sums of equal numbers
+-- columns of equal numbers
 pub column-same : {A : Type 0} (nothing : A) (size count : ℕ) (f g : ℕ → A) → ((i : ℕ) → i < count → f i ≡ g i)
     → column nothing size count f ≡ column nothing size count g
 unfolding column
@@ -66,22 +63,3 @@ column-same nothing size count f g h = rows-same size _ _ (λ i l. one i (decLt 
     one : (i : ℕ) → Dec (i < count) → cond (ltb i count) (f i) nothing ≡ cond (ltb i count) (g i) nothing
     one i (yes l) = simp (lt-ltb i count l) (h i l)
     one i (no l) = simp (le-ltb i count (omega arith))
-
-pub sum-same : (n : ℕ) (f g : ℕ → ℕ) → ((i : ℕ) → i < n → f i ≡ g i) → sum n f ≡ sum n g
-unfolding sum
-sum-same zero f g h = refl
-sum-same (suc n) f g h = rw (sum-same n f g (λ i l. h i (omega arith)), h n (omega arith))
-
-pub Σ-same : (n : ℕ) (f g : ℕ → ℤ) → ((i : ℕ) → i < n → f i ≡ g i) → Σ n f ≡ Σ n g
-unfolding Σ
-Σ-same zero f g h = refl
-Σ-same (suc n) f g h = rw (Σ-same n f g (λ i l. h i (omega arith)), h n (omega arith))
-
--- one more turn
-pub sum-zero : (f : ℕ → ℕ) → sum 0 f ≡ 0
-unfolding sum
-sum-zero f = refl
-
-pub sum-more : (n : ℕ) (f : ℕ → ℕ) → sum (n + 1) f ≡ sum n f + f n
-unfolding sum
-sum-more n f = rw add-one

@@ -3,9 +3,8 @@ use mathlib.Core.Path.{_≡_, sym, _∙_}
 use Prim.Native.Nat.{_+_, _≤_, _-_}
 use native.Mathlib.Omega.{arith}
 use Rattle.integers.specs.Numbers.{sum}
-use Rattle.sizes.proofs.Sums.{sum-part}
+use Rattle.integers.proofs.Sum.{sum-zero, sum-more, sum-part}
 use Rattle.charges.specs.Columns.{kwAt}
-use Rattle.charges.proofs.Columns.{sum-zero, sum-more}
 use Rattle.charges.proofs.kilowatts.total_kilowatts.Statement.{statement}
 use Rattle.charges.proofs.kilowatts.total_kilowatts.Tie as tie
 use Rattle.charges.proofs.kilowatts.total_kilowatts.Reads as reads
@@ -34,7 +33,7 @@ add-total : tie.Need-add-total Inv-loop μ-loop
 add-total c =
     let l = c .before .before .before in
     let f = kwAt (l .before .args .t1) in
-    omega (arith, sum-more (l .loop .v) f, sum-part f (l .loop .v + 1) (l .before .args .nodes) (omega arith))
+    omega (arith, sum-more (l .loop .v) f, sum-part (l .loop .v + 1) (l .before .args .nodes) f (omega arith))
 
 -- src/kilowatts.rt:59:9
 add-v : tie.Need-add-v Inv-loop μ-loop

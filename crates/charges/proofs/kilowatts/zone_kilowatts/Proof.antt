@@ -8,10 +8,9 @@ use native.Mathlib.Omega.{arith}
 use lib.Dec.{eqb}
 use Rattle.integers.specs.Numbers.{sum}
 use Rattle.meaning.specs.declared.Kw.{Kw}
-use Rattle.sizes.proofs.Sums.{sum-part}
+use Rattle.integers.proofs.Sum.{sum-zero, sum-more, sum-part}
 use Rattle.charges.specs.Columns.{numberAt, kwAt}
 use Rattle.charges.specs.Sums.{zoneKw}
-use Rattle.charges.proofs.Columns.{sum-zero, sum-more}
 use Rattle.charges.proofs.kilowatts.zone_kilowatts.Statement.{statement}
 use Rattle.charges.proofs.kilowatts.zone_kilowatts.Tie as tie
 use Rattle.charges.proofs.kilowatts.zone_kilowatts.Reads as reads
@@ -58,7 +57,7 @@ add-total c =
     let l = c .before .before .before .before in
     let a = l .before .args in
     let f = mine (a .t1) (a .t2) (a .zone) in
-    omega (arith, c .before .kilowatts-in .ensures, sum-more (l .loop .v) f, sum-part f (l .loop .v + 1) (a .nodes) (omega arith))
+    omega (arith, c .before .kilowatts-in .ensures, sum-more (l .loop .v) f, sum-part (l .loop .v + 1) (a .nodes) f (omega arith))
 
 -- src/kilowatts.rt:30:9
 add-v : tie.Need-add-v Inv-loop μ-loop
