@@ -9,7 +9,8 @@ ghost use lib.IntN.{pos, natAbs, _*ℤ_};
 ghost use lib.ListN.{length};
 ghost use Rattle.meaning.specs.Figures.{metres};
 ghost use Rattle.meaning.specs.Proposal.{potential};
-ghost use Rattle.charges.specs.Columns.{kwAt, numberAt};
+ghost use Rattle.integers.specs.Numbers.{nearest};
+ghost use Rattle.charges.specs.Columns.{kwAt, numberAt, column, distance};
 ghost use Rattle.charges.specs.Sums.{turned, share, zoneSum, SumFits};
 
 // Step 6: a demand node's distance is the negative of its wider metres.
@@ -68,4 +69,34 @@ pub fn zone_sum(
         v += 1;
     }
     total
+}
+
+// An average: a sum of metres times kilowatts, over the kilowatts, to the nearest.
+pub fn average(sum: i64, kw: Kw) -> Metres
+    ensures { λ r. ⌜ r .0 ≡ nearest sum (kw .0) ⌝ }
+{
+    Metres(integers::nearest(sum, kw.0))
+}
+
+// Step 7: the metres of each zone, with its kilowatts in hand.
+pub fn metres_by_zone(
+    side: Side,
+    kw: [Kw; 256],
+    of: [usize; 256],
+    wider: &[i64],
+    nodes: usize,
+    zones: usize,
+    weight: [Kw; 32],
+) -> [Metres; 32]
+    requires { ⌜ (zones ≤ 32) × (nodes ≤ 256) × (nodes ≤ length (now wider)) × SumFits side nodes (numberAt of) (kwAt kw) (potential (now wider)) ⌝ }
+    ensures { λ r. ⌜ r ≡ column (distance (pos 0)) 32 zones (λ k. distance (nearest (zoneSum side nodes (numberAt of) (kwAt kw) (potential (now (wider .entry))) (k + 1)) (kwAt weight k))) ⌝ }
+{
+    let mut all = [Metres(0); 32];
+    let mut k = 0;
+    while k < zones {
+        let sum = zone_sum(side, kw, of, wider, nodes, k + 1);
+        all[k] = average(sum, weight[k]);
+        k += 1;
+    }
+    all
 }
