@@ -2,3 +2,4 @@
 mod distances;
 pub mod figures;
 mod kilowatts;
+mod zones;

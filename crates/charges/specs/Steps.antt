@@ -1,0 +1,50 @@
+-- 01, steps 7 to 10, from the columns of a side to its figures, as the code goes: zones, C, tariffs, rests.
+use mathlib.Core.List.{List}
+use Prim.Native.Nat.{ℕ, _+_, _*_, _-_, _≤_, _<_}
+use lib.IntN.{ℤ, pos, natAbs, _+ℤ_, _-ℤ_, _*ℤ_}
+use Rattle.integers.specs.Numbers.{sum, Σ, floorDiv, nearest}
+use Rattle.meaning.specs.declared.Kw.{Kw}
+use Rattle.meaning.specs.declared.Metres.{Metres}
+use Rattle.meaning.specs.declared.MicroPerKw.{MicroPerKw}
+use Rattle.meaning.specs.declared.Side.{Side}
+use Rattle.meaning.specs.declared.Side.the-variants.{Generation, Demand}
+use Rattle.charges.specs.declared.zones.SideColumns.{SideColumns}
+use Rattle.charges.specs.declared.zones.Zones.{Zones}
+use Rattle.charges.specs.Columns.{kilowatts, distance, price, numberAt, kwAt, metresAt, priceAt, column}
+use Rattle.charges.specs.Sums.{zoneKw, zoneSum, SumFits}
+
+-- step 7
+unfoldable pub zonesFrom : Side → SideColumns → (nodes : ℕ) (wider : ℕ → ℤ) → Zones
+zonesFrom side s n wider =
+    let of = numberAt (s .zone) in
+    let weight = kwAt (s .weight) in
+    record {
+      count = s .zones;
+      weight = column (kilowatts 0) 32 (s .zones) (λ k. kilowatts (zoneKw n of weight (k + 1)));
+      paying = column (kilowatts 0) 32 (s .zones) (λ k. kilowatts (zoneKw n of (kwAt (s .paying)) (k + 1)));
+      metres = column (distance (pos 0)) 32 (s .zones) (λ k. distance (nearest (zoneSum side n of weight wider (k + 1)) (zoneKw n of weight (k + 1))));
+      total = kilowatts (sum n (kwAt (s .paying)));
+    }
+
+-- no step of it wraps
+pub record ColumnsFit (side : Side) (s : SideColumns) (n : ℕ) (wider : ℕ → ℤ) : Type 0 where
+  pub few : n ≤ 256
+  pub zones : s .zones ≤ 32
+  pub weights : (zone : ℕ) → zoneKw n (numberAt (s .zone)) (kwAt (s .weight)) zone ≤ 100000000
+  pub pays : (zone : ℕ) → zoneKw n (numberAt (s .zone)) (kwAt (s .paying)) zone ≤ 100000000
+  pub total : sum n (kwAt (s .paying)) ≤ 100000000
+  pub sums : SumFits side n (numberAt (s .zone)) (kwAt (s .weight)) wider
+
+-- step 8: what zone k adds, and "sum of zone metres times kW"
+abbrev pub metresTimes : List Metres → List Kw → ℕ → ℤ
+metresTimes metres paying k = metresAt metres k *ℤ pos (kwAt paying k)
+
+unfoldable pub metresOver : Zones → ℤ
+metresOver z = Σ (z .count) (metresTimes (z .metres) (z .paying))
+
+pub record ZonesFit (z : Zones) : Type 0 where
+  pub few : z .count ≤ 32
+  pub near : (k : ℕ) → k < z .count → natAbs (metresAt (z .metres) k) ≤ 10000000
+  pub light : (k : ℕ) → k < z .count → kwAt (z .paying) k ≤ 100000000
+  pub total : z .total .0 ≤ 100000000
+  pub sums : (k : ℕ) → k ≤ z .count → natAbs (Σ k (metresTimes (z .metres) (z .paying))) ≤ 1000000000000000
