@@ -1,16 +1,17 @@
 -- Sizes of products and sums, as the machine's 64 bits ask them. Plain numbers.
 use mathlib.Core.Path.{_≡_}
 use Prim.Native.Nat.{ℕ, _+_, _*_, _≤_, _<_}
-use native.Mathlib.Nat.{le-trans}
+use native.Mathlib.Nat.{le-refl, le-trans}
 use native.Mathlib.Omega.{arith}
-use lib.IntN.{ℤ, pos, natAbs, _+ℤ_, _*ℤ_}
+use lib.IntN.{ℤ, pos, natAbs, _+ℤ_, _-ℤ_, _*ℤ_}
 use mir.Syntax.{w64}
 use mir.Val.{SFits}
 use Rattle.integers.proofs.Core.{Z}
-use Rattle.integers.proofs.Laws.{abs-neg, abs-mul-le}
+use Rattle.integers.proofs.Laws.{abs-add, abs-sub, abs-neg, abs-mul-le}
 use Rattle.meaning.specs.declared.Side.{Side}
 use Rattle.meaning.specs.declared.Side.the-variants.{Generation, Demand}
 use Rattle.charges.specs.Sums.{turned}
+use Rattle.charges.specs.Steps.{shifted}
 
 pub abs-fits : (z : ℤ) → natAbs z ≤ 9000000000000000000 → SFits w64 z
 abs-fits z h = simp Z (omega (arith, simp Z at h))
@@ -22,3 +23,25 @@ pub turned-within : (side : Side) (z : ℤ) (b : ℕ) → natAbs z ≤ b → nat
 unfolding turned
 turned-within Generation z b h = h
 turned-within Demand z b h = rw (abs-neg z) h
+
+pub shifted-within : (side : Side) (m c : ℤ) (a b : ℕ) → natAbs m ≤ a → natAbs c ≤ b → natAbs (shifted side m c) ≤ a + b
+unfolding shifted
+shifted-within Generation m c a b h k = omega (arith, abs-add m c)
+shifted-within Demand m c a b h k = omega (arith, abs-sub m c)
+
+-- step 8: what is divided for C, in thousandths of two sums
+module _ (q p : ℕ) (x y : ℤ) (hq : q ≤ 1000) (hp : p ≤ 1000) (hx : natAbs x ≤ 1000000000000000) (hy : natAbs y ≤ 1000000000000000) where
+  first-most : natAbs (pos q *ℤ x) ≤ 1000000000000000000
+  first-most = abs-mul-le (pos q) x hq hx
+
+  second-most : natAbs (pos p *ℤ y) ≤ 1000000000000000000
+  second-most = abs-mul-le (pos p) y hp hy
+
+  pub first-fits : SFits w64 (pos q *ℤ x)
+  first-fits = abs-fits (pos q *ℤ x) (omega (arith, first-most))
+
+  pub second-fits : SFits w64 (pos p *ℤ y)
+  second-fits = abs-fits (pos p *ℤ y) (omega (arith, second-most))
+
+  pub mixed-fits : SFits w64 (pos q *ℤ x -ℤ pos p *ℤ y)
+  mixed-fits = abs-fits (pos q *ℤ x -ℤ pos p *ℤ y) (omega (arith, abs-sub (pos q *ℤ x) (pos p *ℤ y), first-most, second-most))

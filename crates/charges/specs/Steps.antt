@@ -48,3 +48,13 @@ pub record ZonesFit (z : Zones) : Type 0 where
   pub light : (k : ℕ) → k < z .count → kwAt (z .paying) k ≤ 100000000
   pub total : z .total .0 ≤ 100000000
   pub sums : (k : ℕ) → k ≤ z .count → natAbs (Σ k (metresTimes (z .metres) (z .paying))) ≤ 1000000000000000
+
+-- "C is the nearest of ((1000-p) x sum of demand zone metres times kW, less p x sum of generation zone metres times kW) /
+-- (p x total TEC + (1000-p) x total demand)"
+unfoldable pub cFrom : (p : ℕ) → (generation demand : Zones) → ℤ
+cFrom p g d = nearest (pos (1000 - p) *ℤ metresOver d -ℤ pos p *ℤ metresOver g) (p * g .total .0 + (1000 - p) * d .total .0)
+
+-- "Generation zones add C, demand zones subtract it."
+unfoldable pub shifted : Side → (metres c : ℤ) → ℤ
+shifted Generation m c = m +ℤ c
+shifted Demand m c = m -ℤ c

@@ -2,4 +2,5 @@
 mod distances;
 pub mod figures;
 mod kilowatts;
+mod tariffs;
 mod zones;
