@@ -1,13 +1,15 @@
 -- Sizes of products and sums, as the machine's 64 bits ask them. Plain numbers.
 use mathlib.Core.Path.{_≡_}
 use Prim.Native.Nat.{ℕ, _+_, _*_, _≤_, _<_}
-use native.Mathlib.Nat.{le-refl, le-trans}
+use native.Mathlib.Nat.{le-trans, mul-le-mul-left}
 use native.Mathlib.Omega.{arith}
 use lib.IntN.{ℤ, pos, natAbs, _+ℤ_, _-ℤ_, _*ℤ_}
 use mir.Syntax.{w64}
 use mir.Val.{SFits}
+use Rattle.integers.specs.Numbers.{sum, Σ}
 use Rattle.integers.proofs.Core.{Z}
 use Rattle.integers.proofs.Laws.{abs-add, abs-sub, abs-neg, abs-mul-le}
+use Rattle.integers.proofs.Sum.{sum-part, sum-item, Σ-weighted}
 use Rattle.meaning.specs.declared.Side.{Side}
 use Rattle.meaning.specs.declared.Side.the-variants.{Generation, Demand}
 use Rattle.charges.specs.Sums.{turned}
@@ -18,6 +20,15 @@ abs-fits z h = simp Z (omega (arith, simp Z at h))
 
 pub product-fits : (a b : ℕ) (z : ℤ) (k : ℕ) → natAbs z ≤ a → k ≤ b → a * b ≤ 9000000000000000000 → SFits w64 (z *ℤ pos k)
 product-fits a b z k h l m = abs-fits (z *ℤ pos k) (le-trans (abs-mul-le z (pos k) h l) m)
+
+-- prices or distances within b, times kilowatts that come to at most 10^8, as far as a loop has come
+module _ (b n : ℕ) (f : ℕ → ℤ) (w : ℕ → ℕ) (near : (k : ℕ) → k < n → natAbs (f k) ≤ b) (light : sum n w ≤ 100000000) where
+  pub worth-most : (k : ℕ) → k ≤ n → natAbs (Σ k (λ i. f i *ℤ pos (w i))) ≤ b * 100000000
+  worth-most k h =
+      le-trans (Σ-weighted b k f w (λ i l. near i (omega arith))) (mul-le-mul-left b (le-trans (sum-part k n w h) light))
+
+  pub one-light : (k : ℕ) → k < n → w k ≤ 100000000
+  one-light k h = le-trans (sum-item n k w h) light
 
 pub turned-within : (side : Side) (z : ℤ) (b : ℕ) → natAbs z ≤ b → natAbs (turned side z) ≤ b
 unfolding turned

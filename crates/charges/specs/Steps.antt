@@ -42,12 +42,12 @@ metresTimes metres paying k = metresAt metres k *ℤ pos (kwAt paying k)
 unfoldable pub metresOver : Zones → ℤ
 metresOver z = Σ (z .count) (metresTimes (z .metres) (z .paying))
 
+-- no step of what is made of zones wraps: no zone is further than 10^7 m, and none of the kilowatts past 10^8
 pub record ZonesFit (z : Zones) : Type 0 where
   pub few : z .count ≤ 32
   pub near : (k : ℕ) → k < z .count → natAbs (metresAt (z .metres) k) ≤ 10000000
-  pub light : (k : ℕ) → k < z .count → kwAt (z .paying) k ≤ 100000000
+  pub pays : sum (z .count) (kwAt (z .paying)) ≤ 100000000
   pub total : z .total .0 ≤ 100000000
-  pub sums : (k : ℕ) → k ≤ z .count → natAbs (Σ k (metresTimes (z .metres) (z .paying))) ≤ 1000000000000000
 
 -- "C is the nearest of ((1000-p) x sum of demand zone metres times kW, less p x sum of generation zone metres times kW) /
 -- (p x total TEC + (1000-p) x total demand)"

@@ -9,8 +9,9 @@ use mir.Val.{SFits, toZ, ofZ}
 use Rattle.integers.specs.Numbers.{Σ}
 use Rattle.integers.proofs.Machine.{Back, back}
 use Rattle.integers.proofs.Sum.{Σ-zero, Σ-more}
+use Rattle.charges.specs.Columns.{metresAt, kwAt}
 use Rattle.charges.specs.Steps.{metresTimes, metresOver}
-use Rattle.charges.proofs.Laws.{abs-fits}
+use Rattle.charges.proofs.Laws.{abs-fits, worth-most, one-light}
 use Rattle.charges.proofs.zones.metres_over_zones.Statement.{statement}
 use Rattle.charges.proofs.zones.metres_over_zones.Tie as tie
 use Rattle.charges.proofs.zones.metres_over_zones.Reads as reads
@@ -42,7 +43,9 @@ times-requires : tie.Need-times-requires Inv-loop μ-loop
 times-requires c κs =
     let l = c .before .before .before in
     let p = l .before .before .before .pre in
-    (p .near (l .loop .k) (omega arith), p .light (l .loop .k) (omega arith))
+    let z = l .before .before .before .args .zones in
+    (p .near (l .loop .k) (omega arith),
+    one-light 10000000 (z .count) (metresAt (z .metres)) (kwAt (z .paying)) (p .near) (p .pays) (l .loop .k) (omega arith))
 
 -- the sum so far, and with this zone
 module _ (c : tie.After-times Inv-loop μ-loop) where
@@ -62,7 +65,14 @@ module _ (c : tie.After-times Inv-loop μ-loop) where
   this = back _ (c .times .ok) ∙ c .times .ensures
 
   both : SFits w64 (Σ I term +ℤ term I)
-  both = rw (Σ-more I term) at (abs-fits (Σ (I + 1) term) (omega (arith, L .before .before .before .pre .sums (I + 1) (omega arith))))
+  both =
+      let s = L .before .before .before in
+      let z = s .args .zones in
+      rw (Σ-more I term) at (abs-fits (Σ (I + 1) term)
+      (omega (
+        arith,
+        worth-most 10000000 (z .count) (metresAt (z .metres)) (kwAt (z .paying)) (s .pre .near) (s .pre .pays) (I + 1) (omega arith),
+      )))
 
 add-total : tie.Need-add-total Inv-loop μ-loop
 add-total c = simp (so-far, this) (both c)
