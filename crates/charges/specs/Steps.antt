@@ -1,6 +1,7 @@
 -- 01, steps 7 to 10, from the columns of a side to its figures, as the code goes: zones, C, tariffs, rests.
 use mathlib.Core.List.{List}
 use Prim.Native.Nat.{ℕ, _+_, _*_, _-_, _≤_, _<_}
+use lib.ListN.{getD}
 use lib.IntN.{ℤ, pos, natAbs, _+ℤ_, _-ℤ_, _*ℤ_}
 use Rattle.integers.specs.Numbers.{sum, Σ, floorDiv, nearest}
 use Rattle.meaning.specs.declared.Kw.{Kw}
@@ -8,6 +9,8 @@ use Rattle.meaning.specs.declared.Metres.{Metres}
 use Rattle.meaning.specs.declared.MicroPerKw.{MicroPerKw}
 use Rattle.meaning.specs.declared.Side.{Side}
 use Rattle.meaning.specs.declared.Side.the-variants.{Generation, Demand}
+use Rattle.meaning.specs.Figures.{metres, tariff}
+use Rattle.charges.specs.declared.figures.LocalFigures.{LocalFigures}
 use Rattle.charges.specs.declared.zones.SideColumns.{SideColumns}
 use Rattle.charges.specs.declared.zones.Zones.{Zones}
 use Rattle.charges.specs.Columns.{kilowatts, distance, price, numberAt, kwAt, metresAt, priceAt, column}
@@ -58,3 +61,19 @@ cFrom p g d = nearest (pos (1000 - p) *ℤ metresOver d -ℤ pos p *ℤ metresOv
 unfoldable pub shifted : Side → (metres c : ℤ) → ℤ
 shifted Generation m c = m +ℤ c
 shifted Demand m c = m -ℤ c
+
+-- step 10: what zone k brings in
+abbrev pub priceTimes : List MicroPerKw → List Kw → ℕ → ℤ
+priceTimes tariff paying k = priceAt tariff k *ℤ pos (kwAt paying k)
+
+-- steps 6 and 9: "Local tariffs use the node's local metres and the local factor, without C."
+unfoldable pub localFrom : Kw → (nanometres : ℤ) (constant factor : ℕ) → LocalFigures
+localFrom tec nanometres constant factor =
+    record { tec = tec; metres = distance (metres nanometres); tariff = price (tariff (metres nanometres) constant factor) }
+
+abbrev pub noLocal : LocalFigures
+noLocal = record { tec = kilowatts 0; metres = distance (pos 0); tariff = price (pos 0) }
+
+-- the local tariff of node v
+abbrev pub localPrice : List LocalFigures → ℕ → ℤ
+localPrice local v = getD local v noLocal .tariff .0

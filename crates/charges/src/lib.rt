@@ -1,6 +1,7 @@
 // 01, steps 6 to 10: what each zone and each node pays. The figures of a case, from columns of numbers.
 mod distances;
 pub mod figures;
+mod income;
 mod kilowatts;
 mod tariffs;
 mod zones;

@@ -43,9 +43,10 @@ times-requires : tie.Need-times-requires Inv-loop μ-loop
 times-requires c κs =
     let l = c .before .before .before in
     let p = l .before .before .before .pre in
-    let z = l .before .before .before .args .zones in
-    (p .near (l .loop .k) (omega arith),
-    one-light 10000000 (z .count) (metresAt (z .metres)) (kwAt (z .paying)) (p .near) (p .pays) (l .loop .k) (omega arith))
+    let z = l .before .before .before .args .zones in (
+      p .near (l .loop .k) (omega arith),
+      one-light 10000000 (z .count) (metresAt (z .metres)) (kwAt (z .paying)) (p .near) (p .pays) (l .loop .k) (omega arith),
+    )
 
 -- the sum so far, and with this zone
 module _ (c : tie.After-times Inv-loop μ-loop) where
