@@ -1,19 +1,20 @@
 -- Sizes of products and sums, as the machine's 64 bits ask them. Plain numbers.
 use mathlib.Core.Path.{_≡_}
-use Prim.Native.Nat.{ℕ, _+_, _*_, _≤_, _<_}
-use native.Mathlib.Nat.{le-trans, mul-le-mul-left}
+use Prim.Native.Nat.{ℕ, _+_, _*_, _-_, _≤_, _<_}
+use native.Mathlib.Nat.{le-trans, mul-le-mul, mul-le-mul-left}
 use native.Mathlib.Omega.{arith}
 use lib.IntN.{ℤ, pos, natAbs, _+ℤ_, _-ℤ_, _*ℤ_}
 use mir.Syntax.{w64}
 use mir.Val.{SFits}
-use Rattle.integers.specs.Numbers.{sum, Σ}
+use Rattle.integers.specs.Numbers.{sum, Σ, floorDiv}
 use Rattle.integers.proofs.Core.{Z}
+use Rattle.integers.proofs.Div.{floor-is}
 use Rattle.integers.proofs.Laws.{abs-add, abs-sub, abs-neg, abs-mul-le}
 use Rattle.integers.proofs.Sum.{sum-part, sum-item, Σ-weighted}
 use Rattle.meaning.specs.declared.Side.{Side}
 use Rattle.meaning.specs.declared.Side.the-variants.{Generation, Demand}
 use Rattle.charges.specs.Sums.{turned}
-use Rattle.charges.specs.Steps.{shifted}
+use Rattle.charges.specs.Steps.{shifted, shareOf, restFrom}
 
 pub abs-fits : (z : ℤ) → natAbs z ≤ 9000000000000000000 → SFits w64 z
 abs-fits z h = simp Z (omega (arith, simp Z at h))
@@ -56,3 +57,35 @@ module _ (q p : ℕ) (x y : ℤ) (hq : q ≤ 1000) (hp : p ≤ 1000) (hx : natAb
 
   pub mixed-fits : SFits w64 (pos q *ℤ x -ℤ pos p *ℤ y)
   mixed-fits = abs-fits (pos q *ℤ x -ℤ pos p *ℤ y) (omega (arith, abs-sub (pos q *ℤ x) (pos p *ℤ y), first-most, second-most))
+
+-- step 10: target, rest and what is left of it
+share-most : (side : Side) (p : ℕ) → p ≤ 1000 → shareOf side p ≤ 1000
+unfolding shareOf
+share-most Generation p h = omega arith
+share-most Demand p h = h
+
+pub target-most : (side : Side) (p revenue : ℕ) → p ≤ 1000 → revenue ≤ 10000000000 → revenue * shareOf side p ≤ 10000000000000
+target-most side p revenue h r = mul-le-mul r (share-most side p h)
+
+module _ (target : ℕ) (x y : ℤ) (ht : target ≤ 10000000000000000) (hx : natAbs x ≤ 1000000000000000000) (hy : natAbs y ≤ 1000000000000000000) where
+  pub less-fits : SFits w64 (pos target -ℤ x)
+  less-fits = simp Z (omega (arith, simp Z at hx))
+
+  pub rest-fits : SFits w64 (pos target -ℤ x -ℤ y)
+  rest-fits = simp Z (omega (arith, simp Z at hx, simp Z at hy))
+
+  rest-least : natAbs (pos target -ℤ x -ℤ y) ≤ 3000000000000000000
+  rest-least = simp Z (omega (arith, simp Z at hx, simp Z at hy))
+
+pub rest-most : (side : Side) (p revenue : ℕ) (x y : ℤ) → p ≤ 1000 → revenue ≤ 10000000000
+    → natAbs x ≤ 1000000000000000000 → natAbs y ≤ 1000000000000000000 → natAbs (restFrom side p revenue x y) ≤ 3000000000000000000
+unfolding restFrom
+rest-most side p revenue x y h r hx hy =
+    rest-least (revenue * shareOf side p * 1000) x y (omega (arith, target-most side p revenue h r)) hx hy
+
+module _ (z : ℤ) (d : ℕ) (hz : natAbs z ≤ 3000000000000000000) (above : 1 ≤ d) (light : d ≤ 100000000) where
+  pub multiple-fits : SFits w64 (floorDiv z d *ℤ pos d)
+  multiple-fits = let f = floor-is z d above in simp Z (omega (arith, simp Z at hz, simp Z at (f .low), simp Z at (f .high)))
+
+  pub left-fits : SFits w64 (z -ℤ floorDiv z d *ℤ pos d)
+  left-fits = let f = floor-is z d above in simp Z (omega (arith, simp Z at hz, simp Z at (f .low), simp Z at (f .high)))

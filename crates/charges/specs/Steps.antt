@@ -77,3 +77,12 @@ noLocal = record { tec = kilowatts 0; metres = distance (pos 0); tariff = price 
 -- the local tariff of node v
 abbrev pub localPrice : List LocalFigures → ℕ → ℤ
 localPrice local v = getD local v noLocal .tariff .0
+
+-- step 10: "Demand's target in micro-pounds is revenue x p x 1,000; generation's is revenue x (1000-p) x 1,000."
+unfoldable pub shareOf : Side → (p : ℕ) → ℕ
+shareOf Generation p = 1000 - p
+shareOf Demand p = p
+
+-- "its target less wider income and local income"
+unfoldable pub restFrom : Side → (p revenue : ℕ) (income localIncome : ℤ) → ℤ
+restFrom side p revenue income localIncome = pos (revenue * shareOf side p * 1000) -ℤ income -ℤ localIncome

@@ -3,5 +3,6 @@ mod distances;
 pub mod figures;
 mod income;
 mod kilowatts;
+mod rests;
 mod tariffs;
 mod zones;
