@@ -4,5 +4,6 @@ pub mod figures;
 mod income;
 mod kilowatts;
 mod rests;
+mod sides;
 mod tariffs;
 mod zones;
