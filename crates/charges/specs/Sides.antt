@@ -8,13 +8,16 @@ use Rattle.meaning.specs.declared.Metres.{Metres}
 use Rattle.meaning.specs.declared.MicroPerKw.{MicroPerKw}
 use Rattle.meaning.specs.declared.Side.{Side}
 use Rattle.meaning.specs.declared.Side.the-variants.{Generation, Demand}
-use Rattle.meaning.specs.Figures.{tariff, residualOf, remainderOf}
+use Rattle.meaning.specs.Figures.{metres, tariff, residualOf, remainderOf}
 use Rattle.charges.specs.declared.figures.ZoneFigures.{ZoneFigures}
 use Rattle.charges.specs.declared.figures.SideFigures.{SideFigures}
+use Rattle.charges.specs.declared.figures.LocalFigures.{LocalFigures}
+use Rattle.charges.specs.declared.figures.Figures.{Figures}
 use Rattle.charges.specs.declared.sides.MoneySettings.{MoneySettings}
+use Rattle.charges.specs.declared.zones.SideColumns.{SideColumns}
 use Rattle.charges.specs.declared.zones.Zones.{Zones}
 use Rattle.charges.specs.Columns.{kilowatts, distance, price, kwAt, metresAt, column}
-use Rattle.charges.specs.Steps.{shifted, restFrom, ZonesFit}
+use Rattle.charges.specs.Steps.{zonesFrom, cFrom, shifted, localFrom, noLocal, restFrom, ColumnsFit, ZonesFit}
 
 -- the line of a zone
 unfoldable pub lineFrom : Side → Kw → (metres c : Metres) (tariff residual : MicroPerKw) → ZoneFigures
@@ -73,3 +76,39 @@ pub record SideFits (z : Zones) (c : Metres) (s : MoneySettings) (localIncome : 
   pub near : natAbs (c .0) ≤ 10000000
   pub settings : SettingsFit s
   pub local : natAbs localIncome ≤ 1000000000000000000
+
+module _ (g d : SideColumns) (n : ℕ) (s : MoneySettings) (wider local : ℕ → ℤ) where
+  -- step 8, with the zones of both sides
+  abbrev pub cOf : Metres
+  cOf = distance (cFrom (s .p) (zonesFrom Generation g n wider) (zonesFrom Demand d n wider))
+
+  -- step 9: the local line of node v
+  abbrev pub localAt : ℕ → LocalFigures
+  localAt v = localFrom (getD (g .weight) v (kilowatts 0)) (local v) (s .constant) (s .«local_factor»)
+
+  -- step 10: "node local tariffs times TEC"
+  unfoldable pub localIncomeFrom : ℤ
+  localIncomeFrom = Σ n (λ v. tariff (metres (local v)) (s .constant) (s .«local_factor») *ℤ pos (kwAt (g .paying) v))
+
+  -- the figures of a case; demand has no local income
+  unfoldable pub figuresFrom : Figures
+  figuresFrom =
+      record {
+        c = cOf;
+        generation = sideFrom Generation (zonesFrom Generation g n wider) cOf s localIncomeFrom;
+        demand = sideFrom Demand (zonesFrom Demand d n wider) cOf s (pos 0);
+        nodes = n;
+        local = column noLocal 256 n localAt;
+      }
+
+  -- no step of it wraps
+  pub record CaseFits : Type 0 where
+    pub generation : ColumnsFit Generation g n wider
+    pub demand : ColumnsFit Demand d n wider
+    pub generationZones : ZonesFit (zonesFrom Generation g n wider)
+    pub demandZones : ZonesFit (zonesFrom Demand d n wider)
+    pub someGeneration : 1 ≤ zonesFrom Generation g n wider .total .0
+    pub someDemand : 1 ≤ zonesFrom Demand d n wider .total .0
+    pub near : natAbs (cOf .0) ≤ 10000000
+    pub settings : SettingsFit s
+    pub localNear : (v : ℕ) → v < n → natAbs (metres (local v)) ≤ 10000000
