@@ -5,7 +5,6 @@ use Prim.Native.Nat.{ℕ, _≤_, _<_, zero-le}
 use native.Mathlib.Nat.{le-refl, le-trans}
 use native.Mathlib.Omega.{arith}
 use lib.IntN.{ℤ, pos, natAbs, _*ℤ_}
-use lib.ListN.{getD}
 use Rattle.integers.specs.Numbers.{Σ}
 use Rattle.integers.proofs.Sum.{Σ-same}
 use Rattle.meaning.specs.declared.Metres.{Metres}
@@ -17,7 +16,7 @@ use Rattle.charges.specs.declared.figures.Figures.{Figures}
 use Rattle.charges.specs.declared.sides.MoneySettings.{MoneySettings}
 use Rattle.charges.specs.declared.zones.SideColumns.{SideColumns}
 use Rattle.charges.specs.declared.zones.Zones.{Zones}
-use Rattle.charges.specs.Columns.{kilowatts, distance, kwAt, column}
+use Rattle.charges.specs.Columns.{distance, kwAt, column}
 use Rattle.charges.specs.Steps.{zonesFrom, cFrom, localFrom, noLocal, localPrice, ZonesFit}
 use Rattle.charges.specs.Sides.{sideFrom, cOf, localAt, localIncomeFrom, figuresFrom, SideFits, CaseFits}
 use Rattle.charges.proofs.Columns.{column-at}

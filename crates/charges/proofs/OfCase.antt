@@ -1,12 +1,10 @@
 -- What is made of the zones of a grid, with C, tariffs, incomes and rests, are the figures of the grid.
 use mathlib.Core.Path.{_≡_, refl, sym, _∙_, ap, ap₂, subst}
 use mathlib.Core.List.{List}
-use Prim.Native.Nat.{ℕ, suc, _+_, _*_, _-_, _≤_, _<_}
-use native.Mathlib.Nat.{le-trans}
+use Prim.Native.Nat.{ℕ, suc, _*_, _≤_, _<_}
 use native.Mathlib.Omega.{arith}
-use lib.IntN.{ℤ, pos, natAbs, _+ℤ_, _-ℤ_, _*ℤ_}
+use lib.IntN.{ℤ, pos, natAbs, _*ℤ_}
 use lib.ListN.{length, getD}
-use Rattle.integers.specs.Numbers.{sum, Σ, nearest}
 use Rattle.integers.proofs.Sum.{sum-same, Σ-same}
 use Rattle.meaning.specs.declared.Kw.{Kw}
 use Rattle.meaning.specs.declared.Metres.{Metres}
@@ -14,7 +12,7 @@ use Rattle.meaning.specs.declared.MicroPerKw.{MicroPerKw}
 use Rattle.meaning.specs.declared.Side.{Side}
 use Rattle.meaning.specs.declared.Side.the-variants.{Generation, Demand}
 use Rattle.meaning.specs.Study.{Runs}
-use Rattle.meaning.specs.Grid.{Grid, payingTec}
+use Rattle.meaning.specs.Grid.{Grid}
 use Rattle.meaning.specs.Proposal.{potential}
 use Rattle.meaning.specs.Figures.{metres, tariff, zones, weight, paying, zoneWeight, zonePaying, totalPaying, overZones, target, zonalMetres, C, afterC, zoneTariff, localMetres, localTariff, localIncome, rest, residual, residualOf, remainder, remainderOf, zoneTotal}
 use Rattle.sizes.specs.Bounds.{KilowattsFit, MetresFit}
@@ -25,8 +23,8 @@ use Rattle.charges.specs.declared.figures.Figures.{Figures}
 use Rattle.charges.specs.declared.sides.MoneySettings.{MoneySettings}
 use Rattle.charges.specs.declared.zones.SideColumns.{SideColumns}
 use Rattle.charges.specs.declared.zones.Zones.{Zones}
-use Rattle.charges.specs.Columns.{kilowatts, distance, price, kwAt, metresAt, column}
-use Rattle.charges.specs.Steps.{zonesFrom, metresOver, metresTimes, cFrom, shifted, shareOf, restFrom, localFrom, noLocal, ZonesFit}
+use Rattle.charges.specs.Columns.{kilowatts, distance, price, kwAt}
+use Rattle.charges.specs.Steps.{zonesFrom, metresOver, cFrom, shifted, shareOf, restFrom, localFrom, noLocal, ZonesFit}
 use Rattle.charges.specs.Sides.{lineFrom, noLine, tariffFrom, incomeFrom, sideFrom, cOf, localAt, localIncomeFrom, figuresFrom, CaseFits, SettingsFit}
 use Rattle.charges.specs.Case.{zoneFigures, sideFigures, localFigures, figuresOf, SideOf, MoneyOf, CaseOf}
 use Rattle.charges.proofs.Columns.{column-at, column-same}

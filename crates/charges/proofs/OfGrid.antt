@@ -1,14 +1,14 @@
 -- The columns of a grid: what is made of them are the figures of the grid, and no step of it wraps.
-use mathlib.Core.Path.{_≡_, refl, sym, _∙_, ap, ap₂, subst}
+use mathlib.Core.Path.{_≡_, refl, _∙_, ap, ap₂}
 use mathlib.Core.Bool.{cond}
 use mathlib.Core.List.{List}
-use Prim.Native.Nat.{ℕ, suc, _+_, _*_, _-_, _≤_, _<_}
+use Prim.Native.Nat.{ℕ, suc, _+_, _≤_, _<_}
 use native.Mathlib.Nat.{le-trans, mul-le-mul-left}
 use native.Mathlib.Numerals.{add-one}
 use native.Mathlib.Omega.{arith}
 use lib.Dec.{eqb}
-use lib.IntN.{ℤ, pos, negℤ, natAbs, _+ℤ_, _-ℤ_, _*ℤ_}
-use lib.ListN.{length, getD}
+use lib.IntN.{ℤ, pos, _*ℤ_}
+use lib.ListN.{length}
 use Rattle.integers.specs.Numbers.{sum, Σ, nearest}
 use Rattle.integers.proofs.Sum.{sum-same, Σ-same}
 use Rattle.meaning.specs.declared.Kw.{Kw}
@@ -18,16 +18,16 @@ use Rattle.meaning.specs.declared.Side.the-variants.{Generation, Demand}
 use Rattle.meaning.specs.Study.{Runs}
 use Rattle.meaning.specs.Grid.{Grid}
 use Rattle.meaning.specs.Proposal.{potential}
-use Rattle.meaning.specs.Figures.{metres, widerMetres, zones, zoneOf, weight, paying, zoneWeight, zonePaying, totalPaying, overZones, zonalMetres, C}
+use Rattle.meaning.specs.Figures.{metres, widerMetres, zones, weight, paying, zoneWeight, zonePaying, totalPaying, zonalMetres}
 use Rattle.meaning.specs.Figures as meaning
 use Rattle.sizes.specs.Bounds.{zoneShare, KilowattsFit, MetresFit}
 use Rattle.charges.specs.declared.zones.SideColumns.{SideColumns}
 use Rattle.charges.specs.declared.zones.Zones.{Zones}
-use Rattle.charges.specs.Columns.{kilowatts, distance, price, numberAt, kwAt, metresAt, column}
+use Rattle.charges.specs.Columns.{kilowatts, distance, numberAt, kwAt, column}
 use Rattle.charges.specs.Sums.{zoneKw, turned, share, zoneSum, SumFits}
-use Rattle.charges.specs.Steps.{zonesFrom, metresOver, metresTimes, ColumnsFit, ZonesFit}
+use Rattle.charges.specs.Steps.{zonesFrom, ColumnsFit}
 use Rattle.charges.specs.Case.{SideOf}
-use Rattle.charges.proofs.Columns.{column-at, column-same}
+use Rattle.charges.proofs.Columns.{column-same}
 
 -- step 6, by side
 turned-is : (runs : Runs) (side : Side) (v : ℕ) → turned side (metres (potential (runs .wider) v)) ≡ meaning.distance runs side v

@@ -1,7 +1,7 @@
 -- The figures of a side, as the code makes them, and their sizes.
 use mathlib.Core.Path.{_≡_, sym, _∙_, ap, ap₂, subst}
 use mathlib.Core.List.{List}
-use Prim.Native.Nat.{ℕ, _+_, _*_, _≤_, _<_}
+use Prim.Native.Nat.{ℕ, _*_, _≤_, _<_}
 use native.Mathlib.Nat.{le-refl, le-trans}
 use native.Mathlib.Omega.{arith}
 use lib.IntN.{ℤ, pos, natAbs, _*ℤ_}
@@ -10,7 +10,6 @@ use Rattle.integers.specs.Numbers.{Σ}
 use Rattle.integers.proofs.Div.{floor-abs, nearest-within}
 use Rattle.integers.proofs.Laws.{abs-mul-le}
 use Rattle.integers.proofs.Sum.{Σ-same}
-use Rattle.meaning.specs.declared.Kw.{Kw}
 use Rattle.meaning.specs.declared.Metres.{Metres}
 use Rattle.meaning.specs.declared.MicroPerKw.{MicroPerKw}
 use Rattle.meaning.specs.declared.Side.{Side}

@@ -1,16 +1,16 @@
 -- The steps as the code makes them, from what it has in hand.
-use mathlib.Core.Path.{_≡_, refl, sym, _∙_, ap}
+use mathlib.Core.Path.{_≡_, ap}
 use mathlib.Core.List.{List}
-use Prim.Native.Nat.{ℕ, _+_, _≤_, _<_}
+use Prim.Native.Nat.{ℕ, _+_, _≤_}
 use native.Mathlib.Omega.{arith}
 use lib.IntN.{ℤ, pos}
-use Rattle.integers.specs.Numbers.{sum, Σ, nearest}
+use Rattle.integers.specs.Numbers.{sum, nearest}
 use Rattle.meaning.specs.declared.Kw.{Kw}
 use Rattle.meaning.specs.declared.Metres.{Metres}
 use Rattle.meaning.specs.declared.Side.{Side}
 use Rattle.charges.specs.declared.zones.SideColumns.{SideColumns}
 use Rattle.charges.specs.declared.zones.Zones.{Zones}
-use Rattle.charges.specs.Columns.{kilowatts, distance, numberAt, kwAt, metresAt, column}
+use Rattle.charges.specs.Columns.{kilowatts, distance, numberAt, kwAt, column}
 use Rattle.charges.specs.Sums.{zoneKw, zoneSum}
 use Rattle.charges.specs.Steps.{zonesFrom}
 use Rattle.charges.proofs.Columns.{column-at, column-same}

@@ -1,7 +1,6 @@
 -- 01, steps 6 to 10: the figures of a case as one value, each a definition of `meaning`; and which columns are those of a grid.
 use mathlib.Core.Path.{_≡_}
 use Prim.Native.Nat.{ℕ, suc, _≤_, _<_}
-use lib.IntN.{pos}
 use lib.ListN.{length}
 use Rattle.meaning.specs.declared.Side.{Side}
 use Rattle.meaning.specs.declared.Side.the-variants.{Generation, Demand}

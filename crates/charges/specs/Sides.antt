@@ -1,5 +1,5 @@
 -- 01, steps 8 to 10 of a side, and the figures of a case, from columns, as the code goes.
-use Prim.Native.Nat.{ℕ, _*_, _-_, _≤_, _<_}
+use Prim.Native.Nat.{ℕ, _≤_, _<_}
 use lib.IntN.{ℤ, pos, natAbs, _+ℤ_, _*ℤ_}
 use lib.ListN.{getD}
 use Rattle.integers.specs.Numbers.{Σ}

@@ -3,7 +3,7 @@ use mathlib.Core.List.{List}
 use Prim.Native.Nat.{ℕ, _+_, _*_, _-_, _≤_, _<_}
 use lib.ListN.{getD}
 use lib.IntN.{ℤ, pos, natAbs, _+ℤ_, _-ℤ_, _*ℤ_}
-use Rattle.integers.specs.Numbers.{sum, Σ, floorDiv, nearest}
+use Rattle.integers.specs.Numbers.{sum, Σ, nearest}
 use Rattle.meaning.specs.declared.Kw.{Kw}
 use Rattle.meaning.specs.declared.Metres.{Metres}
 use Rattle.meaning.specs.declared.MicroPerKw.{MicroPerKw}

@@ -1,6 +1,6 @@
 -- 01's sums, over columns: a zone, kilowatts and a potential of each of n nodes, a distance or a price of each zone.
 use mathlib.Core.Bool.{cond}
-use Prim.Native.Nat.{ℕ, _*_, _≤_, _<_}
+use Prim.Native.Nat.{ℕ, _≤_, _<_}
 use lib.Dec.{eqb}
 use lib.IntN.{ℤ, pos, negℤ, natAbs, _*ℤ_}
 use Rattle.integers.specs.Numbers.{sum, Σ}

@@ -3,7 +3,7 @@ use meaning::Metres;
 use meaning::Side;
 ghost use mathlib.Core.Path.{_≡_};
 ghost use mathlib.Core.Bool.{cond};
-ghost use Prim.Native.Nat.{ℕ, _+_, _≤_, _<_};
+ghost use Prim.Native.Nat.{_+_, _≤_, _<_};
 ghost use lib.Dec.{eqb};
 ghost use lib.IntN.{pos, natAbs, _*ℤ_};
 ghost use lib.ListN.{length};
@@ -11,7 +11,7 @@ ghost use Rattle.meaning.specs.Figures.{metres};
 ghost use Rattle.meaning.specs.Proposal.{potential};
 ghost use Rattle.integers.specs.Numbers.{nearest};
 ghost use Rattle.charges.specs.Columns.{kwAt, numberAt, column, distance};
-ghost use Rattle.charges.specs.Sums.{turned, share, zoneSum, SumFits};
+ghost use Rattle.charges.specs.Sums.{turned, zoneSum, SumFits};
 
 // Step 6: a demand node's distance is the negative of its wider metres.
 pub fn distance(side: Side, wider: Metres) -> Metres

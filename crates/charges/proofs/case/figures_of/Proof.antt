@@ -13,13 +13,6 @@ use Rattle.charges.proofs.CaseLaws.{lines-near, local-income-is, up-fit
 use borrow.Author.Needs.{needs}
 use Rattle.charges.proofs.case.figures_of.Statement.{statement}
 use Rattle.charges.proofs.case.figures_of.Tie as tie
-use Rattle.charges.proofs.case.figures_of.Reads as reads
-use Rattle.charges.proofs.case.figures_of.Lts as lts
-use Rattle.charges.proofs.income.local_by_node.Reads as local-by-node-reads
-use Rattle.charges.proofs.income.local_income.Reads as local-income-reads
-use Rattle.charges.proofs.sides.side_figures.Reads as side-figures-reads
-use Rattle.charges.proofs.tariffs.c_of.Reads as c-of-reads
-use Rattle.charges.proofs.zones.zones_of.Reads as zones-of-reads
 
 module _ (s : tie.Start) where
   abbrev g : SideColumns

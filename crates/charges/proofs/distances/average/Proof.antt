@@ -1,5 +1,5 @@
 -- `charges::distances::average` meets its contract.
-use mathlib.Core.Path.{_≡_, _∙_}
+use mathlib.Core.Path.{_∙_}
 use borrow.Author.Needs.{needs}
 use Rattle.integers.proofs.Machine.{fit-back, back}
 use Rattle.charges.proofs.distances.average.Statement.{statement}

@@ -1,8 +1,8 @@
 -- `charges::distances::distance` meets its contract.
-use mathlib.Core.Path.{_≡_, sym, _∙_, ap}
+use mathlib.Core.Path.{_∙_}
 use borrow.Author.Needs.{needs}
 use native.Mathlib.Omega.{arith}
-use lib.IntN.{ℤ, pos, negℤ, _-ℤ_}
+use lib.IntN.{ℤ, pos, _-ℤ_}
 use mir.Facts.{toZ-ofZ}
 use mir.Syntax.{w64}
 use mir.Val.{SFits}
@@ -11,8 +11,6 @@ use Rattle.integers.proofs.Machine.{Back, fit-back}
 use Rattle.charges.specs.Sums.{turned}
 use Rattle.charges.proofs.distances.distance.Statement.{statement}
 use Rattle.charges.proofs.distances.distance.Tie as tie
-use Rattle.charges.proofs.distances.distance.Reads as reads
-use Rattle.charges.proofs.distances.distance.Lts as lts
 
 module _ (s : tie.Start) where
   abbrev m : ℤ

@@ -18,10 +18,6 @@ use Rattle.charges.specs.Sums.{zoneSum}
 use Rattle.charges.proofs.Columns.{column-none, column-turn}
 use Rattle.charges.proofs.distances.metres_by_zone.Statement.{statement}
 use Rattle.charges.proofs.distances.metres_by_zone.Tie as tie
-use Rattle.charges.proofs.distances.metres_by_zone.Reads as reads
-use Rattle.charges.proofs.distances.metres_by_zone.Lts as lts
-use Rattle.charges.proofs.distances.average.Reads as average-reads
-use Rattle.charges.proofs.distances.zone_sum.Reads as zone-sum-reads
 
 abbrev mine : Side → List Kw → List ℕ → List ℤ → ℕ → List Kw → ℕ → Metres
 mine side kw of wider nodes weight k = distance (nearest (zoneSum side nodes (numberAt of) (kwAt kw) (potential wider) (k + 1)) (kwAt weight k))

@@ -1,12 +1,10 @@
 -- `charges::distances::metres_of` meets its contract.
-use mathlib.Core.Path.{_≡_, _∙_}
+use mathlib.Core.Path.{_∙_}
 use borrow.Author.Needs.{needs}
 use Rattle.integers.proofs.Machine.{fit-back, back}
 use Rattle.meaning.specs.Figures.{metres}
 use Rattle.charges.proofs.distances.metres_of.Statement.{statement}
 use Rattle.charges.proofs.distances.metres_of.Tie as tie
-use Rattle.charges.proofs.distances.metres_of.Reads as reads
-use Rattle.charges.proofs.distances.metres_of.Lts as lts
 
 nearest-requires : tie.Need-nearest-requires
 nearest-requires c κs = search needs

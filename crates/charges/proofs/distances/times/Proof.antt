@@ -11,8 +11,6 @@ use Rattle.integers.proofs.Machine.{Back, fit-back, of-nat}
 use Rattle.charges.proofs.Laws.{abs-fits, product-fits}
 use Rattle.charges.proofs.distances.times.Statement.{statement}
 use Rattle.charges.proofs.distances.times.Tie as tie
-use Rattle.charges.proofs.distances.times.Reads as reads
-use Rattle.charges.proofs.distances.times.Lts as lts
 
 module _ (s : tie.Start) where
   abbrev m : ℤ

@@ -4,7 +4,7 @@ use mathlib.Core.List.{List}
 use Prim.Native.Nat.{ℕ, _+_, _≤_, _-_}
 use borrow.Author.Needs.{needs}
 use native.Mathlib.Omega.{arith}
-use lib.IntN.{ℤ, pos, natAbs, _+ℤ_}
+use lib.IntN.{ℤ, _+ℤ_}
 use mir.Facts.{toZ-ofZ}
 use mir.Syntax.{w64}
 use mir.Val.{SFits, toZ, ofZ}
@@ -20,10 +20,6 @@ use Rattle.charges.specs.Sums.{share, zoneSum}
 use Rattle.charges.proofs.Laws.{abs-fits}
 use Rattle.charges.proofs.distances.zone_sum.Statement.{statement}
 use Rattle.charges.proofs.distances.zone_sum.Tie as tie
-use Rattle.charges.proofs.distances.zone_sum.Reads as reads
-use Rattle.charges.proofs.distances.zone_sum.Lts as lts
-use Rattle.charges.proofs.distances.metres_of.Reads as metres-of-reads
-use Rattle.charges.proofs.distances.share_in.Reads as share-in-reads
 
 abbrev mine : Side → List Kw → List ℕ → List ℤ → (zone v : ℕ) → ℤ
 mine side kw of wider zone = share side (numberAt of) (kwAt kw) (potential wider) zone

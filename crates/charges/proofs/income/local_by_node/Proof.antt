@@ -1,12 +1,10 @@
 -- `charges::income::local_by_node` meets its contract. The invariant: a column of the nodes passed.
-use mathlib.Core.Path.{_≡_, sym, _∙_}
+use mathlib.Core.Path.{_≡_, sym}
 use mathlib.Core.List.{List}
-use Prim.Native.Nat.{ℕ, _+_, _≤_, _-_}
+use Prim.Native.Nat.{ℕ, _≤_, _-_}
 use native.Mathlib.Omega.{arith}
-use lib.IntN.{ℤ, pos}
+use lib.IntN.{ℤ}
 use lib.ListN.{getD}
-use mir.Syntax.{w64}
-use mir.Val.{toZ, ofZ}
 use Rattle.integers.proofs.Machine.{Back, back}
 use Rattle.meaning.specs.declared.Kw.{Kw}
 use Rattle.meaning.specs.Proposal.{potential}
@@ -16,9 +14,6 @@ use Rattle.charges.specs.Steps.{localFrom, noLocal}
 use Rattle.charges.proofs.Columns.{column-none, column-turn}
 use Rattle.charges.proofs.income.local_by_node.Statement.{statement}
 use Rattle.charges.proofs.income.local_by_node.Tie as tie
-use Rattle.charges.proofs.income.local_by_node.Reads as reads
-use Rattle.charges.proofs.income.local_by_node.Lts as lts
-use Rattle.charges.proofs.income.local_of.Reads as local-of-reads
 
 abbrev mine : List Kw → List ℤ → (constant factor : ℕ) → ℕ → LocalFigures
 mine tec local constant factor v = localFrom (getD tec v (kilowatts 0)) (potential local v) constant factor

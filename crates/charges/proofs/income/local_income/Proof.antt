@@ -17,9 +17,6 @@ use Rattle.charges.specs.Steps.{localPrice}
 use Rattle.charges.proofs.Laws.{abs-fits, worth-most, one-light}
 use Rattle.charges.proofs.income.local_income.Statement.{statement}
 use Rattle.charges.proofs.income.local_income.Tie as tie
-use Rattle.charges.proofs.income.local_income.Reads as reads
-use Rattle.charges.proofs.income.local_income.Lts as lts
-use Rattle.charges.proofs.income.worth.Reads as worth-reads
 
 abbrev mine : List LocalFigures → List Kw → ℕ → ℤ
 mine local paying v = localPrice local v *ℤ pos (kwAt paying v)

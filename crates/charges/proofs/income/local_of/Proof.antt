@@ -1,19 +1,13 @@
 -- `charges::income::local_of` meets its contract.
-use mathlib.Core.Path.{_≡_, _∙_, ap}
-use Prim.Native.Nat.{_≤_}
+use mathlib.Core.Path.{_≡_, ap}
 use native.Mathlib.Omega.{arith}
-use lib.IntN.{natAbs}
-use Rattle.integers.proofs.Machine.{Back, fit-back}
+use Rattle.integers.proofs.Machine.{fit-back}
 use Rattle.meaning.specs.Figures.{metres}
 use Rattle.charges.specs.Columns.{distance, price}
 use Rattle.charges.specs.Steps.{localFrom}
 use borrow.Author.Needs.{needs}
 use Rattle.charges.proofs.income.local_of.Statement.{statement}
 use Rattle.charges.proofs.income.local_of.Tie as tie
-use Rattle.charges.proofs.income.local_of.Reads as reads
-use Rattle.charges.proofs.income.local_of.Lts as lts
-use Rattle.charges.proofs.distances.metres_of.Reads as metres-of-reads
-use Rattle.charges.proofs.tariffs.tariff_of.Reads as tariff-of-reads
 
 metres-of-requires : tie.Need-metres-of-requires
 metres-of-requires c κs = search needs

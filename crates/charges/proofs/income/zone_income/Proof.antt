@@ -14,9 +14,6 @@ use Rattle.charges.specs.Steps.{priceTimes}
 use Rattle.charges.proofs.Laws.{abs-fits, worth-most, one-light}
 use Rattle.charges.proofs.income.zone_income.Statement.{statement}
 use Rattle.charges.proofs.income.zone_income.Tie as tie
-use Rattle.charges.proofs.income.zone_income.Reads as reads
-use Rattle.charges.proofs.income.zone_income.Lts as lts
-use Rattle.charges.proofs.income.worth.Reads as worth-reads
 
 abbrev Inv-loop : tie.InvT-loop
 Inv-loop zones tariff paying total₀ k₀ total k = (k ≤ zones) × (toZ w64 total ≡ Σ k (priceTimes tariff paying))

@@ -1,5 +1,5 @@
 -- `charges::kilowatts::kilowatts_by_zone` meets its contract. The invariant: a column of the zones passed.
-use mathlib.Core.Path.{_≡_, sym, _∙_, ap}
+use mathlib.Core.Path.{_≡_, sym, ap}
 use mathlib.Core.List.{List}
 use Prim.Native.Nat.{ℕ, _+_, _≤_, _-_}
 use native.Mathlib.Omega.{arith}
@@ -9,9 +9,6 @@ use Rattle.charges.specs.Sums.{zoneKw}
 use Rattle.charges.proofs.Columns.{column-none, column-turn}
 use Rattle.charges.proofs.kilowatts.kilowatts_by_zone.Statement.{statement}
 use Rattle.charges.proofs.kilowatts.kilowatts_by_zone.Tie as tie
-use Rattle.charges.proofs.kilowatts.kilowatts_by_zone.Reads as reads
-use Rattle.charges.proofs.kilowatts.kilowatts_by_zone.Lts as lts
-use Rattle.charges.proofs.kilowatts.zone_kilowatts.Reads as zone-kilowatts-reads
 
 abbrev mine : List Kw → List ℕ → ℕ → ℕ → Kw
 mine kw of nodes k = kilowatts (zoneKw nodes (numberAt of) (kwAt kw) (k + 1))

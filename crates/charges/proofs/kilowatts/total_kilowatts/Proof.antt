@@ -7,8 +7,6 @@ use Rattle.integers.proofs.Sum.{sum-zero, sum-more, sum-part}
 use Rattle.charges.specs.Columns.{kwAt}
 use Rattle.charges.proofs.kilowatts.total_kilowatts.Statement.{statement}
 use Rattle.charges.proofs.kilowatts.total_kilowatts.Tie as tie
-use Rattle.charges.proofs.kilowatts.total_kilowatts.Reads as reads
-use Rattle.charges.proofs.kilowatts.total_kilowatts.Lts as lts
 
 abbrev Inv-loop : tie.InvT-loop
 Inv-loop nodes kw total₀ v₀ total v = (v ≤ nodes) × (total ≡ sum v (kwAt kw))

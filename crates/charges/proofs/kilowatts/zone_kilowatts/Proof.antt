@@ -13,9 +13,6 @@ use Rattle.charges.specs.Columns.{numberAt, kwAt}
 use Rattle.charges.specs.Sums.{zoneKw}
 use Rattle.charges.proofs.kilowatts.zone_kilowatts.Statement.{statement}
 use Rattle.charges.proofs.kilowatts.zone_kilowatts.Tie as tie
-use Rattle.charges.proofs.kilowatts.zone_kilowatts.Reads as reads
-use Rattle.charges.proofs.kilowatts.zone_kilowatts.Lts as lts
-use Rattle.charges.proofs.kilowatts.kilowatts_in.Reads as kilowatts-in-reads
 
 abbrev mine : List Kw → List ℕ → ℕ → ℕ → ℕ
 mine kw of zone v = cond (eqb (numberAt of v) zone) (kwAt kw v) 0

@@ -1,5 +1,4 @@
 -- `charges::rests::share_of` meets its contract.
-use mathlib.Core.Path.{_≡_}
 use borrow.Author.Needs.{needs}
 use Rattle.charges.specs.Steps.{shareOf}
 use Rattle.charges.proofs.rests.share_of.Statement.{statement}

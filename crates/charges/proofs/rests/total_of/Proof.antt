@@ -1,5 +1,5 @@
 -- `charges::rests::total_of` meets its contract.
-use mathlib.Core.Path.{_≡_, _∙_}
+use mathlib.Core.Path.{_∙_}
 use native.Mathlib.Omega.{arith}
 use lib.IntN.{ℤ, _+ℤ_}
 use mir.Facts.{toZ-ofZ}

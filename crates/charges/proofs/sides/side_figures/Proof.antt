@@ -12,14 +12,6 @@ use Rattle.charges.proofs.SideLaws.{income-most, rest-within, residual-
 use borrow.Author.Needs.{needs}
 use Rattle.charges.proofs.sides.side_figures.Statement.{statement}
 use Rattle.charges.proofs.sides.side_figures.Tie as tie
-use Rattle.charges.proofs.sides.side_figures.Reads as reads
-use Rattle.charges.proofs.sides.side_figures.Lts as lts
-use Rattle.charges.proofs.income.zone_income.Reads as zone-income-reads
-use Rattle.charges.proofs.rests.remainder_of.Reads as remainder-of-reads
-use Rattle.charges.proofs.rests.residual_of.Reads as residual-of-reads
-use Rattle.charges.proofs.rests.rest_of.Reads as rest-of-reads
-use Rattle.charges.proofs.sides.zone_lines.Reads as zone-lines-reads
-use Rattle.charges.proofs.tariffs.tariff_by_zone.Reads as tariff-by-zone-reads
 
 tariff-by-zone-requires : tie.Need-tariff-by-zone-requires
 tariff-by-zone-requires c κs = search needs

@@ -1,14 +1,10 @@
 -- `charges::sides::zone_line` meets its contract.
-use mathlib.Core.Path.{_≡_, ap}
+use mathlib.Core.Path.{ap}
 use Rattle.charges.specs.Columns.{distance, price}
 use Rattle.charges.specs.Sides.{lineFrom}
 use borrow.Author.Needs.{needs}
 use Rattle.charges.proofs.sides.zone_line.Statement.{statement}
 use Rattle.charges.proofs.sides.zone_line.Tie as tie
-use Rattle.charges.proofs.sides.zone_line.Reads as reads
-use Rattle.charges.proofs.sides.zone_line.Lts as lts
-use Rattle.charges.proofs.rests.total_of.Reads as total-of-reads
-use Rattle.charges.proofs.tariffs.after_c.Reads as after-c-reads
 
 after-c-requires : tie.Need-after-c-requires
 after-c-requires c κs = search needs

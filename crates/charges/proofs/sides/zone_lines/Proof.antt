@@ -1,7 +1,7 @@
 -- `charges::sides::zone_lines` meets its contract. The invariant: a column of the zones passed.
-use mathlib.Core.Path.{_≡_, sym, _∙_}
+use mathlib.Core.Path.{_≡_, sym}
 use mathlib.Core.List.{List}
-use Prim.Native.Nat.{ℕ, _+_, _≤_, _-_}
+use Prim.Native.Nat.{ℕ, _≤_, _-_}
 use native.Mathlib.Omega.{arith}
 use lib.IntN.{pos}
 use lib.ListN.{getD}
@@ -15,9 +15,6 @@ use Rattle.charges.specs.Sides.{lineFrom, noLine}
 use Rattle.charges.proofs.Columns.{column-none, column-turn}
 use Rattle.charges.proofs.sides.zone_lines.Statement.{statement}
 use Rattle.charges.proofs.sides.zone_lines.Tie as tie
-use Rattle.charges.proofs.sides.zone_lines.Reads as reads
-use Rattle.charges.proofs.sides.zone_lines.Lts as lts
-use Rattle.charges.proofs.sides.zone_line.Reads as zone-line-reads
 
 abbrev mine : Side → List Kw → List Metres → Metres → List MicroPerKw → MicroPerKw → ℕ → ZoneFigures
 mine side weight metres c tariff residual k =

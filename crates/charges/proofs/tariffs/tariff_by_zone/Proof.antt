@@ -1,9 +1,9 @@
 -- `charges::tariffs::tariff_by_zone` meets its contract. The invariant: a column of the zones passed.
-use mathlib.Core.Path.{_≡_, sym, _∙_, ap}
+use mathlib.Core.Path.{_≡_, sym, ap}
 use mathlib.Core.List.{List}
-use Prim.Native.Nat.{ℕ, _+_, _≤_, _-_}
+use Prim.Native.Nat.{ℕ, _≤_, _-_}
 use native.Mathlib.Omega.{arith}
-use lib.IntN.{ℤ, pos}
+use lib.IntN.{pos}
 use Rattle.meaning.specs.declared.Metres.{Metres}
 use Rattle.meaning.specs.declared.MicroPerKw.{MicroPerKw}
 use Rattle.meaning.specs.declared.Side.{Side}
@@ -14,10 +14,6 @@ use Rattle.charges.proofs.Columns.{column-none, column-turn}
 use Rattle.charges.proofs.Laws.{shifted-within}
 use Rattle.charges.proofs.tariffs.tariff_by_zone.Statement.{statement}
 use Rattle.charges.proofs.tariffs.tariff_by_zone.Tie as tie
-use Rattle.charges.proofs.tariffs.tariff_by_zone.Reads as reads
-use Rattle.charges.proofs.tariffs.tariff_by_zone.Lts as lts
-use Rattle.charges.proofs.tariffs.after_c.Reads as after-c-reads
-use Rattle.charges.proofs.tariffs.tariff_of.Reads as tariff-of-reads
 
 abbrev mine : Side → List Metres → Metres → (constant factor : ℕ) → ℕ → MicroPerKw
 mine side metres c constant factor k = price (tariff (shifted side (metresAt metres k) (c .0)) constant factor)

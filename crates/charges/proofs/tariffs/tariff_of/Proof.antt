@@ -3,8 +3,7 @@ use mathlib.Core.Path.{_≡_, _∙_}
 use Prim.Native.Nat.{ℕ}
 use borrow.Author.Needs.{needs}
 use native.Mathlib.Omega.{arith}
-use lib.IntN.{ℤ, pos, natAbs, _*ℤ_}
-use mir.Facts.{toZ-ofZ}
+use lib.IntN.{ℤ, pos, _*ℤ_}
 use mir.Syntax.{w64}
 use mir.Val.{SFits, toZ}
 use Rattle.integers.proofs.Laws.{abs-mul-le}

@@ -2,21 +2,18 @@
 use mathlib.Core.Path.{_≡_, sym, _∙_}
 use Prim.Native.Nat.{ℕ, _+_, _≤_, _-_}
 use native.Mathlib.Omega.{arith}
-use lib.IntN.{ℤ, pos, natAbs, _+ℤ_}
+use lib.IntN.{ℤ, _+ℤ_}
 use mir.Facts.{toZ-ofZ}
 use mir.Syntax.{w64}
 use mir.Val.{SFits, toZ, ofZ}
 use Rattle.integers.specs.Numbers.{Σ}
-use Rattle.integers.proofs.Machine.{Back, back}
+use Rattle.integers.proofs.Machine.{back}
 use Rattle.integers.proofs.Sum.{Σ-zero, Σ-more}
 use Rattle.charges.specs.Columns.{metresAt, kwAt}
 use Rattle.charges.specs.Steps.{metresTimes, metresOver}
 use Rattle.charges.proofs.Laws.{abs-fits, worth-most, one-light}
 use Rattle.charges.proofs.zones.metres_over_zones.Statement.{statement}
 use Rattle.charges.proofs.zones.metres_over_zones.Tie as tie
-use Rattle.charges.proofs.zones.metres_over_zones.Reads as reads
-use Rattle.charges.proofs.zones.metres_over_zones.Lts as lts
-use Rattle.charges.proofs.distances.times.Reads as times-reads
 
 abbrev Inv-loop : tie.InvT-loop
 Inv-loop metres paying count total₀ k₀ total k = (k ≤ count) × (toZ w64 total ≡ Σ k (metresTimes metres paying))

@@ -1,15 +1,9 @@
 -- `charges::zones::zones_of` meets its contract.
-use native.Mathlib.Omega.{arith}
 use Rattle.meaning.specs.Proposal.{potential}
 use Rattle.charges.proofs.Steps.{zones-made}
 use borrow.Author.Needs.{needs}
 use Rattle.charges.proofs.zones.zones_of.Statement.{statement}
 use Rattle.charges.proofs.zones.zones_of.Tie as tie
-use Rattle.charges.proofs.zones.zones_of.Reads as reads
-use Rattle.charges.proofs.zones.zones_of.Lts as lts
-use Rattle.charges.proofs.distances.metres_by_zone.Reads as metres-by-zone-reads
-use Rattle.charges.proofs.kilowatts.kilowatts_by_zone.Reads as kilowatts-by-zone-reads
-use Rattle.charges.proofs.kilowatts.total_kilowatts.Reads as total-kilowatts-reads
 
 kilowatts-by-zone-requires : tie.Need-kilowatts-by-zone-requires
 kilowatts-by-zone-requires c κs = search needs
