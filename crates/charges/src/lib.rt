@@ -1,4 +1,4 @@
-// 01, steps 6 to 10: what each zone and each node pays. The figures of a case, from columns of numbers.
+// 01, steps 6 to 10: the figures of a case, made of columns of numbers. Read the modules in this order.
 mod case;
 mod distances;
 pub mod figures;
