@@ -1,0 +1,3 @@
+-- What the contracts of `columns` cite beside `meaning`.
+pub mod Readable
+pub mod Columns
