@@ -1,2 +1,4 @@
 pub mod FileLaws
+pub mod ColumnLaws
 pub mod Rows
+pub mod TableColumns

@@ -1,3 +1,4 @@
 -- What the contracts of `columns` cite beside `meaning`.
 pub mod Readable
+pub mod Column
 pub mod Columns

@@ -1,16 +1,44 @@
 // What later steps need of a case file's tables, read once. Every slice has its answer: a file that is not whole reads as one without rows.
+mod fill;
+mod section;
 mod trailer;
 
+use meaning::Kw;
 ghost use mathlib.Core.Path.{_≡_};
 ghost use Rattle.meaning.specs.File.{fileWhole};
 ghost use Rattle.columns.specs.Readable.{readable};
-ghost use Rattle.columns.specs.Columns.{countsOf};
+ghost use Rattle.columns.specs.Columns.{countsOf, settingsIn, nodesOf};
 
 // Rows of each table.
 pub struct RowCounts {
     pub nodes: usize,
     pub circuits: usize,
     pub stations: usize,
+}
+
+// 01, The case file: the settings, in its order.
+pub struct StudySettings {
+    pub generation_zones: usize,
+    pub demand_zones: usize,
+    pub p: usize,
+    pub constant: usize,
+    pub wider_factor: usize,
+    pub local_factor: usize,
+    pub overhead400: usize,
+    pub cable400: usize,
+    pub overhead275: usize,
+    pub cable275: usize,
+    pub overhead132: usize,
+    pub cable132: usize,
+    pub reference: usize,
+    pub revenue: u64,
+}
+
+// Zones and demand of each node.
+pub struct NodeColumns {
+    pub generation_zone: [usize; 256],
+    pub demand_zone: [usize; 256],
+    pub demand: [Kw; 256],
 }
 
 // Whether the file is not refused as 1: length, version, counts, chain, the settings' zero.
@@ -49,5 +77,31 @@ pub fn counts(file: &[u8]) -> RowCounts
         nodes: 0,
         circuits: 0,
         stations: 0,
+    }
+}
+
+// The settings.
+pub fn settings(file: &[u8]) -> StudySettings
+    ensures { λ r. ⌜ settingsIn r ≡ readable (now (file .entry)) .settings ⌝ }
+{
+    if whole(file) {
+        return section::settings(file);
+    }
+    section::no_settings()
+}
+
+// The columns of the nodes.
+pub fn nodes(file: &[u8]) -> NodeColumns
+    ensures { λ r. ⌜ r ≡ nodesOf (readable (now (file .entry))) ⌝ }
+{
+    let rows = counts(file);
+    let count = rows.nodes;
+    let generation_zone = fill::numbers_256(file, 76, 24, count);
+    let demand_zone = fill::numbers_256(file, 80, 24, count);
+    let demand = fill::kilowatts_256(file, 84, 24, count);
+    NodeColumns {
+        generation_zone,
+        demand_zone,
+        demand,
     }
 }
