@@ -1,4 +1,6 @@
 pub mod FileLaws
 pub mod ColumnLaws
+pub mod LengthLaws
 pub mod Rows
+pub mod PlaceLaws
 pub mod TableColumns

@@ -12,9 +12,14 @@ use Rattle.meaning.proofs.Rows.{length-rows}
 use Rattle.meaning.proofs.Starts as starts
 use Rattle.columns.proofs.FileLaws.{whole-file, start-zero}
 use Rattle.columns.specs.Readable.{noStudy, readable}
-use Rattle.columns.specs.Column.{Table}
 use Rattle.columns.specs.Columns.{countsOf}
 use Rattle.columns.specs.declared.RowCounts.{RowCounts}
+
+-- counts in their ranges
+pub record Few (r : RowCounts) : Type 0 where
+  pub nodes-low : r .nodes ≤ 256
+  pub circuits-low : r .circuits ≤ 512
+  pub stations-low : r .stations ≤ 512
 
 module _ (file : List ℕ) where
   pub readable-whole : fileWhole file ≡ true → readable file ≡ studyOf file
@@ -55,7 +60,7 @@ module _ (file : List ℕ) where
   S = readable file
 
   -- what holds of a whole file's study, and of one without rows
-  either : (P : Study → Type 0) → (fileWhole file ≡ true → P (studyOf file)) → P noStudy → P S
+  pub either : (P : Study → Type 0) → (fileWhole file ≡ true → P (studyOf file)) → P noStudy → P S
   either P w n = go (fileWhole file) refl
     where
       go : (b : Bool) → fileWhole file ≡ b → P S
@@ -94,6 +99,10 @@ module _ (file : List ℕ) where
       (λ i h. absurd (omega arith))
 
   -- ---- what the loops over the rows ask
-  module _ {r : RowCounts} (e : r ≡ countsOf (readable file)) where
-    pub node-table : (start : ℕ) → start ≤ 65536 → Table start 24 (r .nodes) 256
-    node-table start h = record { few = omega (arith, counts-are e .0, nodes-few); near = h; narrow = omega arith }
+  pub few : {r : RowCounts} → r ≡ countsOf (readable file) → Few r
+  few e =
+      record {
+        nodes-low = omega (arith, counts-are e .0, nodes-few);
+        circuits-low = omega (arith, counts-are e .1, circuits-few);
+        stations-low = omega (arith, counts-are e .2, stations-few);
+      }

@@ -1,4 +1,5 @@
 -- What the contracts of `columns` cite beside `meaning`.
 pub mod Readable
 pub mod Column
+pub mod Lengths
 pub mod Columns

@@ -1,5 +1,6 @@
 // What later steps need of a case file's tables, read once. Every slice has its answer: a file that is not whole reads as one without rows.
 mod fill;
+mod lengths;
 mod section;
 mod trailer;
 
@@ -7,7 +8,7 @@ use meaning::Kw;
 ghost use mathlib.Core.Path.{_≡_};
 ghost use Rattle.meaning.specs.File.{fileWhole};
 ghost use Rattle.columns.specs.Readable.{readable};
-ghost use Rattle.columns.specs.Columns.{countsOf, settingsIn, nodesOf};
+ghost use Rattle.columns.specs.Columns.{countsOf, settingsIn, nodesOf, circuitsOf, stationsOf};
 
 // Rows of each table.
 pub struct RowCounts {
@@ -39,6 +40,22 @@ pub struct NodeColumns {
     pub generation_zone: [usize; 256],
     pub demand_zone: [usize; 256],
     pub demand: [Kw; 256],
+}
+
+// Numbers of each circuit's end nodes, the count of nodes where there is none; reactance, expanded length in mm, local mark.
+pub struct CircuitColumns {
+    pub first: [usize; 512],
+    pub second: [usize; 512],
+    pub x: [u64; 512],
+    pub length: [u64; 512],
+    pub mark: [u64; 512],
+}
+
+// The number of each station's node, its plant type and TEC.
+pub struct StationColumns {
+    pub node: [usize; 512],
+    pub plant: [usize; 512],
+    pub tec: [Kw; 512],
 }
 
 // Whether the file is not refused as 1: length, version, counts, chain, the settings' zero.
@@ -104,4 +121,41 @@ pub fn nodes(file: &[u8]) -> NodeColumns
         demand_zone,
         demand,
     }
+}
+
+// The columns of the circuits.
+pub fn circuits(file: &[u8]) -> CircuitColumns
+    ensures { λ r. ⌜ r ≡ circuitsOf (readable (now (file .entry))) ⌝ }
+{
+    let rows = counts(file);
+    let nodes = rows.nodes;
+    let count = rows.circuits;
+    let factors = settings(file);
+    let start = 64 + 24 * nodes;
+    let first = fill::places_512(file, start, 44, count, nodes);
+    let second = fill::places_512(file, start + 12, 44, count, nodes);
+    let x = fill::words_512(file, start + 28, 44, count);
+    let length = fill::lengths_512(file, start, count, factors);
+    let mark = fill::words_512(file, start + 40, 44, count);
+    CircuitColumns {
+        first,
+        second,
+        x,
+        length,
+        mark,
+    }
+}
+
+// The columns of the stations.
+pub fn stations(file: &[u8]) -> StationColumns
+    ensures { λ r. ⌜ r ≡ stationsOf (readable (now (file .entry))) ⌝ }
+{
+    let rows = counts(file);
+    let nodes = rows.nodes;
+    let count = rows.stations;
+    let start = 64 + 24 * nodes + 44 * rows.circuits;
+    let node = fill::places_512(file, start + 12, 32, count, nodes);
+    let plant = fill::numbers_512(file, start + 24, 32, count);
+    let tec = fill::kilowatts_512(file, start + 28, 32, count);
+    StationColumns { node, plant, tec }
 }

@@ -1,6 +1,6 @@
 use native.Mathlib.Omega.{arith}
 use Rattle.columns.specs.Column.{Table}
-use Rattle.columns.proofs.Rows.{counts-are, node-table}
+use Rattle.columns.proofs.Rows.{Few, few, counts-are}
 use Rattle.columns.proofs.TableColumns.{nodes-are}
 use borrow.Author.Needs.{needs}
 use Rattle.columns.proofs.nodes.Statement.{statement}
@@ -10,13 +10,13 @@ counts-requires : tie.Need-counts-requires
 counts-requires c κs = search needs
 
 numbers-256-requires : tie.Need-numbers-256-requires
-numbers-256-requires c κs = node-table _ (c .counts .ensures) _ (omega arith)
+numbers-256-requires c κs = let f = few _ (c .counts .ensures) in omega arith
 
 numbers-256-requires-2 : tie.Need-numbers-256-requires-2
-numbers-256-requires-2 c κs = node-table _ (c .before .counts .ensures) _ (omega arith)
+numbers-256-requires-2 c κs = let f = few _ (c .before .counts .ensures) in omega arith
 
 kilowatts-256-requires : tie.Need-kilowatts-256-requires
-kilowatts-256-requires c κs = node-table _ (c .before .before .counts .ensures) _ (omega arith)
+kilowatts-256-requires c κs = let f = few _ (c .before .before .counts .ensures) in omega arith
 
 returns : tie.Need-returns
 returns c = nodes-are _ _ _ _ _ (counts-are _ (c .before .before .before .counts .ensures) .0) (c .before .before .numbers-256 .ensures) (c .before .numbers-2562 .ensures) (c .kilowatts-256 .ensures)
