@@ -1,16 +1,15 @@
 -- Laws of columns: an array that is filled row by row, and a table's rows read off it.
-use mathlib.Core.Path.{_≡_, sym, _∙_}
+use mathlib.Core.Path.{_≡_, refl, sym, _∙_, ap₂}
 use mathlib.Core.Bool.{cond}
 use mathlib.Core.Logic.{_≢_}
-use mathlib.Core.List.{List}
-use Prim.Native.Nat.{ℕ, _+_, _*_, _≤_, _<_}
+use mathlib.Core.List.{List, _∷_}
+use Prim.Native.Nat.{ℕ, zero, suc, _+_, _*_, _≤_, _<_}
 use native.Mathlib.Nat.{mul-le-mul}
-use native.Mathlib.Decide.{ℕ-discrete, decLt}
+use native.Mathlib.Decide.{decLt}
 use native.Mathlib.Omega.{arith}
 use borrow.Author.Tests.{lt-ltb, le-ltb}
 use lib.Dec.{ltb}
-use lib.ListN.{length, getD, set, length-set, replicate, length-replicate, getD-replicate, List·getD-eq-default}
-use lib.Seq.{getD-set-same, getD-set-other, ext-getD}
+use lib.ListN.{length, getD, set, replicate, List·getD-eq-default}
 use Rattle.meaning.specs.Rows.{rows}
 use Rattle.meaning.proofs.Rows.{rows-at, rows-same, length-rows}
 use Rattle.columns.specs.Column.{column}
@@ -18,6 +17,22 @@ use Rattle.columns.specs.Column.{column}
 -- a row's distance from the first, so that its place fits 64 bits
 pub row-near : {stride : ℕ} (row : ℕ) → stride ≤ 64 → row + 1 ≤ 512 → stride * row ≤ 32768
 row-near row h l = mul-le-mul {n₂ = 64} {m₂ = 512} h (omega arith)
+
+-- one row set anew
+pub rows-set : {A : Type 0} (n : ℕ) (f g : ℕ → A) (i : ℕ) (v : A) → i < n → v ≡ g i → ((j : ℕ) → j < n → j ≢ i → f j ≡ g j)
+    → set (rows n f) i v ≡ rows n g
+unfolding rows
+rows-set zero f g i v h e o = absurd (omega arith)
+rows-set (suc n) f g zero v h e o = ap₂ _∷_ e (rows-same n _ _ (λ j l. o (suc j) (omega arith) (λ q. omega arith)))
+rows-set (suc n) f g (suc i) v h e o =
+    ap₂ _∷_ (o 0 (omega arith) (λ q. omega arith))
+    (rows-set n (λ j. f (suc j)) (λ j. g (suc j)) i v (omega arith) e (λ j l d. o (suc j) (omega arith) (λ q. d (omega arith))))
+
+-- rows that are all the same
+pub rows-none : {A : Type 0} (n : ℕ) (f : ℕ → A) (a : A) → ((i : ℕ) → i < n → f i ≡ a) → replicate n a ≡ rows n f
+unfolding rows
+rows-none zero f a h = refl
+rows-none (suc n) f a h = ap₂ _∷_ (sym (h 0 (omega arith))) (rows-none n (λ j. f (suc j)) a (λ i l. h (suc i) (omega arith)))
 
 module _ {A : Type 0} (nothing : A) (size : ℕ) (f : ℕ → A) where
   pub column-length : (count : ℕ) → length (column nothing size count f) ≡ size
@@ -34,26 +49,17 @@ module _ {A : Type 0} (nothing : A) (size : ℕ) (f : ℕ → A) where
 
   -- the array as it is made
   pub column-none : replicate size nothing ≡ column nothing size 0 f
-  column-none =
-      ext-getD nothing (replicate size nothing) (column nothing size 0 f) (length-replicate size nothing ∙ sym (column-length 0))
-      (λ i h. let l : i < size = omega (arith, length-replicate size nothing) in getD-replicate size i nothing nothing l ∙ sym (column-past nothing 0 i (omega arith) l))
+  unfolding column
+  column-none = rows-none size _ nothing (λ i h. simp (le-ltb i 0 (omega arith)))
 
   -- one more turn
   column-more : (i : ℕ) → i < size → set (column nothing size i f) i (f i) ≡ column nothing size (i + 1) f
-  column-more i h =
-      ext-getD nothing _ _ (length-set (column nothing size i f) i (f i) ∙ column-length i ∙ sym (column-length (i + 1)))
-      (λ k l. one k (omega (arith, length-set (column nothing size i f) i (f i), column-length i)) (ℕ-discrete k i))
+  unfolding column
+  column-more i h = rows-set size _ _ i (f i) h (simp (lt-ltb i (i + 1) (omega arith))) (λ j l d. other j d (decLt j i))
     where
-      before : (k : ℕ) → k < size → Dec (k < i) → k ≢ i → getD (column nothing size i f) k nothing ≡ getD (column nothing size (i + 1) f) k nothing
-      before k l (yes b) ne = column-at nothing i k b l ∙ sym (column-at nothing (i + 1) k (omega arith) l)
-      before k l (no b) ne = column-past nothing i k (omega arith) l ∙ sym (column-past nothing (i + 1) k (omega arith) l)
-
-      one : (k : ℕ) → k < size → Dec (k ≡ i) → getD (set (column nothing size i f) i (f i)) k nothing ≡ getD (column nothing size (i + 1) f) k nothing
-      one k l (yes e) =
-          rw e
-          (getD-set-same (column nothing size i f) i (f i) nothing (omega (arith, column-length i))
-          ∙ sym (column-at nothing (i + 1) i (omega arith) h))
-      one k l (no ne) = getD-set-other (column nothing size i f) i k (f i) nothing ne ∙ before k l (decLt k i) ne
+      other : (j : ℕ) → j ≢ i → Dec (j < i) → cond (ltb j i) (f j) nothing ≡ cond (ltb j (i + 1)) (f j) nothing
+      other j d (yes l) = simp (lt-ltb j i l, lt-ltb j (i + 1) (omega arith))
+      other j d (no l) = simp (le-ltb j i (omega arith), le-ltb j (i + 1) (omega arith))
 
   -- the same as a loop has it: what was made in this turn is set
   pub column-turn : {all : List A} {r : A} (i : ℕ) → i < size → all ≡ column nothing size i f → r ≡ f i → set all i r ≡ column nothing size (i + 1) f

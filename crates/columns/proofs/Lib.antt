@@ -4,3 +4,4 @@ pub mod LengthLaws
 pub mod Rows
 pub mod PlaceLaws
 pub mod TableColumns
+pub mod TecLaws

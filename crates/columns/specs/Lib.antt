@@ -3,3 +3,4 @@ pub mod Readable
 pub mod Column
 pub mod Lengths
 pub mod Columns
+pub mod Tec

@@ -2,13 +2,17 @@
 mod fill;
 mod lengths;
 mod section;
+mod tec;
 mod trailer;
 
 use meaning::Kw;
+use meaning::Plant;
 ghost use mathlib.Core.Path.{_≡_};
 ghost use Rattle.meaning.specs.File.{fileWhole};
 ghost use Rattle.columns.specs.Readable.{readable};
 ghost use Rattle.columns.specs.Columns.{countsOf, settingsIn, nodesOf, circuitsOf, stationsOf};
+ghost use Rattle.columns.specs.Tec.{tecOf};
+ghost use Rattle.meaning.specs.Grid.{plantOf, scales as scalesIn, pays as paysIn};
 
 // Rows of each table.
 pub struct RowCounts {
@@ -56,6 +60,19 @@ pub struct StationColumns {
     pub node: [usize; 512],
     pub plant: [usize; 512],
     pub tec: [Kw; 512],
+}
+
+// TEC by node v and plant type t at 7 v + t - 1; by node, what scales and weighs and what pays.
+pub struct TecColumns {
+    pub by_type: [Kw; 1792],
+    pub scaling: [Kw; 256],
+    pub paying: [Kw; 256],
+}
+
+// The stations, and their TEC added up: names are resolved once for both.
+pub struct CapacityColumns {
+    pub stations: StationColumns,
+    pub tec: TecColumns,
 }
 
 // Whether the file is not refused as 1: length, version, counts, chain, the settings' zero.
@@ -158,4 +175,63 @@ pub fn stations(file: &[u8]) -> StationColumns
     let plant = fill::numbers_512(file, start + 24, 32, count);
     let tec = fill::kilowatts_512(file, start + 28, 32, count);
     StationColumns { node, plant, tec }
+}
+
+// The plant type of a number.
+pub fn plant_of(number: usize) -> Plant
+    ensures { λ r. ⌜ r ≡ plantOf number ⌝ }
+{
+    match number {
+        1 => Plant::Intermittent,
+        2 => Plant::NuclearAndCcs,
+        3 => Plant::Interconnector,
+        4 => Plant::Hydro,
+        5 => Plant::PumpedStorage,
+        6 => Plant::Peaking,
+        _ => Plant::Other,
+    }
+}
+
+// Whether the TEC of a plant type scales and weighs.
+pub fn scales(plant: Plant) -> bool
+    ensures { λ r. ⌜ r ≡ scalesIn plant ⌝ }
+{
+    match plant {
+        Plant::Intermittent => true,
+        Plant::NuclearAndCcs => true,
+        Plant::Interconnector => true,
+        Plant::Hydro => true,
+        Plant::PumpedStorage => true,
+        Plant::Peaking => true,
+        Plant::Other => true,
+    }
+}
+
+// Whether the TEC of a plant type pays.
+pub fn pays(plant: Plant) -> bool
+    ensures { λ r. ⌜ r ≡ paysIn plant ⌝ }
+{
+    match plant {
+        Plant::Intermittent => true,
+        Plant::NuclearAndCcs => true,
+        Plant::Interconnector => true,
+        Plant::Hydro => true,
+        Plant::PumpedStorage => true,
+        Plant::Peaking => true,
+        Plant::Other => true,
+    }
+}
+
+// The columns of the stations, and the TEC of each node.
+pub fn capacity(file: &[u8]) -> CapacityColumns
+    ensures { λ r. ⌜ (r .stations ≡ stationsOf (readable (now (file .entry)))) × (r .tec ≡ tecOf (readable (now (file .entry)))) ⌝ }
+{
+    let rows = counts(file);
+    let columns = stations(file);
+    let by_type = tec::by_type(columns, rows.nodes, rows.stations);
+    let sums = tec::by_node(by_type);
+    CapacityColumns {
+        stations: columns,
+        tec: sums,
+    }
 }
