@@ -27,6 +27,7 @@ use Rattle.columns.specs.declared.StationColumns.{StationColumns}
 use Rattle.columns.specs.declared.TecColumns.{TecColumns}
 use Rattle.columns.proofs.FileLaws.{is-true, is-false, says-lt}
 use Rattle.columns.proofs.ColumnLaws.{rows-set, rows-none}
+use Rattle.columns.proofs.ColumnAt.{station-node-at, plant-at, tec-at, by-type-at}
 use Rattle.columns.proofs.Rows.{station-row}
 
 -- tests that say the same are the same
@@ -197,20 +198,7 @@ module _ (S : Study) where
   abbrev C : StationColumns
   C = stationsOf S
 
-  -- a row of each column
   module _ (k : ℕ) (h : k < 512) where
-    node-here : numberAt (C .node) k ≡ place (S .nodes) (station (S .stations) k .node)
-    unfolding stationsOf
-    node-here = rows-at 0 512 (λ k. place (S .nodes) (station (S .stations) k .node)) k h
-
-    plant-here : numberAt (C .plant) k ≡ station (S .stations) k .plantType
-    unfolding stationsOf
-    plant-here = rows-at 0 512 (λ k. station (S .stations) k .plantType) k h
-
-    pub tec-here : kwAt (C .tec) k ≡ station (S .stations) k .tec
-    unfolding stationsOf
-    tec-here = ap (λ w. w .0) (rows-at (kilowatts 0) 512 (λ k. kilowatts (station (S .stations) k .tec)) k h)
-
     -- a station's part of a cell
     part : (c : ℕ) → c < 1792 → c / 7 < length (S .nodes)
         → cond (eqb (cellOf (length (S .nodes)) (numberAt (C .node) k) (numberAt (C .plant) k)) c) (kwAt (C .tec) k) 0
@@ -218,7 +206,7 @@ module _ (S : Study) where
     unfolding tecAt
     part c l m =
         let r = station (S .stations) k in
-        rw (node-here, plant-here, tec-here, cell-test (length (S .nodes)) (place (S .nodes) (r .node)) (r .plantType) c l m) refl
+        rw (station-node-at S k h, plant-at S k h, tec-at S k h, cell-test (length (S .nodes)) (place (S .nodes) (r .node)) (r .plantType) c l m) refl
 
   cell-is : (c : ℕ) → length (S .stations) ≤ 512 → c < 1792
       → cellTec (length (S .nodes)) (C .node) (C .plant) (C .tec) (length (S .stations)) c ≡ capacity (c / 7) (c % 7)
@@ -248,7 +236,7 @@ module _ (S : Study) where
       here t m =
           let q : (7 * v + t) / 7 ≡ v = omega arith in
           let r : (7 * v + t) % 7 ≡ t = omega arith in
-          rw e (ap (λ w. w .0) (rows-at (kilowatts 0) 1792 (λ c. kilowatts (capacity (c / 7) (c % 7))) (7 * v + t) (omega arith)) ∙ rw (q, r) refl)
+          rw e (by-type-at S (7 * v + t) (omega arith) ∙ rw (q, r) refl)
 
   pub tec-is : (by : List Kw) → by ≡ tecOf S .«by_type» → tecIn by ≡ tecOf S
   unfolding tecIn tecOf
@@ -276,7 +264,7 @@ module _ (file : List ℕ) (bytes : (i : ℕ) → getD file i 0 < 256) where
   tec-below e k = rw e (go (decLt k 512))
     where
       go : Dec (k < 512) → kwAt (stationsOf (readable file) .tec) k < 2 ^ 32
-      go (yes h) = rw (tec-here (readable file) k h) (station-below k)
+      go (yes h) = rw (tec-at (readable file) k h) (station-below k)
       go (no h) =
           let z : kwAt (stationsOf (readable file) .tec) k ≡ 0 = ap (λ w. w .0) (rows-past (kilowatts 0) 512 (λ k. kilowatts (station (readable file .stations) k .tec)) k (omega arith)) in
           omega arith
