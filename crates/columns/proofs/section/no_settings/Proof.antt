@@ -1,0 +1,12 @@
+use Rattle.columns.specs.Readable.{noStudy}
+use Rattle.columns.specs.Columns.{settingsIn}
+use mathlib.Core.Path.{refl}
+use Rattle.columns.proofs.section.no_settings.Statement.{statement}
+use Rattle.columns.proofs.section.no_settings.Tie as tie
+
+returns : tie.Need-returns
+unfolding settingsIn noStudy
+returns c = refl
+
+pub no-settings-spec : {M : Type 1} → statement M
+no-settings-spec = tie.close (tie.spec returns)

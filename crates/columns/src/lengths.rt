@@ -1,0 +1,55 @@
+// 01, step 4: the expanded length of a circuit, by voltage.
+use crate::StudySettings;
+ghost use mathlib.Core.Path.{_≡_};
+ghost use Prim.Native.Nat.{_≤_};
+ghost use Rattle.meaning.specs.File.{circuitAt};
+ghost use Rattle.meaning.specs.Direction.{overheadFactor, cableFactor};
+ghost use Rattle.columns.specs.Lengths.{lengthIfInRange};
+ghost use Rattle.columns.specs.Columns.{settingsIn};
+
+// The factor of overhead line; a voltage that no sound row has takes that of 132 kV.
+pub fn overhead_factor(factors: StudySettings, voltage: usize) -> usize
+    ensures { λ r. ⌜ r ≡ overheadFactor (settingsIn factors) voltage ⌝ }
+{
+    match voltage {
+        400 => factors.overhead400,
+        275 => factors.overhead275,
+        _ => factors.overhead132,
+    }
+}
+
+// The factor of cable.
+pub fn cable_factor(factors: StudySettings, voltage: usize) -> usize
+    ensures { λ r. ⌜ r ≡ cableFactor (settingsIn factors) voltage ⌝ }
+{
+    match voltage {
+        400 => factors.cable400,
+        275 => factors.cable275,
+        _ => factors.cable132,
+    }
+}
+
+// The expanded length in mm of the circuit at a place.
+pub fn length_at(file: &[u8], at: usize, factors: StudySettings) -> u64
+    requires { ⌜ at ≤ 131072 ⌝ }
+    ensures { λ r. ⌜ r ≡ lengthIfInRange (settingsIn factors) (circuitAt (now (file .entry)) at) ⌝ }
+{
+    let voltage = fields::u32_at(file, at + 24);
+    let overhead = fields::u32_at(file, at + 32);
+    let cable = fields::u32_at(file, at + 36);
+    let over = overhead_factor(factors, voltage);
+    let under = cable_factor(factors, voltage);
+    if overhead > 500_000 {
+        return 0;
+    }
+    if cable > 500_000 {
+        return 0;
+    }
+    if over > 30_000 {
+        return 0;
+    }
+    if under > 30_000 {
+        return 0;
+    }
+    (overhead * over + cable * under) as u64
+}
