@@ -1,0 +1,2 @@
+-- What the contracts of `tables` cite beside `meaning` and `columns`.
+pub mod First
