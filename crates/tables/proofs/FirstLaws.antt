@@ -1,6 +1,6 @@
 -- A search that answers a number, and the stage that it settles.
 use mathlib.Core.Path.{_≡_, refl, sym, _∙_}
-use mathlib.Core.Bool.{Bool, true, false, not, _&&_, true≢false}
+use mathlib.Core.Bool.{Bool, true, false, not, _&&_, _||_}
 use mathlib.Core.Option.{Option, none, some, Option·getD}
 use Prim.Native.Nat.{ℕ, suc, _+_, _≤_, _<_}
 use native.Mathlib.Omega.{arith}
@@ -45,35 +45,24 @@ first-as e f =
       here = λ h. sym (e _ h) ∙ f .here h;
     }
 
--- a row is sound by itself and its name is not seen earlier, or it is one of the two
-sound-both : (a b : Bool) → not a ≡ false → b ≡ false → not (a && not b) ≡ false
-sound-both true false e f = refl
-sound-both true true e f = f
-sound-both false b e f = e
+-- the lowest row of which one of two things holds is the lower of the two lowest
+module _ {bad seen : ℕ → Bool} {n r s : ℕ} (f : IsFirst bad n r) (g : IsFirst seen n s) where
+  neither : (j : ℕ) → j < r → j < s → (bad j || seen j) ≡ false
+  neither j h k = rw (f .before j h) (g .before j k)
 
-unsound : (a b : Bool) → not a ≡ true → not (a && not b) ≡ true
-unsound true b e = absurd (true≢false (sym e))
-unsound false b e = refl
+  right : (a b : Bool) → b ≡ true → (a || b) ≡ true
+  right true b e = refl
+  right false b e = e
 
-repeated : (a b : Bool) → b ≡ true → not (a && not b) ≡ true
-repeated true true e = refl
-repeated true false e = e
-repeated false b e = refl
+  pub lower-first : r ≤ s → IsFirst (λ i. bad i || seen i) n r
+  lower-first h = record { within = f .within; before = λ j k. neither j k (omega arith); here = λ k. rw (f .here k) refl }
 
--- the lowest row that is unsound or repeated is the lower of the lowest unsound and the lowest repeated
-module _ (sound seen : ℕ → Bool) {n r s : ℕ} (f : IsFirst (λ i. not (sound i)) n r) (g : IsFirst seen n s) where
-  pub lower-unsound : r ≤ s → IsFirst (λ i. not (sound i && not (seen i))) n r
-  lower-unsound h =
-      record {
-        within = f .within;
-        before = λ j k. sound-both (sound j) (seen j) (f .before j k) (g .before j (omega arith));
-        here = λ k. unsound (sound r) (seen r) (f .here k);
-      }
+  pub lower-second : s ≤ r → IsFirst (λ i. bad i || seen i) n s
+  lower-second h =
+      record { within = g .within; before = λ j k. neither j (omega arith) k; here = λ k. right (bad s) (seen s) (g .here k) }
 
-  pub lower-repeated : s ≤ r → IsFirst (λ i. not (sound i && not (seen i))) n s
-  lower-repeated h =
-      record {
-        within = g .within;
-        before = λ j k. sound-both (sound j) (seen j) (f .before j (omega arith)) (g .before j k);
-        here = λ k. repeated (sound s) (seen s) (g .here k);
-      }
+-- not both is one or the other
+pub not-and : (a b : Bool) → (not a || b) ≡ not (a && not b)
+not-and true true = refl
+not-and true false = refl
+not-and false b = refl

@@ -1,2 +1,3 @@
 -- What the contracts of `tables` cite beside `meaning` and `columns`.
 pub mod First
+pub mod Told
