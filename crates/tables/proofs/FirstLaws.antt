@@ -1,5 +1,5 @@
 -- A search that answers a number, and the stage that it settles.
-use mathlib.Core.Path.{_≡_, refl, sym, _∙_}
+use mathlib.Core.Path.{_≡_, refl, sym, _∙_, ap}
 use mathlib.Core.Bool.{Bool, true, false, not, _&&_, _||_}
 use mathlib.Core.Option.{Option, none, some, Option·getD}
 use Prim.Native.Nat.{ℕ, suc, _+_, _≤_, _<_}
@@ -7,7 +7,9 @@ use native.Mathlib.Omega.{arith}
 use native.Mathlib.Numerals.{add-one}
 use Rattle.meaning.specs.declared.Answer.{Answer}
 use Rattle.meaning.specs.Answers.{passed, at}
-use Rattle.meaning.specs.Rows.{lowest}
+use Rattle.meaning.specs.Rows.{lowest, found}
+use Rattle.meaning.specs.Name.{Name, sameName}
+use Rattle.meaning.specs.Tables.{seenEarlier}
 use Rattle.meaning.proofs.Rows.{Lowest, nothing, first, lowest-is, lowest-stops, lowest-none, Passed}
 use Rattle.tables.specs.First.{IsFirst}
 
@@ -66,3 +68,17 @@ pub not-and : (a b : Bool) → (not a || b) ≡ not (a && not b)
 not-and true true = refl
 not-and true false = refl
 not-and false b = refl
+
+-- a search answers the same for tests that say the same of every row
+lowest-same : (f g : ℕ → Bool) (n : ℕ) → ((i : ℕ) → i < n → f i ≡ g i) → lowest f n ≡ lowest g n
+lowest-same f g n e = go (lowest-is f n)
+  where
+    go : {o : Option ℕ} → Lowest f n o → o ≡ lowest g n
+    go (nothing h) = sym (lowest-none g n (λ j k. sym (e j k) ∙ h j k))
+    go (first i h t l) = sym (lowest-stops g n i h (sym (e i h) ∙ t) (λ j k. sym (e j (omega arith)) ∙ l j k))
+
+-- whether a name is seen earlier is said by the names up to its row
+pub seen-same : (a b : ℕ → Name) (i : ℕ) → ((j : ℕ) → j ≤ i → a j ≡ b j) → seenEarlier a i ≡ seenEarlier b i
+unfolding seenEarlier
+seen-same a b i e =
+    ap found (lowest-same (λ j. sameName (a j) (a i)) (λ j. sameName (b j) (b i)) i (λ j h. rw (e j (omega arith), e i (omega arith))))

@@ -1,2 +1,4 @@
 pub mod FirstLaws
+pub mod PlaceLaws
 pub mod NodeLaws
+pub mod CircuitLaws

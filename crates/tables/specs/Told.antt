@@ -2,10 +2,12 @@
 use mathlib.Core.Path.{_≡_}
 use mathlib.Core.Bool.{Bool, true, not}
 use mathlib.Core.List.{List}
-use Prim.Native.Nat.{ℕ, _+_, _*_, _≤_}
-use lib.ListN.{length}
-use Rattle.meaning.specs.File.{fileWhole, nodeAt, studyOf}
-use Rattle.meaning.specs.Tables.{soundNodeRow}
+use Prim.Native.Nat.{ℕ, _+_, _*_, _^_, _≤_, _<_}
+use lib.ListN.{length, getD}
+use Rattle.meaning.specs.File.{fileWhole, nameAt, nodeAt, circuitAt, studyOf}
+use Rattle.meaning.specs.Tables.{soundNodeRow, soundCircuitRow}
+use Rattle.meaning.specs.Study.{circuit}
+use Rattle.meaning.specs.Grid.{place}
 
 -- a whole file, and the rows of its nodes' table
 pub record ToldNodes (file : List ℕ) (n : ℕ) : Type 0 where
@@ -21,3 +23,24 @@ pub record ToldZones (file : List ℕ) (g d : ℕ) : Type 0 where
 -- the node's row at its place in a whole file is not sound by itself
 abbrev pub unsoundNode : List ℕ → ℕ → Bool
 unsoundNode file i = not (soundNodeRow (studyOf file .settings) (nodeAt file (64 + 24 * i)))
+
+-- the ends of a circuit's row at a place, as its names have them
+pub record ToldEnds (file : List ℕ) (at n a b : ℕ) : Type 0 where
+  pub near : at ≤ 2 ^ 32
+  pub nodes : n ≡ length (studyOf file .nodes)
+  pub first : a ≡ place (studyOf file .nodes) (nameAt file at)
+  pub second : b ≡ place (studyOf file .nodes) (nameAt file (at + 12))
+
+-- a whole file, the rows of its nodes' and circuits' tables, and the columns of the circuits' ends
+pub record ToldCircuits (file : List ℕ) (n m : ℕ) (a b : List ℕ) : Type 0 where
+  pub nodes : ToldNodes file n
+  pub count : m ≡ length (studyOf file .circuits)
+  pub few : m ≤ 512
+  pub firsts : m ≤ length a
+  pub seconds : m ≤ length b
+  pub first : (c : ℕ) → c < m → getD a c 0 ≡ place (studyOf file .nodes) (circuit (studyOf file .circuits) c .first)
+  pub second : (c : ℕ) → c < m → getD b c 0 ≡ place (studyOf file .nodes) (circuit (studyOf file .circuits) c .second)
+
+-- the circuit's row at its place in a whole file is not sound
+abbrev pub unsoundCircuit : List ℕ → (n i : ℕ) → Bool
+unsoundCircuit file n i = not (soundCircuitRow (studyOf file .nodes) (circuitAt file (64 + 24 * n + 44 * i)))

@@ -6,7 +6,6 @@ ghost use Rattle.meaning.specs.File.{nodeAt, studyOf};
 ghost use Rattle.meaning.specs.Tables.{soundNodeRow, nodesStage};
 ghost use Rattle.tables.specs.First.{IsFirst};
 ghost use Rattle.tables.specs.Told.{ToldZones, ToldNodes, unsoundNode};
-
 use meaning::Answer;
 
 // Whether the row at a place is sound by itself.

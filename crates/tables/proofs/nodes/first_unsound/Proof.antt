@@ -8,9 +8,6 @@ use Rattle.tables.specs.Told.{unsoundNode}
 use Rattle.tables.proofs.FirstLaws.{first-stops, first-ends}
 use Rattle.tables.proofs.nodes.first_unsound.Statement.{statement}
 use Rattle.tables.proofs.nodes.first_unsound.Tie as tie
-use Rattle.tables.proofs.nodes.first_unsound.Reads as reads
-use Rattle.tables.proofs.nodes.first_unsound.Lts as lts
-use Rattle.tables.proofs.nodes.sound_row.Reads as sound-row-reads
 
 abbrev Inv-loop : tie.InvT-loop
 Inv-loop file count generation demand i₀ i = (i ≤ count) × Passed (unsoundNode file) i
@@ -18,39 +15,30 @@ Inv-loop file count generation demand i₀ i = (i ≤ count) × Passed (unsoundN
 abbrev μ-loop : tie.MeasureT-loop
 μ-loop file count generation demand i₀ i = count - i
 
--- src/nodes.rt:30:5
 loop-holds : tie.Need-loop-holds Inv-loop μ-loop
 loop-holds c = (omega arith, passed-zero _)
 
--- src/nodes.rt:31:33
 mul-sound-row : tie.Need-mul-sound-row Inv-loop μ-loop
 mul-sound-row c = search needs
 
--- src/nodes.rt:31:28
 add-sound-row : tie.Need-add-sound-row Inv-loop μ-loop
 add-sound-row c = search needs
 
--- src/nodes.rt:31:12
 sound-row-requires : tie.Need-sound-row-requires Inv-loop μ-loop
 sound-row-requires c κs = (omega arith, c .before .before .before .pre .1)
 
--- src/nodes.rt:32:13
 add-i : tie.Need-add-i Inv-loop μ-loop
 add-i c = search needs
 
--- src/nodes.rt:30:5
 loop-less : tie.Need-loop-less Inv-loop μ-loop
 loop-less c = search needs
 
--- src/nodes.rt:30:5
 loop-again : tie.Need-loop-again Inv-loop μ-loop
 loop-again c = (omega arith, passed-more (c .before .before .before .loop .inv .1) (ap not (sym (c .before .sound-row .ensures) ∙ c .if1 .taken)))
 
--- src/nodes.rt:34:13
 returns : tie.Need-returns Inv-loop μ-loop
 returns c = first-stops (c .before .before .before .loop .inv .1) (omega arith) (ap not (sym (c .before .sound-row .ensures) ∙ c .if1 .left))
 
--- src/nodes.rt:25:1
 returns-2 : tie.Need-returns-2 Inv-loop μ-loop
 returns-2 c = first-ends (c .before .loop .inv .1) (omega arith)
 

@@ -3,49 +3,34 @@ use Rattle.meaning.specs.File.{nodeAt}
 use Rattle.meaning.specs.Tables.{soundNodeRow}
 use Rattle.tables.proofs.nodes.sound_row.Statement.{statement}
 use Rattle.tables.proofs.nodes.sound_row.Tie as tie
-use Rattle.tables.proofs.nodes.sound_row.Reads as reads
-use Rattle.tables.proofs.nodes.sound_row.Lts as lts
-use Rattle.fields.proofs.name_formed.Reads as name-formed-reads
-use Rattle.fields.proofs.u32_at.Reads as u32-at-reads
-use Rattle.tables.proofs.tests.between.Reads as between-reads
 
--- src/nodes.rt:18:5
 name-formed-requires : tie.Need-name-formed-requires
 name-formed-requires c κs = search needs
 
--- src/nodes.rt:19:47
 add-u32-at : tie.Need-add-u32-at
 add-u32-at c = search needs
 
--- src/nodes.rt:19:26
 u32-at-requires : tie.Need-u32-at-requires
 u32-at-requires c κs = search needs
 
--- src/nodes.rt:19:11
 between-requires : tie.Need-between-requires
 between-requires c κs = search needs
 
--- src/nodes.rt:20:47
 add-u32-at-2 : tie.Need-add-u32-at-2
 add-u32-at-2 c = search needs
 
--- src/nodes.rt:20:26
 u32-at-requires-2 : tie.Need-u32-at-requires-2
 u32-at-requires-2 c κs = search needs
 
--- src/nodes.rt:20:11
 between-requires-2 : tie.Need-between-requires-2
 between-requires-2 c κs = search needs
 
--- src/nodes.rt:21:33
 add-u32-at-3 : tie.Need-add-u32-at-3
 add-u32-at-3 c = search needs
 
--- src/nodes.rt:21:12
 u32-at-requires-3 : tie.Need-u32-at-requires-3
 u32-at-requires-3 c κs = search needs
 
--- src/nodes.rt:14:1
 returns : tie.Need-returns
 unfolding soundNodeRow nodeAt
 returns c = cc

@@ -4,40 +4,28 @@ use Rattle.tables.proofs.NodeLaws.{node-unsound, node-repeated, nodes-s
 use borrow.Author.Needs.{needs}
 use Rattle.tables.proofs.nodes.stage.Statement.{statement}
 use Rattle.tables.proofs.nodes.stage.Tie as tie
-use Rattle.tables.proofs.nodes.stage.Reads as reads
-use Rattle.tables.proofs.nodes.stage.Lts as lts
-use Rattle.fields.proofs.repeated.Reads as repeated-reads
-use Rattle.tables.proofs.nodes.first_unsound.Reads as first-unsound-reads
 
--- src/nodes.rt:45:9
 first-unsound-requires : tie.Need-first-unsound-requires
 first-unsound-requires c κs = search needs
 
--- src/nodes.rt:46:51
 cast-repeated : tie.Need-cast-repeated
 cast-repeated c = search needs
 
--- src/nodes.rt:46:9
 repeated-requires : tie.Need-repeated-requires
 repeated-requires c κs = search needs
 
--- src/nodes.rt:48:32
 add-t9 : tie.Need-add-t9
 add-t9 c = search needs
 
--- src/nodes.rt:48:9
 returns : tie.Need-returns
 returns c = let p = c .before .before in node-unsound (p .before .before .pre .0) (p .first-unsound .ensures) (first-lowest (c .before .repeated .ensures)) (omega arith)
 
--- src/nodes.rt:51:32
 add-t10 : tie.Need-add-t10
 add-t10 c = search needs
 
--- src/nodes.rt:51:9
 returns-2 : tie.Need-returns-2
 returns-2 c = let p = c .before .before .before in node-repeated (p .before .before .pre .0) (p .first-unsound .ensures) (first-lowest (c .before .before .repeated .ensures)) (omega arith) (omega arith)
 
--- src/nodes.rt:41:1
 returns-3 : tie.Need-returns-3
 returns-3 c = let p = c .before .before .before in nodes-sound (p .before .before .pre .0) (p .first-unsound .ensures) (first-lowest (c .before .before .repeated .ensures)) (omega arith) (omega arith)
 
