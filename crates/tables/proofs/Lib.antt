@@ -2,3 +2,4 @@ pub mod FirstLaws
 pub mod PlaceLaws
 pub mod NodeLaws
 pub mod CircuitLaws
+pub mod StationLaws

@@ -4,9 +4,9 @@ use mathlib.Core.Bool.{Bool, true, not}
 use mathlib.Core.List.{List}
 use Prim.Native.Nat.{ℕ, _+_, _*_, _^_, _≤_, _<_}
 use lib.ListN.{length, getD}
-use Rattle.meaning.specs.File.{fileWhole, nameAt, nodeAt, circuitAt, studyOf}
-use Rattle.meaning.specs.Tables.{soundNodeRow, soundCircuitRow}
-use Rattle.meaning.specs.Study.{circuit}
+use Rattle.meaning.specs.File.{fileWhole, nameAt, nodeAt, circuitAt, stationAt, studyOf}
+use Rattle.meaning.specs.Tables.{soundNodeRow, soundCircuitRow, soundStationRow}
+use Rattle.meaning.specs.Study.{circuit, station}
 use Rattle.meaning.specs.Grid.{place}
 
 -- a whole file, and the rows of its nodes' table
@@ -44,3 +44,23 @@ pub record ToldCircuits (file : List ℕ) (n m : ℕ) (a b : List ℕ) : Type 0 
 -- the circuit's row at its place in a whole file is not sound
 abbrev pub unsoundCircuit : List ℕ → (n i : ℕ) → Bool
 unsoundCircuit file n i = not (soundCircuitRow (studyOf file .nodes) (circuitAt file (64 + 24 * n + 44 * i)))
+
+-- the node of a station's row at a place, as its name has it
+pub record ToldNode (file : List ℕ) (at n v : ℕ) : Type 0 where
+  pub near : at ≤ 2 ^ 32
+  pub nodes : n ≡ length (studyOf file .nodes)
+  pub node : v ≡ place (studyOf file .nodes) (nameAt file (at + 12))
+
+-- a whole file, the rows of its tables, and the column of the stations' nodes
+pub record ToldStations (file : List ℕ) (n m k : ℕ) (v : List ℕ) : Type 0 where
+  pub nodes : ToldNodes file n
+  pub circuits : m ≡ length (studyOf file .circuits)
+  pub fewer : m ≤ 512
+  pub count : k ≡ length (studyOf file .stations)
+  pub few : k ≤ 512
+  pub all : k ≤ length v
+  pub node : (i : ℕ) → i < k → getD v i 0 ≡ place (studyOf file .nodes) (station (studyOf file .stations) i .node)
+
+-- the station's row at its place in a whole file is not sound by itself
+abbrev pub unsoundStation : List ℕ → (n m i : ℕ) → Bool
+unsoundStation file n m i = not (soundStationRow (studyOf file .nodes) (stationAt file (64 + 24 * n + 44 * m + 32 * i)))
