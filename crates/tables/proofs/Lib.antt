@@ -3,3 +3,4 @@ pub mod PlaceLaws
 pub mod NodeLaws
 pub mod CircuitLaws
 pub mod StationLaws
+pub mod WalkLaws

@@ -1,3 +1,4 @@
 -- What the contracts of `tables` cite beside `meaning` and `columns`.
 pub mod First
 pub mod Told
+pub mod Walk

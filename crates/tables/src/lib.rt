@@ -1,6 +1,7 @@
 // The case file judged: refusals 1 to 7 of document 01, and the columns of a file.
 mod circuits;
 mod nodes;
+mod reach;
 mod stations;
 mod tests;
 
