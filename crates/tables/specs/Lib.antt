@@ -2,3 +2,4 @@
 pub mod First
 pub mod Told
 pub mod Walk
+pub mod Totals

@@ -2,8 +2,10 @@
 mod circuits;
 mod nodes;
 mod reach;
+mod settings;
 mod stations;
 mod tests;
+mod totals;
 
 ghost use mathlib.Core.Path.{_≡_};
 ghost use Rattle.meaning.specs.Answers.{values, systemNumber};
