@@ -70,7 +70,7 @@ not-and true false = refl
 not-and false b = refl
 
 -- a search answers the same for tests that say the same of every row
-lowest-same : (f g : ℕ → Bool) (n : ℕ) → ((i : ℕ) → i < n → f i ≡ g i) → lowest f n ≡ lowest g n
+pub lowest-same : (f g : ℕ → Bool) (n : ℕ) → ((i : ℕ) → i < n → f i ≡ g i) → lowest f n ≡ lowest g n
 lowest-same f g n e = go (lowest-is f n)
   where
     go : {o : Option ℕ} → Lowest f n o → o ≡ lowest g n

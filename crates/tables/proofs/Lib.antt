@@ -4,3 +4,5 @@ pub mod NodeLaws
 pub mod CircuitLaws
 pub mod StationLaws
 pub mod WalkLaws
+pub mod TotalLaws
+pub mod ReachLaws

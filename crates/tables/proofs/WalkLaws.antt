@@ -245,6 +245,12 @@ start-marks {N} h k =
     far v (inl p) e = here (p .0)
     far v (inr p) e = absurd (omega (arith, p, none-marked 256 v))
 
+-- two tests of one thing
+pub agree : (a b : Bool) {P : Type 0} → Says a P → Says b P → a ≡ b
+agree true b s t = sym (t .1 (s .0 refl))
+agree false true s t = s .1 (t .0 refl)
+agree false false s t = refl
+
 module _ {N : Network} (placed : Placed N) {l : List ℕ} (w : Walked N l) where
   all-marked : {v : ℕ} → Reached N v → getD l v 0 ≡ 1
   all-marked (here e) = rw e (w .marks .home)
@@ -254,11 +260,6 @@ module _ {N : Network} (placed : Placed N) {l : List ℕ} (w : Walked N l) where
   -- marks that are complete are those of the definitions
   marks-say : (v : ℕ) → eqb (getD l v 0) 1 ≡ marked (reachedNodes N) v
   marks-say v = agree _ _ (says-as says-eq (w .marks .reached v, all-marked)) (reached-is N placed v)
-    where
-      agree : (a b : Bool) {P : Type 0} → Says a P → Says b P → a ≡ b
-      agree true b s t = sym (t .1 (s .0 refl))
-      agree false true s t = s .1 (t .0 refl)
-      agree false false s t = refl
 
   pub node-unreached : {r : ℕ} → IsFirst (unmarkedAt l) (N .nodes) r → r < N .nodes → Unreached (r + 1) ≡ reachStage N
   unfolding reachStage

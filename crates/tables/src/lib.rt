@@ -8,10 +8,18 @@ mod tests;
 mod totals;
 
 ghost use mathlib.Core.Path.{_≡_};
-ghost use Rattle.meaning.specs.Answers.{values, systemNumber};
+ghost use Rattle.meaning.specs.Answers.{values, stops, systemNumber};
 use meaning::Answer;
 use meaning::System;
 use meaning::Values;
+
+// Whether an answer is a refusal.
+fn stops(answer: Answer) -> bool
+    ensures { λ r. ⌜ r ≡ stops answer ⌝ }
+{
+    let carried = values(answer);
+    1 <= carried.number
+}
 
 // The number of a system.
 fn system_number(system: System) -> usize

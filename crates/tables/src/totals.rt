@@ -6,7 +6,8 @@ ghost use lib.Dec.{leb};
 ghost use Rattle.integers.specs.Numbers.{sum};
 ghost use Rattle.meaning.specs.Rows.{_between_and_};
 ghost use Rattle.columns.specs.Column.{kilowatts};
-ghost use Rattle.tables.specs.Totals.{inColumn, Small};
+ghost use Rattle.tables.specs.Totals.{inColumn, Small, totalsOf};
+use meaning::Answer;
 use meaning::Kw;
 
 // The sum of the first kilowatts of a column.
@@ -32,4 +33,15 @@ pub fn sound(demand: Kw, tec: Kw) -> bool
         & (demand.0 <= 100000000)
         & ((1 <= tec.0) & (tec.0 <= 100000000))
         & (demand.0 <= tec.0)
+}
+
+// The stage: a total out of its range, or less TEC than demand.
+pub fn stage(count: usize, demand: [Kw; 256], tec: [Kw; 256]) -> Answer
+    requires { ⌜ (count ≤ 256) × Small demand count × Small tec count ⌝ }
+    ensures { λ r. ⌜ r ≡ totalsOf (sum count (inColumn demand)) (sum count (inColumn tec)) ⌝ }
+{
+    if sound(total(demand, count), total(tec, count)) {
+        return Answer::Accepted(0);
+    }
+    Answer::BadTotal
 }
