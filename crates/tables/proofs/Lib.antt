@@ -6,3 +6,4 @@ pub mod StationLaws
 pub mod WalkLaws
 pub mod TotalLaws
 pub mod ReachLaws
+pub mod ToldLaws

@@ -8,6 +8,11 @@ use Rattle.meaning.specs.File.{fileWhole, nameAt, nodeAt, circuitAt, stationAt,
 use Rattle.meaning.specs.Tables.{soundNodeRow, soundCircuitRow, soundStationRow}
 use Rattle.meaning.specs.Study.{circuit, station}
 use Rattle.meaning.specs.Grid.{place}
+use Rattle.columns.specs.declared.RowCounts.{RowCounts}
+use Rattle.columns.specs.declared.StudySettings.{StudySettings}
+use Rattle.columns.specs.declared.CircuitColumns.{CircuitColumns}
+use Rattle.columns.specs.declared.StationColumns.{StationColumns}
+use Rattle.columns.specs.Columns.{countsOf, settingsIn, circuitsOf, stationsOf}
 
 -- a whole file, and the rows of its nodes' table
 pub record ToldNodes (file : List ℕ) (n : ℕ) : Type 0 where
@@ -64,3 +69,11 @@ pub record ToldStations (file : List ℕ) (n m k : ℕ) (v : List ℕ) : Type 0 
 -- the station's row at its place in a whole file is not sound by itself
 abbrev pub unsoundStation : List ℕ → (n m i : ℕ) → Bool
 unsoundStation file n m i = not (soundStationRow (studyOf file .nodes) (stationAt file (64 + 24 * n + 44 * m + 32 * i)))
+
+-- a whole file and its columns
+pub record ToldTables (file : List ℕ) (n : RowCounts) (s : StudySettings) (c : CircuitColumns) (k : StationColumns) : Type 0 where
+  pub whole : fileWhole file ≡ true
+  pub counts : n ≡ countsOf (studyOf file)
+  pub settings : settingsIn s ≡ studyOf file .settings
+  pub circuits : c ≡ circuitsOf (studyOf file)
+  pub stations : k ≡ stationsOf (studyOf file)

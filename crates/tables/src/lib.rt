@@ -1,4 +1,5 @@
 // The case file judged: refusals 1 to 7 of document 01, and the columns of a file.
+mod chain;
 mod circuits;
 mod nodes;
 mod reach;

@@ -1,8 +1,8 @@
 // Tests of numbers, as the definitions have them.
 ghost use mathlib.Core.Path.{_≡_};
-ghost use mathlib.Core.Bool.{_&&_};
-ghost use lib.Dec.{leb};
+ghost use Rattle.meaning.specs.Answers.{unless};
 ghost use Rattle.meaning.specs.Rows.{_between_and_};
+use meaning::Answer;
 
 // Whether a number is in a range, both ends in it.
 pub fn between(x: usize, low: usize, high: usize) -> bool
@@ -11,9 +11,12 @@ pub fn between(x: usize, low: usize, high: usize) -> bool
     (low <= x) & (x <= high)
 }
 
-// Whether a number is at most a limit.
-pub fn at_most(x: usize, limit: usize) -> bool
-    ensures { λ r. ⌜ r ≡ leb x limit ⌝ }
+// Refused unless the test holds.
+pub fn unless(test: bool, answer: Answer) -> Answer
+    ensures { λ r. ⌜ r ≡ unless test answer ⌝ }
 {
-    x <= limit
+    if test {
+        return Answer::Accepted(0);
+    }
+    answer
 }
