@@ -7,3 +7,4 @@ pub mod WalkLaws
 pub mod TotalLaws
 pub mod ReachLaws
 pub mod ToldLaws
+pub mod GridLaws

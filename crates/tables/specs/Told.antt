@@ -7,11 +7,14 @@ use lib.ListN.{length, getD}
 use Rattle.meaning.specs.File.{fileWhole, nameAt, nodeAt, circuitAt, stationAt, studyOf}
 use Rattle.meaning.specs.Tables.{soundNodeRow, soundCircuitRow, soundStationRow}
 use Rattle.meaning.specs.Study.{circuit, station}
-use Rattle.meaning.specs.Grid.{place}
+use Rattle.meaning.specs.declared.Kw.{Kw}
+use Rattle.meaning.specs.Rows.{rows}
+use Rattle.meaning.specs.Grid.{place, gridOf, nodeDemand, nodeTec}
 use Rattle.columns.specs.declared.RowCounts.{RowCounts}
 use Rattle.columns.specs.declared.StudySettings.{StudySettings}
 use Rattle.columns.specs.declared.CircuitColumns.{CircuitColumns}
 use Rattle.columns.specs.declared.StationColumns.{StationColumns}
+use Rattle.columns.specs.Column.{kilowatts}
 use Rattle.columns.specs.Columns.{countsOf, settingsIn, circuitsOf, stationsOf}
 
 -- a whole file, and the rows of its nodes' table
@@ -77,3 +80,8 @@ pub record ToldTables (file : List ℕ) (n : RowCounts) (s : StudySettings) (c :
   pub settings : settingsIn s ≡ studyOf file .settings
   pub circuits : c ≡ circuitsOf (studyOf file)
   pub stations : k ≡ stationsOf (studyOf file)
+
+-- the columns of demand and of the TEC that scales
+pub record ToldKilowatts (file : List ℕ) (d t : List Kw) : Type 0 where
+  pub demand : d ≡ rows 256 (λ v. kilowatts (nodeDemand (gridOf (studyOf file)) v))
+  pub tec : t ≡ rows 256 (λ v. kilowatts (nodeTec (gridOf (studyOf file)) v))

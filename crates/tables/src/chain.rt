@@ -12,10 +12,17 @@ use columns::RowCounts;
 use columns::StationColumns;
 use columns::StudySettings;
 use meaning::Answer;
+use meaning::Kw;
 ghost use mathlib.Core.Path.{_≡_};
+ghost use Rattle.integers.specs.Numbers.{sum};
 ghost use Rattle.meaning.specs.File.{studyOf};
-ghost use Rattle.meaning.specs.Outcome.{rowsStage};
-ghost use Rattle.tables.specs.Told.{ToldTables};
+ghost use Rattle.meaning.specs.Answers.{_orElse_};
+ghost use Rattle.meaning.specs.Grid.{gridOf};
+ghost use Rattle.meaning.specs.Network.{reachStage};
+ghost use Rattle.meaning.specs.Outcome.{rowsStage, gridStage};
+ghost use Rattle.tables.specs.Told.{ToldTables, ToldKilowatts};
+ghost use Rattle.tables.specs.Totals.{inColumn, Small, totalsOf};
+ghost use Rattle.tables.specs.Walk.{endsNetwork, Walks};
 
 // 2 to 5.
 pub fn rows_stage(
@@ -44,4 +51,52 @@ pub fn rows_stage(
     }
     let home = at.node;
     stations::stage(file, rows.nodes, rows.circuits, rows.stations, &home)
+}
+
+// 6 and 7, over columns.
+pub fn grid_stage(
+    nodes: usize,
+    reference: usize,
+    count: usize,
+    ends: CircuitColumns,
+    demand: [Kw; 256],
+    tec: [Kw; 256],
+) -> Answer
+    requires { ⌜ Walks nodes reference count (ends .first) (ends .second) × Small demand nodes × Small tec nodes ⌝ }
+    ensures { λ r. ⌜ r ≡ (reachStage (endsNetwork nodes reference count (ends .first) (ends .second)) orElse totalsOf (sum nodes (inColumn demand)) (sum nodes (inColumn tec))) ⌝ }
+{
+    let first = ends.first;
+    let second = ends.second;
+    let reached = reach::stage(nodes, reference, count, &first, &second);
+    if stops(reached) {
+        return reached;
+    }
+    totals::stage(nodes, demand, tec)
+}
+
+// 2 to 7.
+pub fn study_stage(
+    file: &[u8],
+    rows: RowCounts,
+    read: StudySettings,
+    ends: CircuitColumns,
+    at: StationColumns,
+    demand: [Kw; 256],
+    tec: [Kw; 256],
+) -> Answer
+    requires { ⌜ ToldTables (now file) rows read ends at × ToldKilowatts (now file) demand tec ⌝ }
+    ensures { λ r. ⌜ r ≡ (rowsStage (studyOf (now (file .entry))) orElse gridStage (gridOf (studyOf (now (file .entry))))) ⌝ }
+{
+    let unsound = rows_stage(file, rows, read, ends, at);
+    if stops(unsound) {
+        return unsound;
+    }
+    grid_stage(
+        rows.nodes,
+        read.reference - 1,
+        rows.circuits,
+        ends,
+        demand,
+        tec,
+    )
 }
