@@ -8,3 +8,4 @@ pub mod TotalLaws
 pub mod ReachLaws
 pub mod ToldLaws
 pub mod GridLaws
+pub mod ChainLaws

@@ -15,7 +15,11 @@ use Rattle.columns.specs.declared.StudySettings.{StudySettings}
 use Rattle.columns.specs.declared.CircuitColumns.{CircuitColumns}
 use Rattle.columns.specs.declared.StationColumns.{StationColumns}
 use Rattle.columns.specs.Column.{kilowatts}
-use Rattle.columns.specs.Columns.{countsOf, settingsIn, circuitsOf, stationsOf}
+use Rattle.columns.specs.declared.NodeColumns.{NodeColumns}
+use Rattle.columns.specs.declared.CapacityColumns.{CapacityColumns}
+use Rattle.columns.specs.Readable.{readable}
+use Rattle.columns.specs.Columns.{countsOf, settingsIn, nodesOf, circuitsOf, stationsOf}
+use Rattle.columns.specs.Tec.{tecOf}
 
 -- a whole file, and the rows of its nodes' table
 pub record ToldNodes (file : List ℕ) (n : ℕ) : Type 0 where
@@ -85,3 +89,12 @@ pub record ToldTables (file : List ℕ) (n : RowCounts) (s : StudySettings) (c :
 pub record ToldKilowatts (file : List ℕ) (d t : List Kw) : Type 0 where
   pub demand : d ≡ rows 256 (λ v. kilowatts (nodeDemand (gridOf (studyOf file)) v))
   pub tec : t ≡ rows 256 (λ v. kilowatts (nodeTec (gridOf (studyOf file)) v))
+
+-- the columns of any file
+pub record ToldColumns (file : List ℕ) (n : RowCounts) (s : StudySettings) (v : NodeColumns) (c : CircuitColumns) (k : CapacityColumns) : Type 0 where
+  pub counts : n ≡ countsOf (readable file)
+  pub settings : settingsIn s ≡ readable file .settings
+  pub nodes : v ≡ nodesOf (readable file)
+  pub circuits : c ≡ circuitsOf (readable file)
+  pub stations : k .stations ≡ stationsOf (readable file)
+  pub tec : k .tec ≡ tecOf (readable file)

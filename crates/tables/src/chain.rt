@@ -7,20 +7,24 @@ use crate::stations;
 use crate::stops;
 use crate::tests;
 use crate::totals;
+use columns::CapacityColumns;
 use columns::CircuitColumns;
+use columns::NodeColumns;
 use columns::RowCounts;
 use columns::StationColumns;
 use columns::StudySettings;
 use meaning::Answer;
 use meaning::Kw;
 ghost use mathlib.Core.Path.{_≡_};
+ghost use mathlib.Core.Bool.{_&&_};
+ghost use lib.Dec.{eqb};
 ghost use Rattle.integers.specs.Numbers.{sum};
 ghost use Rattle.meaning.specs.File.{studyOf};
 ghost use Rattle.meaning.specs.Answers.{_orElse_};
 ghost use Rattle.meaning.specs.Grid.{gridOf};
 ghost use Rattle.meaning.specs.Network.{reachStage};
-ghost use Rattle.meaning.specs.Outcome.{rowsStage, gridStage};
-ghost use Rattle.tables.specs.Told.{ToldTables, ToldKilowatts};
+ghost use Rattle.meaning.specs.Outcome.{rowsStage, gridStage, tablesStage};
+ghost use Rattle.tables.specs.Told.{ToldTables, ToldKilowatts, ToldColumns};
 ghost use Rattle.tables.specs.Totals.{inColumn, Small, totalsOf};
 ghost use Rattle.tables.specs.Walk.{endsNetwork, Walks};
 
@@ -99,4 +103,39 @@ pub fn study_stage(
         demand,
         tec,
     )
+}
+
+// Whether the three runs have this length.
+pub fn same_lengths(base: usize, wider: usize, local: usize, count: usize) -> bool
+    ensures { λ r. ⌜ r ≡ (eqb base count && eqb wider count && eqb local count) ⌝ }
+{
+    (base == count) & (wider == count) & (local == count)
+}
+
+// 1 to 7.
+pub fn tables_stage(
+    file: &[u8],
+    base: usize,
+    wider: usize,
+    local: usize,
+    rows: RowCounts,
+    read: StudySettings,
+    nodes: NodeColumns,
+    ends: CircuitColumns,
+    capacity: CapacityColumns,
+) -> Answer
+    requires { ⌜ ToldColumns (now file) rows read nodes ends capacity ⌝ }
+    ensures { λ r. ⌜ r ≡ tablesStage (now (file .entry)) base wider local ⌝ }
+{
+    if columns::whole(file) {
+        if same_lengths(base, wider, local, rows.nodes + rows.circuits) {
+            let at = capacity.stations;
+            let demand = nodes.demand;
+            let sums = capacity.tec;
+            let tec = sums.scaling;
+            return study_stage(file, rows, read, ends, at, demand, tec);
+        }
+        return Answer::BadFile;
+    }
+    Answer::BadFile
 }
