@@ -3,3 +3,4 @@ pub mod First
 pub mod Told
 pub mod Walk
 pub mod Totals
+pub mod Opens

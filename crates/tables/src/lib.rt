@@ -10,9 +10,26 @@ mod totals;
 
 ghost use mathlib.Core.Path.{_≡_};
 ghost use Rattle.meaning.specs.Answers.{values, stops, systemNumber};
+ghost use Rattle.meaning.specs.Outcome.{tablesStage};
+ghost use Rattle.tables.specs.Opens.{Opens};
+use columns::CircuitColumns;
+use columns::NodeColumns;
+use columns::RowCounts;
+use columns::StudySettings;
+use columns::TecColumns;
 use meaning::Answer;
 use meaning::System;
 use meaning::Values;
+
+// A case file opened: what stops it first among 1 to 7, and its columns.
+pub struct Opened {
+    pub answer: Answer,
+    pub counts: RowCounts,
+    pub settings: StudySettings,
+    pub nodes: NodeColumns,
+    pub circuits: CircuitColumns,
+    pub tec: TecColumns,
+}
 
 // Whether an answer is a refusal.
 fn stops(answer: Answer) -> bool
@@ -69,4 +86,44 @@ pub fn values(answer: Answer) -> Values
         Answer::DirectionInDoubt(row) => refusal(11, 1, row),
         Answer::ShortBuffer => refusal(12, 0, 0),
     }
+}
+
+// Reads a file once, resolves its names once, and judges it with the lengths of the three runs.
+pub fn open(file: &[u8], base: usize, wider: usize, local: usize) -> Opened
+    ensures { λ r. ⌜ Opens (now (file .entry)) base wider local r ⌝ }
+{
+    let counts = columns::counts(file);
+    let settings = columns::settings(file);
+    let nodes = columns::nodes(file);
+    let circuits = columns::circuits(file);
+    let capacity = columns::capacity(file);
+    let answer = chain::tables_stage(
+        file,
+        base,
+        wider,
+        local,
+        counts,
+        settings,
+        nodes,
+        circuits,
+        capacity,
+    );
+    let tec = capacity.tec;
+    Opened {
+        answer,
+        counts,
+        settings,
+        nodes,
+        circuits,
+        tec,
+    }
+}
+
+// What stops a file first among 1 to 7, with the lengths of the three runs.
+pub fn judge(file: &[u8], base: usize, wider: usize, local: usize) -> Answer
+    ensures { λ r. ⌜ r ≡ tablesStage (now (file .entry)) base wider local ⌝ }
+{
+    let opened = open(file, base, wider, local);
+    let answer = opened.answer;
+    answer
 }
