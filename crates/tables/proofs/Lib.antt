@@ -9,3 +9,4 @@ pub mod ReachLaws
 pub mod ToldLaws
 pub mod GridLaws
 pub mod ChainLaws
+pub mod Sound
