@@ -1,6 +1,6 @@
 -- 1 to 7: a file that is not whole, runs of another length, and the study of a whole file.
-use mathlib.Core.Path.{_≡_, refl, sym, _∙_, ap, ap₂}
-use mathlib.Core.Bool.{Bool, true, false, _&&_}
+use mathlib.Core.Path.{_≡_, refl, sym, _∙_}
+use mathlib.Core.Bool.{true, false, _&&_}
 use mathlib.Core.List.{List}
 use Prim.Native.Nat.{ℕ, _+_, _≤_}
 use native.Mathlib.Omega.{arith}
@@ -20,8 +20,7 @@ use Rattle.columns.specs.declared.StudySettings.{StudySettings}
 use Rattle.columns.specs.declared.NodeColumns.{NodeColumns}
 use Rattle.columns.specs.declared.CircuitColumns.{CircuitColumns}
 use Rattle.columns.specs.declared.CapacityColumns.{CapacityColumns}
-use Rattle.columns.specs.Readable.{readable}
-use Rattle.columns.specs.Columns.{countsOf, nodesOf}
+use Rattle.columns.specs.Columns.{nodesOf}
 use Rattle.columns.specs.Tec.{tecOf}
 use Rattle.columns.proofs.FileLaws.{whole-file}
 use Rattle.columns.proofs.Rows.{readable-whole}

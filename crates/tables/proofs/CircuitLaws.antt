@@ -1,15 +1,15 @@
 -- 4: the circuits' table of a whole file, row by row.
-use mathlib.Core.Path.{_≡_, refl, ap}
+use mathlib.Core.Path.{_≡_, refl}
 use mathlib.Core.List.{List}
 use mathlib.Core.Bool.{not}
 use Prim.Native.Nat.{ℕ, _+_, _*_, _≤_, _<_}
 use native.Mathlib.Omega.{arith}
-use lib.ListN.{length, getD}
+use lib.ListN.{getD}
 use Rattle.meaning.specs.declared.Answer.the-variants.{BadCircuit}
 use Rattle.meaning.specs.Answers.{passed}
-use Rattle.meaning.specs.Study.{Circuit, circuit}
+use Rattle.meaning.specs.Study.{circuit}
 use Rattle.meaning.specs.File.{circuitAt, studyOf, runsIn}
-use Rattle.meaning.specs.Tables.{soundCircuitRow, soundCircuit, circuitsStage}
+use Rattle.meaning.specs.Tables.{soundCircuit, circuitsStage}
 use Rattle.meaning.proofs.Starts.{circuit-row, counts}
 use Rattle.columns.proofs.FileLaws.{whole-file}
 use Rattle.tables.specs.First.{IsFirst}

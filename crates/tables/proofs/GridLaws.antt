@@ -5,7 +5,6 @@ use Prim.Native.Nat.{ℕ, _-_, _≤_, _<_}
 use native.Mathlib.Omega.{arith}
 use lib.ListN.{length}
 use Rattle.integers.specs.Numbers.{sum}
-use Rattle.meaning.specs.declared.Answer.{Answer}
 use Rattle.meaning.specs.declared.Kw.{Kw}
 use Rattle.meaning.specs.Answers.{_orElse_}
 use Rattle.meaning.specs.File.{studyOf}

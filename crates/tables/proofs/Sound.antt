@@ -6,7 +6,7 @@ use Prim.Native.Nat.{ℕ, _+_, _≤_}
 use native.Mathlib.Omega.{arith}
 use lib.ListN.{length}
 use Rattle.meaning.specs.Answers.{stops, values, refusal}
-use Rattle.meaning.specs.Study.{Study, Runs}
+use Rattle.meaning.specs.Study.{Runs}
 use Rattle.meaning.specs.File.{sectionCount, fileWhole, runsWhole, studyOf, runsIn}
 use Rattle.meaning.specs.Conditions.{InRange, WholeFile, SoundTables}
 use Rattle.meaning.specs.Grid.{gridOf}

@@ -1,10 +1,10 @@
 -- 5: the stations' table of a whole file, row by row.
 use mathlib.Core.Path.{_≡_, refl}
 use mathlib.Core.List.{List}
-use mathlib.Core.Bool.{Bool, not, _||_}
+use mathlib.Core.Bool.{not, _||_}
 use Prim.Native.Nat.{ℕ, _+_, _*_, _≤_, _<_}
 use native.Mathlib.Omega.{arith}
-use lib.ListN.{length, getD}
+use lib.ListN.{getD}
 use Rattle.meaning.specs.declared.Answer.the-variants.{BadStation}
 use Rattle.meaning.specs.Answers.{passed}
 use Rattle.meaning.specs.Name.{Name}

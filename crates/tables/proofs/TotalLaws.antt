@@ -1,8 +1,8 @@
 -- 7: the totals of a sound study fit 64 bits, and are the sums of its columns.
-use mathlib.Core.Path.{_≡_, refl, sym, _∙_, ap}
+use mathlib.Core.Path.{_≡_, refl, _∙_, ap}
 use mathlib.Core.Bool.{Bool, true, false, cond, _&&_}
 use mathlib.Core.List.{List, []}
-use Prim.Native.Nat.{ℕ, suc, _+_, _*_, _^_, _≤_, _<_}
+use Prim.Native.Nat.{ℕ, suc, _*_, _^_, _≤_, _<_}
 use native.Mathlib.Omega.{arith}
 use lib.Dec.{eqb, leb}
 use lib.ListN.{length, getD}
@@ -13,7 +13,7 @@ use Rattle.meaning.specs.declared.Answer.the-variants.{BadTotal}
 use Rattle.meaning.specs.Answers.{passed, unless}
 use Rattle.meaning.specs.Rows.{_between_and_}
 use Rattle.meaning.specs.Study.{Study, node, station}
-use Rattle.meaning.specs.Grid.{gridOf, place, plantOf, scales, tecAt, capacityOf, tecOf, nodeTec, nodeDemand, totalDemand, totalTec, totalsStage}
+use Rattle.meaning.specs.Grid.{gridOf, place, plantOf, scales, tecAt, capacityOf, tecOf, nodeTec, nodeDemand, totalsStage}
 use Rattle.meaning.proofs.Rows.{rows-at}
 use Rattle.meaning.proofs.Tables.{Rowwise}
 use Rattle.tables.specs.Totals.{inColumn, Small, totalsOf}

@@ -88,7 +88,7 @@ pub fn values(answer: Answer) -> Values
     }
 }
 
-// Reads a file once, resolves its names once, and judges it with the lengths of the three runs.
+// The columns of a file, its names resolved once, and the judgement of it with the lengths of the three runs.
 pub fn open(file: &[u8], base: usize, wider: usize, local: usize) -> Opened
     ensures { λ r. ⌜ Opens (now (file .entry)) base wider local r ⌝ }
 {

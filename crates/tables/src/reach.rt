@@ -4,7 +4,7 @@ ghost use Prim.Native.Nat.{_≤_, _<_};
 ghost use lib.ListN.{length};
 ghost use Rattle.meaning.specs.Network.{reachStage};
 ghost use Rattle.tables.specs.First.{IsFirst};
-ghost use Rattle.tables.specs.Walk.{endsNetwork, Marks, Closed, joined, joins, Swept, Walked, Walks, unmarkedAt};
+ghost use Rattle.tables.specs.Walk.{endsNetwork, Marks, joined, joins, Swept, Walked, Walks, unmarkedAt};
 use meaning::Answer;
 
 // Marks both ends of a circuit once one is marked; how many nodes that marks.
