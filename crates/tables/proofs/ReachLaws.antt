@@ -1,0 +1,81 @@
+-- 6: the network of resolved ends is the network of the study.
+use mathlib.Core.Path.{_≡_, refl, sym, _∙_, ap}
+use mathlib.Core.List.{List}
+use mathlib.Core.Bool.{not}
+use mathlib.Core.Option.{Option}
+use Prim.Native.Nat.{ℕ, _-_, _<_}
+use native.Mathlib.Omega.{arith}
+use Rattle.meaning.specs.declared.Answer.the-variants.{Unreached}
+use Rattle.meaning.specs.Answers.{at}
+use Rattle.meaning.specs.Rows.{lowest}
+use Rattle.meaning.specs.File.{studyOf}
+use Rattle.meaning.specs.Grid.{gridOf}
+use Rattle.meaning.specs.Network.{Network, networkOf, Reached, here, ahead, back, marked, reachedNodes, reachStage}
+use Rattle.meaning.proofs.Says.{says-as}
+use Rattle.meaning.proofs.Walk.{Placed, reached-is}
+use Rattle.meaning.proofs.Tables.{Rowwise, placed}
+use Rattle.tables.specs.Told.{ToldCircuits}
+use Rattle.tables.specs.Walk.{endsNetwork, Walks}
+use Rattle.tables.proofs.FirstLaws.{lowest-same}
+use Rattle.tables.proofs.WalkLaws.{agree}
+
+-- the same nodes, reference and ends
+record Same (N M : Network) : Type 0 where
+  nodes : N .nodes ≡ M .nodes
+  circuits : N .circuits ≡ M .circuits
+  reference : N .reference ≡ M .reference
+  first : (c : ℕ) → c < N .circuits → N .first c ≡ M .first c
+  second : (c : ℕ) → c < N .circuits → N .second c ≡ M .second c
+
+module _ {N M : Network} (s : Same N M) where
+  same-back : Same M N
+  same-back =
+      record {
+        nodes = sym (s .nodes);
+        circuits = sym (s .circuits);
+        reference = sym (s .reference);
+        first = λ c h. sym (s .first c (omega (arith, s .circuits)));
+        second = λ c h. sym (s .second c (omega (arith, s .circuits)));
+      }
+
+  same-reached : {v : ℕ} → Reached N v → Reached M v
+  same-reached (here e) = here (e ∙ s .reference)
+  same-reached (ahead c h p q r) =
+      ahead c (omega (arith, s .circuits)) (sym (s .first c h) ∙ p) (sym (s .second c h) ∙ q) (same-reached r)
+  same-reached (back c h p q r) =
+      back c (omega (arith, s .circuits)) (sym (s .second c h) ∙ p) (sym (s .first c h) ∙ q) (same-reached r)
+
+  same-placed : Placed M → Placed N
+  same-placed p =
+      record {
+        reference = omega (arith, s .reference, s .nodes, p .reference);
+        first = λ c h. omega (arith, s .first c h, s .nodes, p .first c (omega (arith, s .circuits)));
+        second = λ c h. omega (arith, s .second c h, s .nodes, p .second c (omega (arith, s .circuits)));
+      }
+
+-- the stage is the same for both
+same-stage : {N M : Network} → Same N M → Placed M → reachStage N ≡ reachStage M
+unfolding reachStage
+same-stage {N} {M} s p = ap (λ (o : Option ℕ). at o Unreached) (search ∙ rw (s .nodes) refl)
+  where
+    search : lowest (λ v. not (marked (reachedNodes N) v)) (N .nodes) ≡ lowest (λ v. not (marked (reachedNodes M) v)) (N .nodes)
+    search =
+        lowest-same _ _ (N .nodes)
+        (λ v h. ap not (agree _ _ (says-as (reached-is N (same-placed s p) v) (same-reached s, same-reached (same-back s))) (reached-is M p v)))
+
+module _ {file : List ℕ} {n m r : ℕ} {a b : List ℕ} (told : ToldCircuits file n m a b) (e : r ≡ studyOf file .settings .reference - 1) where
+  ends-same : Same (endsNetwork n r m a b) (networkOf (gridOf (studyOf file)))
+  unfolding networkOf gridOf
+  ends-same = record { nodes = told .nodes .count; circuits = told .count; reference = e; first = told .first; second = told .second }
+
+  pub ends-walk : Rowwise (studyOf file) → Walks n r m a b
+  ends-walk w =
+      record {
+        few = told .nodes .few;
+        placed = same-placed ends-same (placed (studyOf file) w);
+        firsts = told .firsts;
+        seconds = told .seconds;
+      }
+
+  pub ends-stage : Rowwise (studyOf file) → reachStage (endsNetwork n r m a b) ≡ reachStage (networkOf (gridOf (studyOf file)))
+  ends-stage w = same-stage ends-same (placed (studyOf file) w)

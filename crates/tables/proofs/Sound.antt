@@ -1,0 +1,118 @@
+-- What later steps know once nothing among 1 to 7 stops a file.
+use mathlib.Core.Path.{_≡_, refl, sym, _∙_, ap}
+use mathlib.Core.Bool.{true, false}
+use mathlib.Core.List.{List}
+use Prim.Native.Nat.{ℕ, _+_, _≤_}
+use native.Mathlib.Omega.{arith}
+use lib.ListN.{length}
+use Rattle.meaning.specs.Answers.{stops, values, refusal}
+use Rattle.meaning.specs.Study.{Runs}
+use Rattle.meaning.specs.File.{sectionCount, fileWhole, runsWhole, studyOf, runsIn}
+use Rattle.meaning.specs.Conditions.{InRange, WholeFile, SoundTables}
+use Rattle.meaning.specs.Grid.{gridOf}
+use Rattle.meaning.specs.Outcome.{fileStage, runsStage, rowsStage, gridStage, tablesStage}
+use Rattle.meaning.proofs.Answers.{Passes, passes-orElse, passes-unless}
+use Rattle.meaning.proofs.Says.{_also_, says-eq}
+use Rattle.meaning.proofs.Starts as starts
+use Rattle.meaning.proofs.Tables.{sound-pass}
+use Rattle.columns.specs.Columns.{countsOf, settingsIn, nodesOf, circuitsOf}
+use Rattle.columns.specs.Tec.{tecOf}
+use Rattle.columns.proofs.FileLaws.{whole-file}
+use Rattle.columns.proofs.Rows.{readable-whole}
+use Rattle.tables.specs.declared.Opened.{Opened}
+use Rattle.tables.specs.Opens.{Opens}
+
+-- ---- of a file and the lengths of the three runs
+module _ (file : List ℕ) (base wider local : ℕ) (p : Passes (tablesStage file base wider local)) where
+  parts : Passes (fileStage file) × Passes (runsStage file base wider local) × (Passes (rowsStage (studyOf file)) × Passes (gridStage (gridOf (studyOf file))))
+  unfolding tablesStage
+  parts =
+      let a = passes-orElse _ _ .0 p in
+      let b = passes-orElse _ _ .0 (a .1) in
+      (a .0, b .0, passes-orElse _ _ .0 (b .1))
+
+  pub passes-whole : fileWhole file ≡ true
+  unfolding fileStage stops values refusal
+  passes-whole = passes-unless _ _ refl .0 (parts .0)
+
+  pub passes-sound : SoundTables (studyOf file)
+  passes-sound = sound-pass (studyOf file) .0 (parts .2)
+
+  pub passes-runs : ((base ≡ sectionCount file 4) × (wider ≡ sectionCount file 5)) × (local ≡ sectionCount file 6)
+  unfolding runsStage runsWhole stops values refusal
+  passes-runs = (says-eq also says-eq also says-eq) .0 (passes-unless _ _ refl .0 (parts .1))
+
+-- ---- the conditions of 1, for three runs
+pub passes-file : (file : List ℕ) (runs : Runs) → Passes (tablesStage file (length (runs .base)) (length (runs .wider)) (length (runs .local)))
+    → WholeFile file runs
+passes-file file runs p =
+    let w = whole-file file (passes-whole file _ _ _ p) in
+    let r = passes-runs file _ _ _ p in
+    record {
+      long = w .long;
+      version = w .version;
+      fileLength = w .fileLength;
+      oneSettings = w .oneSettings;
+      nodes = w .nodes;
+      circuits = w .circuits;
+      stations = w .stations;
+      solutions = w .solutions;
+      chain = w .chain;
+      end = w .end;
+      settingsZero = w .settingsZero;
+      baseRun = r .0 .0;
+      widerRun = r .0 .1;
+      localRun = r .1;
+    }
+
+-- ---- of a file that was opened: its columns are those of its study, which is sound
+pub record SoundOpened (file : List ℕ) (base wider local : ℕ) (o : Opened) : Type 0 where
+  pub whole : fileWhole file ≡ true
+  pub tables : SoundTables (studyOf file)
+  pub counts : o .counts ≡ countsOf (studyOf file)
+  pub settings : settingsIn (o .settings) ≡ studyOf file .settings
+  pub nodes : o .nodes ≡ nodesOf (studyOf file)
+  pub circuits : o .circuits ≡ circuitsOf (studyOf file)
+  pub tec : o .tec ≡ tecOf (studyOf file)
+  pub nodeCount : o .counts .nodes ≡ length (studyOf file .nodes)
+  pub circuitCount : o .counts .circuits ≡ length (studyOf file .circuits)
+  pub stationCount : o .counts .stations ≡ length (studyOf file .stations)
+  pub nodesFew : InRange (o .counts .nodes) 1 256
+  pub circuitsFew : o .counts .circuits ≤ 512
+  pub stationsFew : o .counts .stations ≤ 512
+  pub baseRun : base ≡ o .counts .nodes + o .counts .circuits
+  pub widerRun : wider ≡ o .counts .nodes + o .counts .circuits
+  pub localRun : local ≡ o .counts .nodes + o .counts .circuits
+
+pub opened-sound : {file : List ℕ} {base wider local : ℕ} {o : Opened} → Opens file base wider local o → stops (o .answer) ≡ false
+    → SoundOpened file base wider local o
+unfolding countsOf
+opened-sound {file} {base} {wider} {local} {o} t s =
+    let p : Passes (tablesStage file base wider local) = ap stops (sym (t .answer)) ∙ s in
+    let h = passes-whole file base wider local p in
+    let e = readable-whole file h in
+    let w = whole-file file h in
+    let l = starts.counts file (runsIn file) w in
+    let r = passes-runs file base wider local p in
+    let c : o .counts ≡ countsOf (studyOf file) = rw e at (t .counts) in
+    let n : o .counts .nodes ≡ length (studyOf file .nodes) = rw c refl in
+    let m : o .counts .circuits ≡ length (studyOf file .circuits) = rw c refl in
+    let k : o .counts .stations ≡ length (studyOf file .stations) = rw c refl in
+    record {
+      whole = h;
+      tables = passes-sound file base wider local p;
+      counts = c;
+      settings = rw e at (t .settings);
+      nodes = rw e at (t .nodes);
+      circuits = rw e at (t .circuits);
+      tec = rw e at (t .tec);
+      nodeCount = n;
+      circuitCount = m;
+      stationCount = k;
+      nodesFew = record { least = omega (arith, l .0, w .nodes .least); most = omega (arith, l .0, w .nodes .most) };
+      circuitsFew = omega (arith, l .1, w .circuits);
+      stationsFew = omega (arith, l .2, w .stations);
+      baseRun = omega (arith, l .0, l .1, r .0 .0, w .solutions 4 (record { least = omega arith; most = omega arith }));
+      widerRun = omega (arith, l .0, l .1, r .0 .1, w .solutions 5 (record { least = omega arith; most = omega arith }));
+      localRun = omega (arith, l .0, l .1, r .1, w .solutions 6 (record { least = omega arith; most = omega arith }));
+    }

@@ -1,0 +1,18 @@
+-- What a case file opened says: what stops it first among 1 to 7, and its columns, whether it is stopped or not.
+use mathlib.Core.Path.{_≡_}
+use mathlib.Core.List.{List}
+use Prim.Native.Nat.{ℕ}
+use Rattle.meaning.specs.Outcome.{tablesStage}
+use Rattle.columns.specs.Readable.{readable}
+use Rattle.columns.specs.Columns.{countsOf, settingsIn, nodesOf, circuitsOf}
+use Rattle.columns.specs.Tec.{tecOf}
+use Rattle.tables.specs.declared.Opened.{Opened}
+
+-- of a file, and the lengths of the three runs
+pub record Opens (file : List ℕ) (base wider local : ℕ) (o : Opened) : Type 0 where
+  pub answer : o .answer ≡ tablesStage file base wider local
+  pub counts : o .counts ≡ countsOf (readable file)
+  pub settings : settingsIn (o .settings) ≡ readable file .settings
+  pub nodes : o .nodes ≡ nodesOf (readable file)
+  pub circuits : o .circuits ≡ circuitsOf (readable file)
+  pub tec : o .tec ≡ tecOf (readable file)

@@ -1,0 +1,97 @@
+// 6: a walk along the circuits from the reference. It keeps one byte a node, 1 where it has been.
+ghost use mathlib.Core.Path.{_≡_};
+ghost use Prim.Native.Nat.{_≤_, _<_};
+ghost use lib.ListN.{length};
+ghost use Rattle.meaning.specs.Network.{reachStage};
+ghost use Rattle.tables.specs.First.{IsFirst};
+ghost use Rattle.tables.specs.Walk.{endsNetwork, Marks, joined, joins, Swept, Walked, Walks, unmarkedAt};
+use meaning::Answer;
+
+// Marks both ends of a circuit once one is marked; how many nodes that marks.
+pub fn join(marks: &mut [u8], a: usize, b: usize) -> usize
+    requires { ⌜ (a < length (now marks)) × (b < length (now marks)) ⌝ }
+    ensures { λ r. ⌜ (now (marks .exit) ≡ joined (now (marks .entry)) a b) × (r ≡ joins (now (marks .entry)) a b) ⌝ }
+{
+    if marks[a] == marks[b] {
+        return 0;
+    }
+    marks[a] = 1;
+    marks[b] = 1;
+    1
+}
+
+// Goes over all circuits; how many nodes that marks.
+pub fn sweep(
+    marks: &mut [u8],
+    nodes: usize,
+    reference: usize,
+    count: usize,
+    first: &[usize],
+    second: &[usize],
+) -> usize
+    requires { ⌜ Walks nodes reference count (now first) (now second) × Marks (endsNetwork nodes reference count (now first) (now second)) (now marks) ⌝ }
+    ensures { λ r. ⌜ Swept (endsNetwork nodes reference count (now (first .entry)) (now (second .entry))) (now (marks .entry)) (now (marks .exit)) r ⌝ }
+{
+    let mut more = 0;
+    let mut c = 0;
+    while c < count {
+        more += join(marks, first[c], second[c]);
+        c += 1;
+    }
+    more
+}
+
+// Goes over all circuits until that marks nothing more.
+pub fn spread(
+    marks: &mut [u8],
+    nodes: usize,
+    reference: usize,
+    count: usize,
+    first: &[usize],
+    second: &[usize],
+)
+    requires { ⌜ Walks nodes reference count (now first) (now second) × Marks (endsNetwork nodes reference count (now first) (now second)) (now marks) ⌝ }
+    ensures { λ _. ⌜ Walked (endsNetwork nodes reference count (now (first .entry)) (now (second .entry))) (now (marks .exit)) ⌝ }
+{
+    loop {
+        if sweep(marks, nodes, reference, count, first, second) == 0 {
+            return;
+        }
+    }
+}
+
+// The lowest node that is not marked; the count of nodes where there is none.
+pub fn first_unmarked(marks: &[u8], nodes: usize) -> usize
+    requires { ⌜ nodes ≤ length (now marks) ⌝ }
+    ensures { λ r. ⌜ IsFirst (unmarkedAt (now (marks .entry))) nodes r ⌝ }
+{
+    let mut v = 0;
+    while v < nodes {
+        if marks[v] != 1 {
+            return v;
+        }
+        v += 1;
+    }
+    nodes
+}
+
+// The stage: the lowest node that no walk reaches.
+pub fn stage(
+    nodes: usize,
+    reference: usize,
+    count: usize,
+    first: &[usize],
+    second: &[usize],
+) -> Answer
+    requires { ⌜ Walks nodes reference count (now first) (now second) ⌝ }
+    ensures { λ r. ⌜ r ≡ reachStage (endsNetwork nodes reference count (now (first .entry)) (now (second .entry))) ⌝ }
+{
+    let mut marks = [0u8; 256];
+    marks[reference] = 1;
+    spread(&mut marks, nodes, reference, count, first, second);
+    let row = first_unmarked(&marks, nodes);
+    if row < nodes {
+        return Answer::Unreached(row + 1);
+    }
+    Answer::Accepted(0)
+}
