@@ -1,11 +1,11 @@
 -- The row that a loop finds, or the count where it finds none.
-use mathlib.Core.Path.{_≡_, refl, sym, _∙_, ap}
+use mathlib.Core.Path.{_≡_, refl, sym, ap}
 use mathlib.Core.Logic.{_⊎_, inl, inr}
 use mathlib.Core.Bool.{Bool, true, false, not}
 use mathlib.Core.Option.{Option, none, some}
 use Prim.Native.Nat.{ℕ, _+_, _≤_, _<_}
 use native.Mathlib.Omega.{arith}
-use Rattle.meaning.specs.Rows.{lowest, failing}
+use Rattle.meaning.specs.Rows.{failing}
 use Rattle.meaning.proofs.Rows.{Lowest, nothing, first, lowest-is, lowest-stops, lowest-none, below-suc}
 use Rattle.proposal.specs.Columns.{rowOf}
 

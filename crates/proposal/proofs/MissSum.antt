@@ -1,19 +1,19 @@
 -- 10: the miss of one circuit, and the sum of their magnitudes as far as it is added.
-use mathlib.Core.Path.{_≡_, refl, sym, _∙_, ap}
-use mathlib.Core.Bool.{Bool, true, false}
+use mathlib.Core.Path.{_≡_, refl, sym, ap}
+use mathlib.Core.Bool.{true, false}
 use mathlib.Core.List.{List}
 use Prim.Native.Nat.{ℕ, zero, suc, _+_, _≤_, _<_}
 use native.Mathlib.Numerals.{add-one}
 use native.Mathlib.Decide.{decLe}
 use native.Mathlib.Omega.{arith}
 use lib.Dec.{leb}
-use lib.IntN.{ℤ, pos, natAbs}
+use lib.IntN.{ℤ, natAbs}
 use lib.ListN.{getD}
 use borrow.Author.Tests.{lt-leb, le-leb}
 use Rattle.integers.specs.Numbers.{sum}
 use Rattle.meaning.specs.Network.{Network}
 use Rattle.meaning.specs.Proposal.{potential, miss, missSum}
-use Rattle.proposal.specs.Columns.{number, netOf, missBy, missSumBy, Shaped, Ended, Measured, Ranged, SmallMiss}
+use Rattle.proposal.specs.Columns.{number, netOf, missBy, missSumBy, Ended, Measured, Ranged, SmallMiss}
 use Rattle.proposal.proofs.Sizes.{miss-small}
 
 -- ---- sums

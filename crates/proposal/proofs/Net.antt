@@ -2,7 +2,7 @@
 use mathlib.Core.Path.{_≡_, refl, sym, _∙_, ap, ap₂}
 use mathlib.Core.Bool.{Bool, true, false, cond}
 use mathlib.Core.List.{List}
-use Prim.Native.Nat.{ℕ, _+_, _*_, _≤_, _<_}
+use Prim.Native.Nat.{ℕ, _+_, _≤_, _<_}
 use native.Mathlib.Decide.{ℕ-discrete}
 use native.Mathlib.Omega.{arith}
 use lib.Dec.{eqb}
@@ -15,8 +15,7 @@ use mir.Val.{SFits}
 use Rattle.integers.specs.Numbers.{Σ}
 use Rattle.meaning.specs.Rows.{rows}
 use Rattle.meaning.proofs.Rows.{rows-at, length-rows}
-use Rattle.integers.proofs.Core.{Z, abs-parts}
-use Rattle.integers.proofs.Laws.{abs-add, abs-sub}
+use Rattle.integers.proofs.Core.{Z}
 use Rattle.integers.proofs.Sum.{Σ-zero, Σ-more, Σ-bound}
 
 -- z at node a, nothing at another

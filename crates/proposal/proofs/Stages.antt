@@ -8,19 +8,17 @@ use native.Mathlib.Decide.{ℕ-discrete}
 use native.Mathlib.Numerals.{add-one}
 use native.Mathlib.Omega.{arith}
 use lib.Dec.{leb}
-use lib.IntN.{ℤ, pos, natAbs}
-use lib.ListN.{length, getD}
-use Rattle.meaning.specs.declared.System.{System}
-use Rattle.meaning.specs.declared.Answer.{Answer}
-use Rattle.meaning.specs.declared.Answer.the-variants.{Accepted, BadNumber, Unbalanced, MissesTooHigh}
+use lib.IntN.{ℤ, natAbs}
+use lib.ListN.{getD}
+use Rattle.meaning.specs.declared.Answer.the-variants.{BadNumber, Unbalanced, MissesTooHigh}
 use Rattle.meaning.specs.Answers.{values, refusal, stops, passed, unless, at, _orElse_}
 use Rattle.meaning.specs.Rows.{failing}
 use Rattle.meaning.specs.Network.{Network}
 use Rattle.meaning.specs.Proposal.{Proposed, potential, flow, numberInRange, balanced, flowOut, flowIn, miss, missSum, rangeStage, balanceStage, missStage, systemStage}
 use Rattle.meaning.proofs.Says.{says-le}
 use Rattle.meaning.proofs.Answers.{passed-passes, orElse-stops, orElse-passes}
-use Rattle.proposal.specs.Columns.{number, netOf, netFlow, balancedBy, missSumBy, rowOf, Ranged}
-use Rattle.proposal.proofs.Found.{AllPass, row-is, row-past}
+use Rattle.proposal.specs.Columns.{netOf, rowOf, Ranged}
+use Rattle.proposal.proofs.Found.{AllPass, row-is}
 use Rattle.proposal.proofs.Numbers.{flow-in-range, reference-in-range, potential-in-range}
 
 -- ---- the tests of a proposal's rows

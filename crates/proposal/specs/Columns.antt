@@ -1,7 +1,7 @@
 -- A network and a proposal in columns, as code has them: a number a node or a circuit, read past the end as 0.
 use mathlib.Core.Path.{_≡_}
 use mathlib.Core.Bool.{Bool}
-use mathlib.Core.List.{List, []}
+use mathlib.Core.List.{List}
 use mathlib.Core.Option.{Option, none, some}
 use Prim.Native.Nat.{ℕ, _+_, _≤_, _<_}
 use lib.IntN.{ℤ, pos, natAbs, _-ℤ_}
@@ -83,11 +83,10 @@ pub record Ranged (n m : ℕ) (run : List ℤ) : Type 0 where
   pub potentials : (v : ℕ) → v < n → natAbs (potential run v) ≤ 2000000000000000000
   pub flows : (c : ℕ) → c < m → natAbs (number run (n + c)) ≤ 100000000000000
 
--- what the judge asks of its columns; the run's numbers are any
-pub record Ready (n m reference limit : ℕ) (first second x : List ℕ) (supply offset run : List ℤ) : Type 0 where
+-- what the judge asks of its columns; the run's numbers, the supplies and the reference are any
+pub record Ready (n m limit : ℕ) (first second x : List ℕ) (supply offset run : List ℤ) : Type 0 where
   pub shaped : Shaped n m run
   pub ended : Ended n m first second
   pub measured : Measured m x offset
   pub supplied : n ≤ length supply
-  pub referenceIn : reference < n
   pub limitSmall : limit ≤ 2000000000000000000

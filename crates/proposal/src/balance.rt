@@ -2,7 +2,6 @@
 ghost use mathlib.Core.Path.{_≡_};
 ghost use mathlib.Core.List.{[]};
 ghost use Prim.Native.Nat.{_≤_, _<_};
-ghost use lib.IntN.{_-ℤ_};
 ghost use lib.ListN.{length};
 ghost use Rattle.meaning.specs.Rows.{failing, rows};
 ghost use Rattle.proposal.specs.Columns.{netOf, netFlow, balancedBy, rowOf, Shaped, Ended, Ranged};

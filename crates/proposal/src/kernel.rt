@@ -22,7 +22,7 @@ pub fn judge_system(
     offset: &[i64],
     run: &[i64],
 ) -> Answer
-    requires { ⌜ Ready n m reference limit (now first) (now second) (now x) (now supply) (now offset) (now run) ⌝ }
+    requires { ⌜ Ready n m limit (now first) (now second) (now x) (now supply) (now offset) (now run) ⌝ }
     ensures { λ r. ⌜ r ≡ systemStage (netOf n m reference (now (first .entry)) (now (second .entry)) (now (x .entry))) (proposedIn system limit (now (supply .entry)) (now (offset .entry)) (now (run .entry))) ⌝ }
 {
     let row = range::first_out_of_range(n, reference, limit, run);

@@ -1,9 +1,8 @@
 // 01, 10: misses sum too high.
 ghost use mathlib.Core.Path.{_≡_};
-ghost use Prim.Native.Nat.{_≤_, _<_};
+ghost use Prim.Native.Nat.{_<_};
 ghost use lib.Dec.{leb};
 ghost use lib.IntN.{pos, natAbs, _-ℤ_, _*ℤ_};
-ghost use lib.ListN.{length};
 ghost use Rattle.proposal.specs.Columns.{netOf, missBy, missSumBy, Shaped, Ended, Measured, SmallMiss, Ranged};
 
 // The magnitude of a number that has one in an i64.

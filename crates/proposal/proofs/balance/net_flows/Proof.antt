@@ -1,13 +1,13 @@
-use mathlib.Core.Path.{_≡_, refl, sym, _∙_, ap}
-use mathlib.Core.List.{List, []}
-use Prim.Native.Nat.{ℕ, _+_, _-_, _≤_, _<_}
+use mathlib.Core.Path.{_≡_}
+use mathlib.Core.List.{List}
+use Prim.Native.Nat.{ℕ, _+_, _-_, _≤_}
 use native.Mathlib.Omega.{arith}
 use lib.IntN.{ℤ, pos, _+ℤ_, _-ℤ_}
-use lib.ListN.{length, getD}
+use lib.ListN.{getD}
 use Rattle.integers.proofs.Machine.{Back, fit-back}
 use Rattle.meaning.specs.Proposal.{flowOut, flowIn}
 use Rattle.proposal.specs.Columns.{number}
-use Rattle.proposal.proofs.Net.{Netted, Turn, left, entered, netted-none, netted-more, netted-all, flow-fits, net-fits, left-fits}
+use Rattle.proposal.proofs.Net.{Netted, Turn, left, netted-none, netted-more, netted-all, flow-fits, net-fits, left-fits}
 use Rattle.proposal.proofs.balance.net_flows.Statement.{statement}
 use Rattle.proposal.proofs.balance.net_flows.Tie as tie
 

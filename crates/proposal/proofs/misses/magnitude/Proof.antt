@@ -1,7 +1,5 @@
-use mathlib.Core.Path.{_≡_}
-use native.Mathlib.Omega.{arith}
-use lib.IntN.{ℤ, pos, natAbs, _-ℤ_}
-use lib.Signed.{_<ℤ_, _≤ℤ_}
+use lib.IntN.{pos, _-ℤ_}
+use lib.Signed.{_<ℤ_}
 use Rattle.integers.proofs.Machine.{Back, fit-back, cast-u64, lt-true, lt-false}
 use Rattle.proposal.proofs.Sizes.{less-fits, less-nonneg, less-abs}
 use Rattle.proposal.proofs.misses.magnitude.Statement.{statement}

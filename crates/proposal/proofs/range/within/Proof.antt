@@ -1,10 +1,9 @@
 use mathlib.Core.Path.{_≡_}
 use native.Mathlib.Omega.{arith}
 use borrow.Author.Needs.{needs}
-use lib.IntN.{ℤ, pos, _-ℤ_}
+use lib.IntN.{pos, _-ℤ_}
 use mir.Syntax.{w64}
-use mir.Val.{SFits, toZ, ofZ}
-use Rattle.integers.proofs.Core.{Z}
+use mir.Val.{toZ}
 use Rattle.integers.proofs.Machine.{Back, fit-back, of-nat, lt-true, lt-false}
 use Rattle.proposal.proofs.Sizes.{above-limit, below-limit, inside-limit, minus-fits}
 use Rattle.proposal.proofs.range.within.Statement.{statement}
