@@ -1,5 +1,7 @@
-// A proposed solution judged once over supply and offset: 01, step 2, refusals 8, 9 and 10.
+// A proposed solution judged once over supply and offset: 01, step 2, refusals 8, 9 and 10; and 11.
 mod balance;
+mod direction;
 mod kernel;
 mod misses;
+mod offsets;
 mod range;
