@@ -8,3 +8,4 @@ pub mod Stages
 pub mod Same
 pub mod Directions
 pub mod Marks
+pub mod Shares

@@ -1,21 +1,15 @@
--- 01, steps 3 to 5: supply, offset and limit of a system, and 11, over columns as code has them.
+-- 01, steps 4 and 5: the offset of a system, and 11, over columns as code has them.
 use mathlib.Core.Path.{_≡_}
 use mathlib.Core.Bool.{Bool, cond, not, _||_}
 use mathlib.Core.List.{List}
 use Prim.Native.Nat.{ℕ, _+_, _*_, _≤_, _<_}
 use lib.Dec.{eqb, leb}
-use lib.IntN.{ℤ, pos, _-ℤ_, _*ℤ_}
+use lib.IntN.{ℤ, pos}
 use lib.ListN.{length, getD}
 use Rattle.meaning.specs.declared.System.{System}
 use Rattle.meaning.specs.declared.System.the-variants.{Base, Wider, Local}
 use Rattle.meaning.specs.Direction.{direction, inDoubt, signed}
 use Rattle.proposal.specs.Columns.{number}
-
--- step 3: 1,000,000 times the net kW; step 5: supply 0
-unfoldable pub supplyIn : System → (scaled demand : ℕ) → ℤ
-supplyIn Base scaled demand = pos 1000000 *ℤ (pos scaled -ℤ pos demand)
-supplyIn Wider scaled demand = pos 0
-supplyIn Local scaled demand = pos 0
 
 -- step 4: 1,000,000 times the expanded length, with the base flow's sign, or 0 when idle
 abbrev pub signedBy : (length : ℕ) (flow : ℤ) → ℤ

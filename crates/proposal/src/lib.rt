@@ -5,3 +5,4 @@ mod kernel;
 mod misses;
 mod offsets;
 mod range;
+mod scaled;
