@@ -23,3 +23,7 @@ module _ {A : Type 0} {nothing : A} {size : ℕ} {f : ℕ → A} {column : List 
       go i (inl l) =
           getD-set-other column count i x nothing (λ q. let k : i ≡ count = q in omega arith) ∙ p .at i l
       go i (inr q) = rw q (getD-set-same column count x nothing (omega (arith, p .long)) ∙ e)
+
+-- the same column, by other names of its numbers
+pub filled-as : {A : Type 0} {nothing : A} {size : ℕ} {f g : ℕ → A} {count : ℕ} {column : List A} → ((i : ℕ) → i < count → f i ≡ g i) → Filled nothing size f count column → Filled nothing size g count column
+filled-as e p = record { long = p .long; at = λ i h. p .at i h ∙ e i h }

@@ -9,3 +9,4 @@ pub mod Same
 pub mod Directions
 pub mod Marks
 pub mod Shares
+pub mod Supply

@@ -29,12 +29,16 @@ pub record Scalable (n : ℕ) (tec : List Kw) (demand total : Kw) : Type 0 where
 abbrev pub scaledBy : (n : ℕ) (tec : List Kw) (demand : Kw) → ℕ → ℕ
 scaledBy n tec demand = scaled n (kwAt tec) (demand .0)
 
--- step 3: 1,000,000 times the net kW; step 5: supply 0
-unfoldable pub supplyIn : System → (scaled demand : ℕ) → ℤ
-supplyIn Base scaled demand = pos 1000000 *ℤ (pos scaled -ℤ pos demand)
-supplyIn Wider scaled demand = pos 0
-supplyIn Local scaled demand = pos 0
+-- the demand of each node, after 3
+pub record Demands (n : ℕ) (demands : List Kw) : Type 0 where
+  pub small : (v : ℕ) → v < n → kwAt demands v ≤ 100000000
 
--- the supply of node v in a system
-abbrev pub supplyAt : System → (n : ℕ) (tec demands : List Kw) (demand : Kw) → ℕ → ℤ
-supplyAt system n tec demands demand v = supplyIn system (scaledBy n tec demand v) (kwAt demands v)
+-- step 3: 1,000,000 times the net kW
+abbrev pub netSupply : (scaled demand : ℕ) → ℤ
+netSupply scaled demand = pos 1000000 *ℤ (pos scaled -ℤ pos demand)
+
+-- the supply of node v in a system; step 5: supply 0
+unfoldable pub supplyAt : System → (n : ℕ) (tec demands : List Kw) (demand : Kw) → ℕ → ℤ
+supplyAt Base n tec demands demand v = netSupply (scaledBy n tec demand v) (kwAt demands v)
+supplyAt Wider n tec demands demand v = pos 0
+supplyAt Local n tec demands demand v = pos 0

@@ -6,3 +6,4 @@ mod misses;
 mod offsets;
 mod range;
 mod scaled;
+mod supplies;
