@@ -10,3 +10,4 @@ pub mod Directions
 pub mod Marks
 pub mod Shares
 pub mod Supply
+pub mod Cases

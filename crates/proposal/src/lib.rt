@@ -6,4 +6,5 @@ mod misses;
 mod offsets;
 mod range;
 mod scaled;
+mod solution;
 mod supplies;

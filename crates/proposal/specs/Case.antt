@@ -1,0 +1,39 @@
+-- A case in columns, as code has it, and what is proposed for a system of it.
+use mathlib.Core.Path.{_≡_}
+use mathlib.Core.List.{List}
+use Prim.Native.Nat.{ℕ, _≤_, _<_}
+use lib.IntN.{ℤ}
+use lib.ListN.{length, getD}
+use Rattle.meaning.specs.declared.System.{System}
+use Rattle.meaning.specs.Network.{Network}
+use Rattle.meaning.specs.Proposal.{Proposed}
+use Rattle.meaning.specs.Systems.{limitOf}
+use Rattle.proposal.specs.declared.solution.Case.{Case}
+use Rattle.proposal.specs.Columns.{netOf, Shaped, Ended}
+use Rattle.proposal.specs.Offsets.{offsetAt, Lengths}
+use Rattle.proposal.specs.Supplies.{supplyAt, Scalable, Demands}
+
+-- the network of a case
+abbrev pub netIn : Case → Network
+netIn k = netOf (k .nodes) (k .circuits) (k .reference) (k .first) (k .second) (k .x)
+
+-- what is proposed for a system, by its run and the base run
+abbrev pub offeredIn : System → Case → (base run : List ℤ) → Proposed
+offeredIn system k base run =
+    record {
+      system = system;
+      limit = limitOf system;
+      supply = supplyAt system (k .nodes) (k .tec) (k .demand) (k .«total_demand»);
+      offset = offsetAt system (k .nodes) (k .length) (k .mark) base;
+      run = run;
+    }
+
+-- what is known of a case whose tables are sound, and of two runs of their length; the runs' numbers are any
+pub record Judgeable (k : Case) (base run : List ℤ) : Type 0 where
+  pub based : Shaped (k .nodes) (k .circuits) base
+  pub shaped : Shaped (k .nodes) (k .circuits) run
+  pub ended : Ended (k .nodes) (k .circuits) (k .first) (k .second)
+  pub lengths : Lengths (k .circuits) (k .length) (k .mark)
+  pub xSmall : (c : ℕ) → c < k .circuits → getD (k .x) c 0 ≤ 10000
+  pub scalable : Scalable (k .nodes) (k .tec) (k .«total_demand») (k .«total_tec»)
+  pub demands : Demands (k .nodes) (k .demand)

@@ -1,0 +1,58 @@
+// The columns of a case, and one system's proposed solution judged over them: 01, steps 1 to 5, refusals 8 to 10.
+use crate::kernel;
+use crate::offsets;
+use crate::supplies;
+use meaning::Answer;
+use meaning::Kw;
+use meaning::System;
+ghost use mathlib.Core.Path.{_≡_};
+ghost use Rattle.meaning.specs.Proposal.{systemStage};
+ghost use Rattle.proposal.specs.Case.{netIn, offeredIn, Judgeable};
+
+// What the proposals' judges need of the tables: counts, the reference from 0, a number a circuit, and kilowatts.
+pub struct Case {
+    pub nodes: usize,
+    pub circuits: usize,
+    pub reference: usize,
+    pub first: [usize; 512],
+    pub second: [usize; 512],
+    pub x: [u64; 512],
+    pub length: [u64; 512],
+    pub mark: [u64; 512],
+    pub tec: [Kw; 256],
+    pub demand: [Kw; 256],
+    pub total_tec: Kw,
+    pub total_demand: Kw,
+}
+
+// 8, 9 and 10 of a system: its supply and offset from the columns and the base flows, then the one judge.
+pub fn solution(system: System, k: Case, base: &[i64], run: &[i64]) -> Answer
+    requires { ⌜ Judgeable k (now base) (now run) ⌝ }
+    ensures { λ r. ⌜ r ≡ systemStage (netIn k) (offeredIn system k (now (base .entry)) (now (run .entry))) ⌝ }
+{
+    let n = k.nodes;
+    let m = k.circuits;
+    let first = k.first;
+    let second = k.second;
+    let x = k.x;
+    let length = k.length;
+    let mark = k.mark;
+    let tec = k.tec;
+    let demand = k.demand;
+    let supply = supplies::supplies(system, n, tec, demand, k.total_demand, k.total_tec);
+    let offset = offsets::offsets(system, n, m, &length, &mark, base);
+    let limit = offsets::limit_of(system);
+    kernel::judge_system(
+        system,
+        limit,
+        n,
+        m,
+        k.reference,
+        &first,
+        &second,
+        &x,
+        &supply,
+        &offset,
+        run,
+    )
+}
