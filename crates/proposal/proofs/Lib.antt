@@ -11,3 +11,5 @@ pub mod Marks
 pub mod Shares
 pub mod Supply
 pub mod Cases
+pub mod Told
+pub mod Sound

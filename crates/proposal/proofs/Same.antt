@@ -15,7 +15,7 @@ use Rattle.meaning.specs.Network.{Network}
 use Rattle.meaning.specs.Proposal.{Proposed, potential, flow, same, numberInRange, balanced, flowOut, flowIn, miss, missSum, rangeStage, balanceStage, missStage, systemStage}
 
 -- ---- rows and sums that agree below the count
-lowest-same : (f g : ℕ → Bool) (n : ℕ) → ((i : ℕ) → i < n → f i ≡ g i) → lowest f n ≡ lowest g n
+pub lowest-same : (f g : ℕ → Bool) (n : ℕ) → ((i : ℕ) → i < n → f i ≡ g i) → lowest f n ≡ lowest g n
 unfolding lowest
 lowest-same f g zero h = refl
 lowest-same f g (suc n) h =
