@@ -5,12 +5,16 @@ use Prim.Native.Nat.{ℕ, _≤_, _<_}
 use lib.IntN.{ℤ}
 use lib.ListN.{length, getD}
 use Rattle.meaning.specs.declared.System.{System}
+use Rattle.meaning.specs.declared.Answer.{Answer}
+use Rattle.meaning.specs.declared.Answer.the-variants.{DirectionInDoubt}
+use Rattle.meaning.specs.Answers.{at}
+use Rattle.meaning.specs.Rows.{failing}
 use Rattle.meaning.specs.Network.{Network}
 use Rattle.meaning.specs.Proposal.{Proposed}
 use Rattle.meaning.specs.Systems.{limitOf}
 use Rattle.proposal.specs.declared.solution.Case.{Case}
 use Rattle.proposal.specs.Columns.{netOf, Shaped, Ended}
-use Rattle.proposal.specs.Offsets.{offsetAt, Lengths}
+use Rattle.proposal.specs.Offsets.{offsetAt, clearBy, Lengths}
 use Rattle.proposal.specs.Supplies.{supplyAt, Scalable, Demands}
 
 -- the network of a case
@@ -27,6 +31,10 @@ offeredIn system k base run =
       offset = offsetAt system (k .nodes) (k .length) (k .mark) base;
       run = run;
     }
+
+-- 11: the lowest circuit with a length whose base flow is in doubt
+abbrev pub doubtIn : Case → (base : List ℤ) → Answer
+doubtIn k base = at (failing (clearBy (k .nodes) (k .length) base) (k .circuits)) DirectionInDoubt
 
 -- what is known of a case whose tables are sound, and of two runs of their length; the runs' numbers are any
 pub record Judgeable (k : Case) (base run : List ℤ) : Type 0 where

@@ -9,6 +9,20 @@ ghost use Rattle.meaning.specs.Scaled.{wholeShare, missing};
 ghost use Rattle.proposal.specs.Columns.{Filled};
 ghost use Rattle.proposal.specs.Supplies.{kilowatts, kwAt, scaledBy, Scalable};
 
+// The total of a column of kilowatts.
+pub fn total_of(n: usize, column: [Kw; 256]) -> Kw
+    requires { ⌜ (n ≤ 256) × (sum n (kwAt column) ≤ 100000000) ⌝ }
+    ensures { λ r. ⌜ r .0 ≡ sum n (kwAt column) ⌝ }
+{
+    let mut total: u64 = 0;
+    let mut v: usize = 0;
+    while v < n {
+        total += column[v].0;
+        v += 1;
+    }
+    Kw(total)
+}
+
 // Node TEC x total demand / total TEC, rounded down.
 pub fn share(tec: Kw, demand: Kw, total: Kw) -> Kw
     requires { ⌜ (tec .0 ≤ 100000000) × (demand .0 ≤ 100000000) × (1 ≤ total .0) ⌝ }

@@ -1,4 +1,5 @@
 // The columns of a case, and one system's proposed solution judged over them: 01, steps 1 to 5, refusals 8 to 10.
+use crate::direction;
 use crate::kernel;
 use crate::offsets;
 use crate::supplies;
@@ -7,7 +8,9 @@ use meaning::Kw;
 use meaning::System;
 ghost use mathlib.Core.Path.{_≡_};
 ghost use Rattle.meaning.specs.Proposal.{systemStage};
-ghost use Rattle.proposal.specs.Case.{netIn, offeredIn, Judgeable};
+ghost use Rattle.proposal.specs.Columns.{Shaped};
+ghost use Rattle.proposal.specs.Offsets.{Lengths};
+ghost use Rattle.proposal.specs.Case.{netIn, offeredIn, doubtIn, Judgeable};
 
 // What the proposals' judges need of the tables: counts, the reference from 0, a number a circuit, and kilowatts.
 pub struct Case {
@@ -55,4 +58,18 @@ pub fn solution(system: System, k: Case, base: &[i64], run: &[i64]) -> Answer
         &offset,
         run,
     )
+}
+
+// 11: the lowest circuit with a length whose direction is in doubt.
+pub fn doubt(k: Case, base: &[i64]) -> Answer
+    requires { ⌜ Shaped (k .nodes) (k .circuits) (now base) × Lengths (k .circuits) (k .length) (k .mark) ⌝ }
+    ensures { λ r. ⌜ r ≡ doubtIn k (now (base .entry)) ⌝ }
+{
+    let m = k.circuits;
+    let length = k.length;
+    let row = direction::lowest_in_doubt(k.nodes, m, &length, base);
+    if row < m {
+        return Answer::DirectionInDoubt(row + 1);
+    }
+    Answer::Accepted(0)
 }
