@@ -13,3 +13,4 @@ pub mod Supply
 pub mod Cases
 pub mod Told
 pub mod Sound
+pub mod Chain

@@ -17,7 +17,7 @@ use Rattle.meaning.specs.declared.System.{System}
 use Rattle.meaning.specs.declared.System.the-variants.{Base, Wider, Local}
 use Rattle.meaning.specs.declared.Answer.{Answer}
 use Rattle.meaning.specs.declared.Answer.the-variants.{DirectionInDoubt}
-use Rattle.meaning.specs.Answers.{at}
+use Rattle.meaning.specs.Answers.{at, _orElse_}
 use Rattle.meaning.specs.Rows.{rows, lowest, failing}
 use Rattle.meaning.specs.Study.{Settings, Circuit, Runs, circuit}
 use Rattle.meaning.specs.Grid.{Grid, place, nodeTec, nodeDemand, totalTec, totalDemand}
@@ -25,14 +25,14 @@ use Rattle.meaning.specs.Network.{Network, networkOf}
 use Rattle.meaning.specs.Scaled.{wholeShare, leftOver, missing, scaled}
 use Rattle.meaning.specs.Direction.{overheadFactor, cableFactor, expandedLength, direction, inDoubt, hasLength, signed, signedLength}
 use Rattle.meaning.specs.Proposal.{systemStage}
-use Rattle.meaning.specs.Systems.{runOf, limitOf, net, supply, lengthOf, offset, proposed, solutionStage, baseFlow, directionClear, directionStage}
+use Rattle.meaning.specs.Systems.{runOf, limitOf, net, supply, lengthOf, offset, proposed, solutionStage, baseFlow, directionClear, directionStage, proposalsStage}
 use Rattle.meaning.specs.Conditions.{SoundSettings}
 use Rattle.meaning.proofs.Rows.{rows-at, length-rows}
 use Rattle.proposal.specs.declared.solution.Case.{Case}
 use Rattle.proposal.specs.Columns.{number, Filled}
 use Rattle.proposal.specs.Offsets.{offsetIn, offsetAt, clearBy}
 use Rattle.proposal.specs.Supplies.{kilowatts, kwAt, supplyAt}
-use Rattle.proposal.specs.Case.{netIn, offeredIn}
+use Rattle.proposal.specs.Case.{netIn, offeredIn, solutionIn, doubtIn}
 use Rattle.proposal.proofs.Same.{system-alike, lowest-same}
 
 -- a column made row by row
@@ -130,7 +130,7 @@ module _ (G : Grid) (k : Case) (t : Told G k) (runs : Runs) where
   offset-told Wider c h = rw (t .marks .at c h, t .lengths .at c h, t .nodes) refl
   offset-told Local c h = rw (t .marks .at c h, t .lengths .at c h, t .nodes) refl
 
-  pub net-alike : (system : System) → systemStage (netIn k) (offeredIn system k (runs .base) (runOf runs system)) ≡ solutionStage G runs system
+  pub net-alike : (system : System) → solutionIn system k (runs .base) (runOf runs system) ≡ solutionStage G runs system
   unfolding networkOf proposed
   net-alike system = system-alike (netIn k) (networkOf G) (offeredIn system k (runs .base) (runOf runs system)) (proposed G runs system) (record {
     nodes = t .nodes;
@@ -152,9 +152,15 @@ module _ (G : Grid) (k : Case) (t : Told G k) (runs : Runs) where
   clear-same sound c h = rw (t .lengths .at c h, has-length (G .settings) _ sound (circuit (G .circuits) c), t .nodes) refl
 
   pub doubt-told : SoundSettings (length (G .nodes)) (G .settings)
-      → at (failing (clearBy (k .nodes) (k .length) (runs .base)) (k .circuits)) DirectionInDoubt ≡ directionStage G runs
+      → doubtIn k (runs .base) ≡ directionStage G runs
   unfolding directionStage
   doubt-told sound =
       ap (λ o. at o DirectionInDoubt)
       (lowest-same (λ c. not (clearBy (k .nodes) (k .length) (runs .base) c)) (λ c. not (directionClear G runs c)) (k .circuits) (λ c h. ap not (clear-same sound c h))
       ∙ ap (failing (directionClear G runs)) (t .circuits))
+
+  -- the whole chain
+  pub proposals-told : SoundSettings (length (G .nodes)) (G .settings)
+      → solutionIn Base k (runs .base) (runs .base) orElse doubtIn k (runs .base) orElse solutionIn Wider k (runs .base) (runs .wider) orElse solutionIn Local k (runs .base) (runs .local) ≡ proposalsStage G runs
+  unfolding proposalsStage runOf
+  proposals-told sound = ap₂ _orElse_ (net-alike Base) (ap₂ _orElse_ (doubt-told sound) (ap₂ _orElse_ (net-alike Wider) (net-alike Local)))

@@ -10,7 +10,7 @@ use Rattle.meaning.specs.declared.Answer.the-variants.{DirectionInDoubt}
 use Rattle.meaning.specs.Answers.{at}
 use Rattle.meaning.specs.Rows.{failing}
 use Rattle.meaning.specs.Network.{Network}
-use Rattle.meaning.specs.Proposal.{Proposed}
+use Rattle.meaning.specs.Proposal.{Proposed, systemStage}
 use Rattle.meaning.specs.Systems.{limitOf}
 use Rattle.proposal.specs.declared.solution.Case.{Case}
 use Rattle.proposal.specs.Columns.{netOf, Shaped, Ended}
@@ -31,6 +31,10 @@ offeredIn system k base run =
       offset = offsetAt system (k .nodes) (k .length) (k .mark) base;
       run = run;
     }
+
+-- 8, 9, 10 of a system
+abbrev pub solutionIn : System → Case → (base run : List ℤ) → Answer
+solutionIn system k base run = systemStage (netIn k) (offeredIn system k base run)
 
 -- 11: the lowest circuit with a length whose base flow is in doubt
 abbrev pub doubtIn : Case → (base : List ℤ) → Answer

@@ -4,6 +4,7 @@ mod direction;
 mod kernel;
 mod misses;
 mod offsets;
+mod order;
 mod range;
 mod scaled;
 mod solution;

@@ -7,10 +7,9 @@ use meaning::Answer;
 use meaning::Kw;
 use meaning::System;
 ghost use mathlib.Core.Path.{_≡_};
-ghost use Rattle.meaning.specs.Proposal.{systemStage};
 ghost use Rattle.proposal.specs.Columns.{Shaped};
 ghost use Rattle.proposal.specs.Offsets.{Lengths};
-ghost use Rattle.proposal.specs.Case.{netIn, offeredIn, doubtIn, Judgeable};
+ghost use Rattle.proposal.specs.Case.{solutionIn, doubtIn, Judgeable};
 
 // What the proposals' judges need of the tables: counts, the reference from 0, a number a circuit, and kilowatts.
 pub struct Case {
@@ -31,7 +30,7 @@ pub struct Case {
 // 8, 9 and 10 of a system: its supply and offset from the columns and the base flows, then the one judge.
 pub fn solution(system: System, k: Case, base: &[i64], run: &[i64]) -> Answer
     requires { ⌜ Judgeable k (now base) (now run) ⌝ }
-    ensures { λ r. ⌜ r ≡ systemStage (netIn k) (offeredIn system k (now (base .entry)) (now (run .entry))) ⌝ }
+    ensures { λ r. ⌜ r ≡ solutionIn system k (now (base .entry)) (now (run .entry)) ⌝ }
 {
     let n = k.nodes;
     let m = k.circuits;
