@@ -1,9 +1,15 @@
 -- A case in columns, as code has it, and what is proposed for a system of it.
 use mathlib.Core.Path.{_≡_}
 use mathlib.Core.List.{List}
-use Prim.Native.Nat.{ℕ, _≤_, _<_}
+use Prim.Native.Nat.{ℕ, _-_, _≤_, _<_}
 use lib.IntN.{ℤ}
 use lib.ListN.{length, getD}
+use Rattle.integers.specs.Numbers.{sum}
+use Rattle.columns.specs.declared.RowCounts.{RowCounts}
+use Rattle.columns.specs.declared.StudySettings.{StudySettings}
+use Rattle.columns.specs.declared.NodeColumns.{NodeColumns}
+use Rattle.columns.specs.declared.CircuitColumns.{CircuitColumns}
+use Rattle.meaning.specs.declared.Kw.{Kw}
 use Rattle.meaning.specs.declared.System.{System}
 use Rattle.meaning.specs.declared.Answer.{Answer}
 use Rattle.meaning.specs.declared.Answer.the-variants.{DirectionInDoubt}
@@ -15,7 +21,32 @@ use Rattle.meaning.specs.Systems.{limitOf}
 use Rattle.proposal.specs.declared.solution.Case.{Case}
 use Rattle.proposal.specs.Columns.{netOf, Shaped, Ended}
 use Rattle.proposal.specs.Offsets.{offsetAt, clearBy, Lengths}
-use Rattle.proposal.specs.Supplies.{supplyAt, Scalable, Demands}
+use Rattle.proposal.specs.Supplies.{kilowatts, kwAt, supplyAt, Scalable, Demands}
+
+-- the case of a file's columns: the reference counted from 0, and the totals of step 1
+unfoldable pub caseOf : RowCounts → StudySettings → NodeColumns → CircuitColumns → (scaling : List Kw) → Case
+caseOf rows settings nodes ends scaling =
+    record {
+      nodes = rows .nodes;
+      circuits = rows .circuits;
+      reference = settings .reference - 1;
+      first = ends .first;
+      second = ends .second;
+      x = ends .x;
+      length = ends .length;
+      mark = ends .mark;
+      tec = scaling;
+      demand = nodes .demand;
+      «total_tec» = kilowatts (sum (rows .nodes) (kwAt scaling));
+      «total_demand» = kilowatts (sum (rows .nodes) (kwAt (nodes .demand)));
+    }
+
+-- what 2 and 7 have passed: there is a reference, and totals are small
+pub record Countable (rows : RowCounts) (settings : StudySettings) (nodes : NodeColumns) (scaling : List Kw) : Type 0 where
+  pub few : rows .nodes ≤ 256
+  pub reference : 1 ≤ settings .reference
+  pub tecSmall : sum (rows .nodes) (kwAt scaling) ≤ 100000000
+  pub demandSmall : sum (rows .nodes) (kwAt (nodes .demand)) ≤ 100000000
 
 -- the network of a case
 abbrev pub netIn : Case → Network

@@ -12,7 +12,7 @@ ghost use Rattle.proposal.specs.Supplies.{kilowatts, kwAt, scaledBy, Sca
 // The total of a column of kilowatts.
 pub fn total_of(n: usize, column: [Kw; 256]) -> Kw
     requires { ⌜ (n ≤ 256) × (sum n (kwAt column) ≤ 100000000) ⌝ }
-    ensures { λ r. ⌜ r .0 ≡ sum n (kwAt column) ⌝ }
+    ensures { λ r. ⌜ r ≡ kilowatts (sum n (kwAt column)) ⌝ }
 {
     let mut total: u64 = 0;
     let mut v: usize = 0;

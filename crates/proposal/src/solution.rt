@@ -2,14 +2,19 @@
 use crate::direction;
 use crate::kernel;
 use crate::offsets;
+use crate::scaled;
 use crate::supplies;
+use columns::CircuitColumns;
+use columns::NodeColumns;
+use columns::RowCounts;
+use columns::StudySettings;
 use meaning::Answer;
 use meaning::Kw;
 use meaning::System;
 ghost use mathlib.Core.Path.{_≡_};
 ghost use Rattle.proposal.specs.Columns.{Shaped};
 ghost use Rattle.proposal.specs.Offsets.{Lengths};
-ghost use Rattle.proposal.specs.Case.{solutionIn, doubtIn, Judgeable};
+ghost use Rattle.proposal.specs.Case.{caseOf, solutionIn, doubtIn, Countable, Judgeable};
 
 // What the proposals' judges need of the tables: counts, the reference from 0, a number a circuit, and kilowatts.
 pub struct Case {
@@ -25,6 +30,40 @@ pub struct Case {
     pub demand: [Kw; 256],
     pub total_tec: Kw,
     pub total_demand: Kw,
+}
+
+// The case of a file's columns, with its totals.
+pub fn case_of(
+    rows: RowCounts,
+    settings: StudySettings,
+    nodes: NodeColumns,
+    ends: CircuitColumns,
+    scaling: [Kw; 256],
+) -> Case
+    requires { ⌜ Countable rows settings nodes scaling ⌝ }
+    ensures { λ r. ⌜ r ≡ caseOf rows settings nodes ends scaling ⌝ }
+{
+    let n = rows.nodes;
+    let demand = nodes.demand;
+    let first = ends.first;
+    let second = ends.second;
+    let x = ends.x;
+    let length = ends.length;
+    let mark = ends.mark;
+    Case {
+        nodes: n,
+        circuits: rows.circuits,
+        reference: settings.reference - 1,
+        first: first,
+        second: second,
+        x: x,
+        length: length,
+        mark: mark,
+        tec: scaling,
+        demand: demand,
+        total_tec: scaled::total_of(n, scaling),
+        total_demand: scaled::total_of(n, demand),
+    }
 }
 
 // 8, 9 and 10 of a system: its supply and offset from the columns and the base flows, then the one judge.

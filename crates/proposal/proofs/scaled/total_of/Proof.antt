@@ -3,7 +3,7 @@ use Prim.Native.Nat.{ℕ, _+_, _-_, _≤_, _<_}
 use native.Mathlib.Omega.{arith}
 use Rattle.integers.specs.Numbers.{sum}
 use Rattle.integers.proofs.Sum.{sum-zero, sum-more, sum-part}
-use Rattle.proposal.specs.Supplies.{kwAt}
+use Rattle.proposal.specs.Supplies.{kilowatts, kwAt}
 use Rattle.proposal.proofs.scaled.total_of.Statement.{statement}
 use Rattle.proposal.proofs.scaled.total_of.Tie as tie
 
@@ -37,7 +37,7 @@ loop-again c = let l = c .before in (omega arith, omega (arith, sum-more (l .loo
 returns : tie.Need-returns Inv-loop μ-loop
 returns c =
     let e : c .before .loop .v ≡ c .before .before .args .n = omega arith in
-    rw e at (c .before .loop .inv .1)
+    ap kilowatts (rw e at (c .before .loop .inv .1))
 
 pub total-of-spec : {M : Type 1} → statement M
 total-of-spec =
