@@ -13,4 +13,5 @@ pub mod Supply
 pub mod Cases
 pub mod Told
 pub mod Sound
+pub mod CaseOf
 pub mod Chain

@@ -26,7 +26,7 @@ use Rattle.meaning.specs.Scaled.{wholeShare, leftOver, missing, scaled}
 use Rattle.meaning.specs.Direction.{overheadFactor, cableFactor, expandedLength, direction, inDoubt, hasLength, signed, signedLength}
 use Rattle.meaning.specs.Proposal.{systemStage}
 use Rattle.meaning.specs.Systems.{runOf, limitOf, net, supply, lengthOf, offset, proposed, solutionStage, baseFlow, directionClear, directionStage, proposalsStage}
-use Rattle.meaning.specs.Conditions.{SoundSettings}
+use Rattle.meaning.specs.Conditions.{InRange, SoundSettings}
 use Rattle.meaning.proofs.Rows.{rows-at, length-rows}
 use Rattle.proposal.specs.declared.solution.Case.{Case}
 use Rattle.proposal.specs.Columns.{number, Filled}
@@ -87,27 +87,27 @@ long-both o k f g h l = go (decLe 1 (o + k))
         rw (a, b, zero-mul f, zero-mul g) refl
 
 module _ (s : Settings) (nodes : ℕ) (sound : SoundSettings nodes s) where
-  overhead-least : (voltage : ℕ) → 1 ≤ overheadFactor s voltage
+  pub overhead-in : (voltage : ℕ) → InRange (overheadFactor s voltage) 1000 30000
   unfolding overheadFactor
-  overhead-least voltage = go (eqb voltage 400) (eqb voltage 275)
+  overhead-in voltage = go (eqb voltage 400) (eqb voltage 275)
     where
-      go : (a b : Bool) → 1 ≤ cond a (s .overhead400) (cond b (s .overhead275) (s .overhead132))
-      go true b = omega (arith, sound .overhead400)
-      go false true = omega (arith, sound .overhead275 .least)
-      go false false = omega (arith, sound .overhead132 .least)
+      go : (a b : Bool) → InRange (cond a (s .overhead400) (cond b (s .overhead275) (s .overhead132))) 1000 30000
+      go true b = record { least = omega (arith, sound .overhead400); most = omega (arith, sound .overhead400) }
+      go false true = sound .overhead275
+      go false false = sound .overhead132
 
-  cable-least : (voltage : ℕ) → 1 ≤ cableFactor s voltage
+  pub cable-in : (voltage : ℕ) → InRange (cableFactor s voltage) 1000 30000
   unfolding cableFactor
-  cable-least voltage = go (eqb voltage 400) (eqb voltage 275)
+  cable-in voltage = go (eqb voltage 400) (eqb voltage 275)
     where
-      go : (a b : Bool) → 1 ≤ cond a (s .cable400) (cond b (s .cable275) (s .cable132))
-      go true b = omega (arith, sound .cable400 .least)
-      go false true = omega (arith, sound .cable275 .least)
-      go false false = omega (arith, sound .cable132 .least)
+      go : (a b : Bool) → InRange (cond a (s .cable400) (cond b (s .cable275) (s .cable132))) 1000 30000
+      go true b = sound .cable400
+      go false true = sound .cable275
+      go false false = sound .cable132
 
   pub has-length : (c : Circuit) → leb 1 (expandedLength s c) ≡ hasLength c
   unfolding expandedLength hasLength
-  has-length c = long-both (c .overhead) (c .cable) _ _ (overhead-least (c .voltage)) (cable-least (c .voltage))
+  has-length c = long-both (c .overhead) (c .cable) _ _ (omega (arith, overhead-in (c .voltage) .least)) (omega (arith, cable-in (c .voltage) .least))
 
 pub kw-at : {a : Kw} {n : ℕ} → a ≡ kilowatts n → a .0 ≡ n
 kw-at e = ap (λ (a : Kw). a .0) e
