@@ -1,18 +1,17 @@
 -- The case of a study's columns: what its tables say, if they are sound.
-use mathlib.Core.Path.{_≡_, refl, sym, _∙_, ap}
-use mathlib.Core.Bool.{Bool, true, false, cond}
+use mathlib.Core.Path.{_≡_, refl, _∙_, ap}
 use mathlib.Core.List.{List}
-use Prim.Native.Nat.{ℕ, _-_, _≤_, _<_}
+use Prim.Native.Nat.{ℕ, _-_, _≤_}
 use native.Mathlib.Omega.{arith}
-use lib.ListN.{length, getD}
+use lib.ListN.{length}
 use Rattle.integers.specs.Numbers.{sum}
 use Rattle.integers.proofs.Sum.{sum-same}
 use Rattle.meaning.specs.declared.Kw.{Kw}
 use Rattle.meaning.specs.Rows as R
-use Rattle.meaning.specs.Study.{Settings, Circuit, Study, circuit}
-use Rattle.meaning.specs.Grid.{gridOf, place, nodeTec, nodeDemand, totalTec, totalDemand}
-use Rattle.meaning.specs.Direction.{overheadFactor, cableFactor, expandedLength}
-use Rattle.meaning.specs.Conditions.{InRange, SoundSettings, SoundTables}
+use Rattle.meaning.specs.Study.{Settings, Circuit, Study}
+use Rattle.meaning.specs.Grid.{gridOf, nodeTec, nodeDemand, totalTec, totalDemand}
+use Rattle.meaning.specs.Direction.{expandedLength}
+use Rattle.meaning.specs.Conditions.{SoundSettings, SoundTables}
 use Rattle.meaning.proofs.Says.{says-le, _also_}
 use Rattle.columns.specs.declared.RowCounts.{RowCounts}
 use Rattle.columns.specs.declared.StudySettings.{StudySettings}

@@ -1,8 +1,8 @@
 -- A case in columns: what the judge asks, and that it judges what is proposed.
-use mathlib.Core.Path.{_≡_, refl, sym, _∙_, ap}
+use mathlib.Core.Path.{_≡_, refl, _∙_}
 use mathlib.Core.Bool.{Bool, true, false, cond}
 use mathlib.Core.List.{List}
-use Prim.Native.Nat.{ℕ, _*_, _≤_, _<_}
+use Prim.Native.Nat.{ℕ, _*_, _≤_}
 use native.Mathlib.Omega.{arith}
 use lib.Dec.{eqb}
 use lib.IntN.{ℤ, pos, natAbs}
@@ -13,13 +13,14 @@ use Rattle.meaning.specs.declared.Direction.the-variants.{Idle, Forward, Backwa
 use Rattle.meaning.specs.declared.System.{System}
 use Rattle.meaning.specs.declared.System.the-variants.{Base, Wider, Local}
 use Rattle.meaning.specs.Direction.{direction, signed}
+use Rattle.meaning.specs.declared.Answer.{Answer}
 use Rattle.meaning.specs.Proposal.{systemStage}
 use Rattle.meaning.specs.Systems.{limitOf}
 use Rattle.proposal.specs.declared.solution.Case.{Case}
-use Rattle.proposal.specs.Columns.{number, proposedIn, Filled, Ready}
+use Rattle.proposal.specs.Columns.{proposedIn, Filled, Ready}
 use Rattle.proposal.specs.Offsets.{signedBy, offsetIn, offsetAt}
 use Rattle.proposal.specs.Supplies.{supplyAt}
-use Rattle.proposal.specs.Case.{netIn, offeredIn, Judgeable}
+use Rattle.proposal.specs.Case.{netIn, offeredIn, solutionIn, Judgeable}
 use Rattle.proposal.proofs.Same.{system-alike}
 
 pub limit-small : (system : System) → limitOf system ≤ 2000000000000000000
@@ -52,8 +53,8 @@ offset-small Local long mark flow h = go (eqb mark 0)
 module _ (system : System) (k : Case) (base run supply offset : List ℤ) (j : Judgeable k base run)
     (p : Filled (pos 0) 256 (supplyAt system (k .nodes) (k .tec) (k .demand) (k .«total_demand»)) (k .nodes) supply)
     (q : Filled (pos 0) 512 (offsetAt system (k .nodes) (k .length) (k .mark) base) (k .circuits) offset) where
-  pub ready : length (k .x) ≡ 512 → Ready (k .nodes) (k .circuits) (limitOf system) (k .first) (k .second) (k .x) supply offset run
-  ready e = record {
+  pub ready : (limit : ℕ) → limit ≡ limitOf system → length (k .x) ≡ 512 → Ready (k .nodes) (k .circuits) limit (k .first) (k .second) (k .x) supply offset run
+  ready limit l e = record {
     shaped = j .shaped;
     ended = j .ended;
     measured = record {
@@ -63,16 +64,16 @@ module _ (system : System) (k : Case) (base run supply offset : List ℤ) (j : J
       offsetSmall = λ c h. rw (q .at c h) (offset-small system _ _ _ (j .lengths .lengthSmall c h));
     };
     supplied = omega (arith, j .shaped .nodes, p .long);
-    limitSmall = limit-small system;
+    limitSmall = omega (arith, limit-small system);
   }
 
-  pub judged-alike : systemStage (netIn k) (proposedIn system (limitOf system) supply offset run) ≡ systemStage (netIn k) (offeredIn system k base run)
-  judged-alike = system-alike (netIn k) (netIn k) (proposedIn system (limitOf system) supply offset run) (offeredIn system k base run) (record {
+  pub judged-as : (limit : ℕ) → limit ≡ limitOf system → (r : Answer) → r ≡ systemStage (netIn k) (proposedIn system limit supply offset run) → r ≡ solutionIn system k base run
+  judged-as limit l r h = h ∙ system-alike (netIn k) (netIn k) (proposedIn system limit supply offset run) (offeredIn system k base run) (record {
     nodes = refl;
     circuits = refl;
     reference = refl;
     system = refl;
-    limit = refl;
+    limit = l;
     run = refl;
     first = λ c h. refl;
     second = λ c h. refl;

@@ -1,6 +1,6 @@
 -- Step 4: the direction of a flow by the tests that it passes; 11: a circuit whose direction is clear.
-use mathlib.Core.Path.{_≡_, refl, sym}
-use mathlib.Core.Bool.{Bool, true, false}
+use mathlib.Core.Path.{_≡_, refl}
+use mathlib.Core.Bool.{true, false}
 use mathlib.Core.List.{List}
 use Prim.Native.Nat.{ℕ, _+_, _≤_, _<_}
 use native.Mathlib.Omega.{arith}
@@ -10,7 +10,6 @@ use lib.ListN.{getD}
 use lib.Signed.{nonNeg, _≤ℤ_, _<ℤ_}
 use borrow.Author.Tests.{le-leb, lt-leb}
 use Rattle.integers.proofs.Core.{Z}
-use Rattle.meaning.specs.declared.Direction.{Direction}
 use Rattle.meaning.specs.declared.Direction.the-variants.{Idle, Forward, Backward, InDoubt}
 use Rattle.meaning.specs.Direction.{direction, inDoubt}
 use Rattle.proposal.specs.Columns.{number}

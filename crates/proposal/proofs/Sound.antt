@@ -1,5 +1,5 @@
 -- Sound tables give what the judges ask of a case.
-use mathlib.Core.Path.{_≡_, refl, sym, _∙_, ap}
+use mathlib.Core.Path.{_≡_, sym, _∙_, ap}
 use mathlib.Core.List.{List}
 use Prim.Native.Nat.{ℕ, _+_, _≤_, _<_}
 use native.Mathlib.Omega.{arith}
@@ -7,12 +7,10 @@ use lib.IntN.{ℤ}
 use lib.ListN.{length, getD}
 use Rattle.integers.specs.Numbers.{sum}
 use Rattle.integers.proofs.Sum.{sum-same}
-use Rattle.meaning.specs.Study.{Study, Runs, circuit}
-use Rattle.meaning.specs.Grid.{gridOf, place, nodeTec, nodeDemand}
-use Rattle.meaning.specs.Direction.{expandedLength}
+use Rattle.meaning.specs.Study.{Study, Runs}
+use Rattle.meaning.specs.Grid.{gridOf, nodeTec}
 use Rattle.meaning.specs.Conditions.{SoundTables}
 use Rattle.meaning.proofs.Tables.{placed-at}
-use Rattle.sizes.specs.Bounds.{SystemsFit}
 use Rattle.sizes.proofs.Scaling.{systems-fit}
 use Rattle.proposal.specs.declared.solution.Case.{Case}
 use Rattle.proposal.specs.Columns.{Shaped, Ended}

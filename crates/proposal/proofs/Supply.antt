@@ -1,9 +1,9 @@
 -- Step 3: the supply of a node, and that no step of it wraps.
 use mathlib.Core.Path.{_≡_, refl, _∙_}
 use mathlib.Core.List.{List}
-use Prim.Native.Nat.{ℕ, _≤_, _<_}
+use Prim.Native.Nat.{ℕ, _≤_}
 use native.Mathlib.Omega.{arith}
-use lib.IntN.{ℤ, pos, _-ℤ_, _*ℤ_}
+use lib.IntN.{ℤ, pos, _-ℤ_}
 use lib.ListN.{replicate, getD-replicate}
 use mir.Syntax.{w64}
 use mir.Val.{SFits}

@@ -1,35 +1,32 @@
 -- Columns that are a grid's: with them supply, offset and direction are those of the definitions.
 use mathlib.Core.Path.{_≡_, refl, sym, _∙_, ap, ap₂}
-use mathlib.Core.Bool.{Bool, true, false, not, cond, _||_}
+use mathlib.Core.Bool.{Bool, true, false, not, cond}
 use mathlib.Core.List.{List}
-use Prim.Native.Nat.{ℕ, suc, _+_, _*_, _-_, _/_, _%_, _≤_, _<_}
+use Prim.Native.Nat.{ℕ, _+_, _*_, _-_, _/_, _%_, _≤_, _<_}
 use native.Mathlib.Nat.{mul-le-mul-left, zero-mul}
 use native.Mathlib.Decide.{decLe}
 use native.Mathlib.Omega.{arith}
-use lib.Dec.{eqb, leb, ltb}
-use lib.IntN.{ℤ, pos, _-ℤ_, _*ℤ_}
+use lib.Dec.{eqb, leb}
+use lib.IntN.{pos, _-ℤ_, _*ℤ_}
 use lib.ListN.{length, getD}
-use borrow.Author.Tests.{le-leb, lt-leb}
-use Rattle.integers.specs.Numbers.{sum}
+use borrow.Author.Tests.{le-leb}
 use Rattle.integers.proofs.Sum.{sum-same}
 use Rattle.meaning.specs.declared.Kw.{Kw}
 use Rattle.meaning.specs.declared.System.{System}
 use Rattle.meaning.specs.declared.System.the-variants.{Base, Wider, Local}
-use Rattle.meaning.specs.declared.Answer.{Answer}
 use Rattle.meaning.specs.declared.Answer.the-variants.{DirectionInDoubt}
 use Rattle.meaning.specs.Answers.{at, _orElse_}
-use Rattle.meaning.specs.Rows.{rows, lowest, failing}
+use Rattle.meaning.specs.Rows.{rows, failing}
 use Rattle.meaning.specs.Study.{Settings, Circuit, Runs, circuit}
 use Rattle.meaning.specs.Grid.{Grid, place, nodeTec, nodeDemand, totalTec, totalDemand}
-use Rattle.meaning.specs.Network.{Network, networkOf}
+use Rattle.meaning.specs.Network.{networkOf}
 use Rattle.meaning.specs.Scaled.{wholeShare, leftOver, missing, scaled}
-use Rattle.meaning.specs.Direction.{overheadFactor, cableFactor, expandedLength, direction, inDoubt, hasLength, signed, signedLength}
-use Rattle.meaning.specs.Proposal.{systemStage}
-use Rattle.meaning.specs.Systems.{runOf, limitOf, net, supply, lengthOf, offset, proposed, solutionStage, baseFlow, directionClear, directionStage, proposalsStage}
+use Rattle.meaning.specs.Direction.{overheadFactor, cableFactor, expandedLength, hasLength, signedLength}
+use Rattle.meaning.specs.Systems.{runOf, net, supply, lengthOf, offset, proposed, solutionStage, directionClear, directionStage, proposalsStage}
 use Rattle.meaning.specs.Conditions.{InRange, SoundSettings}
 use Rattle.meaning.proofs.Rows.{rows-at, length-rows}
 use Rattle.proposal.specs.declared.solution.Case.{Case}
-use Rattle.proposal.specs.Columns.{number, Filled}
+use Rattle.proposal.specs.Columns.{Filled}
 use Rattle.proposal.specs.Offsets.{offsetIn, offsetAt, clearBy}
 use Rattle.proposal.specs.Supplies.{kilowatts, kwAt, supplyAt}
 use Rattle.proposal.specs.Case.{netIn, offeredIn, solutionIn, doubtIn}

@@ -1,5 +1,4 @@
 -- A case in columns, as code has it, and what is proposed for a system of it.
-use mathlib.Core.Path.{_≡_}
 use mathlib.Core.List.{List}
 use Prim.Native.Nat.{ℕ, _-_, _≤_, _<_}
 use lib.IntN.{ℤ}

@@ -1,5 +1,4 @@
 -- 01, steps 4 and 5: the offset of a system, and 11, over columns as code has them.
-use mathlib.Core.Path.{_≡_}
 use mathlib.Core.Bool.{Bool, cond, not, _||_}
 use mathlib.Core.List.{List}
 use Prim.Native.Nat.{ℕ, _+_, _*_, _≤_, _<_}

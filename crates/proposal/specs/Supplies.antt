@@ -1,7 +1,7 @@
 -- 01, steps 1 and 3: scaled generation and the supply of a system, over columns as code has them.
 use mathlib.Core.Path.{_≡_}
 use mathlib.Core.List.{List}
-use Prim.Native.Nat.{ℕ, _*_, _≤_, _<_}
+use Prim.Native.Nat.{ℕ, _≤_, _<_}
 use lib.IntN.{ℤ, pos, _-ℤ_, _*ℤ_}
 use lib.ListN.{getD}
 use Rattle.integers.specs.Numbers.{sum}

@@ -5,7 +5,6 @@ use meaning::Answer;
 use meaning::System;
 ghost use mathlib.Core.Path.{_≡_};
 ghost use Rattle.meaning.specs.Answers.{stops, _orElse_};
-ghost use Rattle.proposal.specs.Columns.{Shaped};
 ghost use Rattle.proposal.specs.Case.{solutionIn, doubtIn, Judgeable};
 
 // Whether an answer is a refusal.

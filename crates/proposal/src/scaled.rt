@@ -5,7 +5,7 @@ ghost use mathlib.Core.Bool.{cond};
 ghost use Prim.Native.Nat.{_+_, _*_, _/_, _%_, _≤_};
 ghost use lib.Dec.{eqb, ltb};
 ghost use Rattle.integers.specs.Numbers.{sum};
-ghost use Rattle.meaning.specs.Scaled.{wholeShare, missing};
+ghost use Rattle.meaning.specs.Scaled.{missing};
 ghost use Rattle.proposal.specs.Columns.{Filled};
 ghost use Rattle.proposal.specs.Supplies.{kilowatts, kwAt, scaledBy, Scalable};
 

@@ -1,4 +1,4 @@
-use mathlib.Core.Path.{_≡_, sym, ap}
+use mathlib.Core.Path.{sym, ap}
 use Rattle.meaning.specs.Systems.{limitOf}
 use borrow.Author.Needs.{needs}
 use Rattle.proposal.proofs.offsets.limit_of.Statement.{statement}

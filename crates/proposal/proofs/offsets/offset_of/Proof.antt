@@ -1,6 +1,5 @@
-use mathlib.Core.Path.{_≡_, sym, _∙_}
+use mathlib.Core.Path.{_∙_}
 use Rattle.integers.proofs.Machine.{Back, back, fit-back}
-use Rattle.proposal.specs.Offsets.{signedBy}
 use Rattle.proposal.proofs.Marks.{base-none, wider-unmarked, wider-marked, local-unmarked, local-marked}
 use borrow.Author.Needs.{needs}
 use Rattle.proposal.proofs.offsets.offset_of.Statement.{statement}

@@ -1,4 +1,4 @@
-use mathlib.Core.Path.{_≡_, ap}
+use mathlib.Core.Path.{ap}
 use lib.Dec.{leb}
 use Rattle.meaning.specs.declared.Values.{Values}
 use Rattle.meaning.specs.Answers.{stops}

@@ -1,11 +1,10 @@
-use mathlib.Core.Path.{_≡_, refl, sym, _∙_, ap}
-use mathlib.Core.List.{List}
-use Prim.Native.Nat.{ℕ, _+_, _-_, _≤_, _<_}
+use mathlib.Core.Path.{_≡_, _∙_}
+use Prim.Native.Nat.{ℕ, _+_, _-_, _≤_}
 use native.Mathlib.Omega.{arith}
 use Rattle.integers.specs.Numbers.{sum}
 use Rattle.integers.proofs.Sum.{sum-zero, sum-more}
 use Rattle.meaning.specs.Scaled.{wholeShare}
-use Rattle.proposal.specs.Supplies.{kwAt, Scalable}
+use Rattle.proposal.specs.Supplies.{kwAt}
 use Rattle.proposal.proofs.Shares.{tec-small, share-is, missing-holds, missing-all}
 use Rattle.proposal.proofs.scaled.missing_kw.Statement.{statement}
 use Rattle.proposal.proofs.scaled.missing_kw.Tie as tie

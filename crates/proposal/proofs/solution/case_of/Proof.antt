@@ -1,4 +1,4 @@
-use mathlib.Core.Path.{_≡_, refl}
+use mathlib.Core.Path.{refl}
 use Rattle.proposal.specs.Case.{caseOf}
 use borrow.Author.Needs.{needs}
 use Rattle.proposal.proofs.solution.case_of.Statement.{statement}

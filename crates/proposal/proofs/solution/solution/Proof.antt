@@ -1,7 +1,6 @@
-use mathlib.Core.Path.{_≡_, refl, sym, _∙_, ap}
-use native.Mathlib.Omega.{arith}
+use mathlib.Core.Path.{_≡_, sym}
 use lib.ListN.{length}
-use Rattle.proposal.proofs.Cases.{ready, judged-alike}
+use Rattle.proposal.proofs.Cases.{ready, judged-as}
 use borrow.Author.Needs.{needs}
 use Rattle.proposal.proofs.solution.solution.Statement.{statement}
 use Rattle.proposal.proofs.solution.solution.Tie as tie
@@ -57,15 +56,15 @@ slice-aggregate-judge-system-5 c = search needs
 judge-system-requires : tie.Need-judge-system-requires
 judge-system-requires c κs =
     let a = s c .args in
-    rw (limited c .limit-of .ensures)
-    (ready (a .system) (a .k) (a .base .now) (a .run .now) _ _ (s c .pre) (supply-made c .supplies .ensures) (offset-made c .offsets .ensures) (x-long (s c)))
+    ready (a .system) (a .k) (a .base .now) (a .run .now) _ _ (s c .pre) (supply-made c .supplies .ensures) (offset-made c .offsets .ensures) _
+    (limited c .limit-of .ensures) (x-long (s c))
 
 returns : tie.Need-returns
 returns c =
     let b = c .before in
     let a = s b .args in
-    rw (limited b .limit-of .ensures) at (c .judge-system .ensures)
-    ∙ judged-alike (a .system) (a .k) (a .base .now) (a .run .now) _ _ (s b .pre) (supply-made b .supplies .ensures) (offset-made b .offsets .ensures)
+    judged-as (a .system) (a .k) (a .base .now) (a .run .now) _ _ (s b .pre) (supply-made b .supplies .ensures) (offset-made b .offsets .ensures) _
+    (limited b .limit-of .ensures) _ (c .judge-system .ensures)
 
 pub solution-spec : {M : Type 1} → statement M
 solution-spec =

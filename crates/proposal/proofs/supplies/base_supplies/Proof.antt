@@ -1,13 +1,11 @@
-use mathlib.Core.Path.{_≡_, refl, sym, _∙_, ap}
-use Prim.Native.Nat.{ℕ, _+_, _-_, _≤_, _<_}
+use mathlib.Core.Path.{_≡_, refl, _∙_, ap}
+use Prim.Native.Nat.{ℕ, _-_, _≤_, _<_}
 use native.Mathlib.Omega.{arith}
 use lib.IntN.{pos}
-use lib.ListN.{getD}
-use Rattle.integers.proofs.Machine.{Back, back}
+use Rattle.integers.proofs.Machine.{back}
 use Rattle.meaning.specs.declared.Kw.{Kw}
-use Rattle.meaning.specs.declared.System.the-variants.{Base}
 use Rattle.proposal.specs.Columns.{Filled}
-use Rattle.proposal.specs.Supplies.{kilowatts, kwAt, scaledBy, netSupply, supplyAt}
+use Rattle.proposal.specs.Supplies.{kwAt, scaledBy, netSupply}
 use Rattle.proposal.proofs.Filled.{filled-none, filled-more, filled-as}
 use Rattle.proposal.proofs.Shares.{scaled-small}
 use Rattle.proposal.proofs.Supply.{base-is}

@@ -1,5 +1,3 @@
-use mathlib.Core.Path.{_≡_}
-use native.Mathlib.Omega.{arith}
 use Rattle.proposal.proofs.Supply.{base-as, wider-none, local-none}
 use borrow.Author.Needs.{needs}
 use Rattle.proposal.proofs.supplies.supplies.Statement.{statement}
