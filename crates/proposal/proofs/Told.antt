@@ -29,7 +29,7 @@ use Rattle.proposal.specs.declared.solution.Case.{Case}
 use Rattle.proposal.specs.Columns.{Filled}
 use Rattle.proposal.specs.Offsets.{offsetIn, offsetAt, clearBy}
 use Rattle.proposal.specs.Supplies.{kilowatts, kwAt, supplyAt}
-use Rattle.proposal.specs.Case.{netIn, offeredIn, solutionIn, doubtIn}
+use Rattle.proposal.specs.Case.{netIn, offeredIn, solutionIn, doubtIn, proposalsIn}
 use Rattle.proposal.proofs.Same.{system-alike, lowest-same}
 
 -- a column made row by row
@@ -158,6 +158,6 @@ module _ (G : Grid) (k : Case) (t : Told G k) (runs : Runs) where
 
   -- the whole chain
   pub proposals-told : SoundSettings (length (G .nodes)) (G .settings)
-      → solutionIn Base k (runs .base) (runs .base) orElse doubtIn k (runs .base) orElse solutionIn Wider k (runs .base) (runs .wider) orElse solutionIn Local k (runs .base) (runs .local) ≡ proposalsStage G runs
+      → proposalsIn k (runs .base) (runs .wider) (runs .local) ≡ proposalsStage G runs
   unfolding proposalsStage runOf
   proposals-told sound = ap₂ _orElse_ (net-alike Base) (ap₂ _orElse_ (doubt-told sound) (ap₂ _orElse_ (net-alike Wider) (net-alike Local)))

@@ -10,9 +10,10 @@ use Rattle.columns.specs.declared.NodeColumns.{NodeColumns}
 use Rattle.columns.specs.declared.CircuitColumns.{CircuitColumns}
 use Rattle.meaning.specs.declared.Kw.{Kw}
 use Rattle.meaning.specs.declared.System.{System}
+use Rattle.meaning.specs.declared.System.the-variants.{Base, Wider, Local}
 use Rattle.meaning.specs.declared.Answer.{Answer}
 use Rattle.meaning.specs.declared.Answer.the-variants.{DirectionInDoubt}
-use Rattle.meaning.specs.Answers.{at}
+use Rattle.meaning.specs.Answers.{_orElse_, at}
 use Rattle.meaning.specs.Rows.{failing}
 use Rattle.meaning.specs.Network.{Network}
 use Rattle.meaning.specs.Proposal.{Proposed, systemStage}
@@ -69,6 +70,10 @@ solutionIn system k base run = systemStage (netIn k) (offeredIn system k base ru
 -- 11: the lowest circuit with a length whose base flow is in doubt
 abbrev pub doubtIn : Case → (base : List ℤ) → Answer
 doubtIn k base = at (failing (clearBy (k .nodes) (k .length) base) (k .circuits)) DirectionInDoubt
+
+-- 01, Order: "8, 9, 10 for system 1 (base); 11; 8, 9, 10 for system 2 (wider), then 3 (local)"
+abbrev pub proposalsIn : Case → (base wider local : List ℤ) → Answer
+proposalsIn k base wider local = solutionIn Base k base base orElse doubtIn k base orElse solutionIn Wider k base wider orElse solutionIn Local k base local
 
 -- what is known of a case whose tables are sound, and of two runs of their length; the runs' numbers are any
 pub record Judgeable (k : Case) (base run : List ℤ) : Type 0 where

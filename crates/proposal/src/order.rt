@@ -4,8 +4,8 @@ use crate::solution::Case;
 use meaning::Answer;
 use meaning::System;
 ghost use mathlib.Core.Path.{_≡_};
-ghost use Rattle.meaning.specs.Answers.{stops, _orElse_};
-ghost use Rattle.proposal.specs.Case.{solutionIn, doubtIn, Judgeable};
+ghost use Rattle.meaning.specs.Answers.{stops};
+ghost use Rattle.proposal.specs.Case.{proposalsIn, Judgeable};
 
 // Whether an answer is a refusal.
 pub fn is_refusal(answer: Answer) -> bool
@@ -17,7 +17,7 @@ pub fn is_refusal(answer: Answer) -> bool
 // The first refusal of the proposals, in the order of the systems.
 pub fn proposals(k: Case, base: &[i64], wider: &[i64], local: &[i64]) -> Answer
     requires { ⌜ Judgeable k (now base) (now base) × Judgeable k (now base) (now wider) × Judgeable k (now base) (now local) ⌝ }
-    ensures { λ r. ⌜ r ≡ (solutionIn System.Base k (now (base .entry)) (now (base .entry)) orElse doubtIn k (now (base .entry)) orElse solutionIn System.Wider k (now (base .entry)) (now (wider .entry)) orElse solutionIn System.Local k (now (base .entry)) (now (local .entry))) ⌝ }
+    ensures { λ r. ⌜ r ≡ proposalsIn k (now (base .entry)) (now (wider .entry)) (now (local .entry)) ⌝ }
 {
     let of_base = solution::solution(System::Base, k, base, base);
     if is_refusal(of_base) {
