@@ -14,5 +14,5 @@ pub mod Cases
 pub mod Told
 pub mod Sound
 pub mod CaseOf
-pub mod Passed
 pub mod Chain
+pub mod Opening
