@@ -15,7 +15,7 @@ use Rattle.meaning.specs.declared.Kw.{Kw}
 use Rattle.meaning.specs.declared.System.{System}
 use Rattle.meaning.specs.declared.System.the-variants.{Base, Wider, Local}
 use Rattle.meaning.specs.declared.Answer.the-variants.{DirectionInDoubt}
-use Rattle.meaning.specs.Answers.{at}
+use Rattle.meaning.specs.Answers.{at, _orElse_}
 use Rattle.meaning.specs.Rows.{rows, failing}
 use Rattle.meaning.specs.Study.{Settings, Circuit, Runs, circuit}
 use Rattle.meaning.specs.Grid.{Grid, place, nodeTec, nodeDemand, totalTec, totalDemand}
