@@ -1,0 +1,56 @@
+-- `charges::tariffs::after_c` meets its contract.
+use mathlib.Core.Path.{_∙_}
+use borrow.Author.Needs.{needs}
+use native.Mathlib.Omega.{arith}
+use lib.IntN.{ℤ, _+ℤ_, _-ℤ_}
+use mir.Facts.{toZ-ofZ}
+use mir.Syntax.{w64}
+use mir.Val.{SFits}
+use Rattle.integers.proofs.Core.{Z}
+use Rattle.integers.proofs.Machine.{Back, fit-back}
+use Rattle.charges.specs.Steps.{shifted}
+use Rattle.charges.proofs.Laws.{abs-fits}
+use Rattle.charges.proofs.tariffs.after_c.Statement.{statement}
+use Rattle.charges.proofs.tariffs.after_c.Tie as tie
+
+module _ (s : tie.Start) where
+  abbrev m : ℤ
+  m = s .args .metres .0
+
+  abbrev by : ℤ
+  by = s .args .c .0
+
+  bm : Back m
+  bm = fit-back (abs-fits m (omega arith))
+
+  bc : Back by
+  bc = fit-back (abs-fits by (omega arith))
+
+  more : SFits w64 (m +ℤ by)
+  more = simp Z (omega (arith, simp Z at (s .pre .0), simp Z at (s .pre .1)))
+
+  less : SFits w64 (m -ℤ by)
+  less = simp Z (omega (arith, simp Z at (s .pre .0), simp Z at (s .pre .1)))
+
+enum-told : tie.Need-enum-told
+enum-told c = search needs
+
+add-t5 : tie.Need-add-t5
+add-t5 c = simp (bm, bc) (more (c .before .before .before .before .before .before))
+
+enum-told-2 : tie.Need-enum-told-2
+enum-told-2 c = search needs
+
+sub-t6 : tie.Need-sub-t6
+sub-t6 c = simp (bm, bc) (less (c .before .before .before .before .before .before))
+
+returns : tie.Need-returns
+unfolding shifted
+returns c = toZ-ofZ (add-t5 c) ∙ rw (c .before .before .before .before .enum-told .given .1) (simp (bm, bc))
+
+returns-2 : tie.Need-returns-2
+unfolding shifted
+returns-2 c = toZ-ofZ (sub-t6 c) ∙ rw (c .before .before .before .before .enum-told2 .given .1) (simp (bm, bc))
+
+pub after-c-spec : {M : Type 1} → statement M
+after-c-spec = tie.close (tie.spec enum-told add-t5 enum-told-2 sub-t6 returns returns-2)

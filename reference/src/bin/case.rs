@@ -1,0 +1,94 @@
+//! Makes, shows and solves case files. Standard input to standard output; faults to standard error.
+
+use reference::file::{whole_case, Case};
+use reference::{largest, random, solver, text};
+use std::io::{self, Read, Write};
+use std::process::ExitCode;
+
+const USE: &str = "\
+case make     < text > file   the file a text describes
+case show     < file > text   a text that describes a file, damaged ones too
+case solve    < text > text   the same text with solutions in place of its own
+case solve    < file > file   the same for a file
+case largest         > file   256 nodes, 512 circuits, 512 stations
+case random SEED [MOST_NODES] > file   a case by chance, solved
+case spoil SEED < file > file   a whole file with one thing changed by chance";
+
+fn main() -> ExitCode {
+    let words: Vec<String> = std::env::args().skip(1).collect();
+    let words: Vec<&str> = words.iter().map(String::as_str).collect();
+    let output = match words[..] {
+        ["make"] => input().and_then(|text| text::make(&text).map_err(|faults| joined(&faults))),
+        ["show"] => input().map(|file| text::show(&file).into_bytes()),
+        ["solve"] => input().and_then(|input| solve(&input)),
+        ["largest"] => Ok(largest::largest().bytes()),
+        ["random", seed] => by_chance(seed, "12"),
+        ["random", seed, nodes] => by_chance(seed, nodes),
+        ["spoil", seed] => input().and_then(|file| spoil(&file, seed)),
+        _ => Err(USE.to_string()),
+    };
+    match output.and_then(|bytes| io::stdout().lock().write_all(&bytes).map_err(|fault| fault.to_string())) {
+        Ok(()) => ExitCode::SUCCESS,
+        Err(message) => {
+            eprintln!("{message}");
+            ExitCode::FAILURE
+        }
+    }
+}
+
+/// All of standard input.
+fn input() -> Result<Vec<u8>, String> {
+    let mut bytes = Vec::new();
+    io::stdin().lock().read_to_end(&mut bytes).map_err(|fault| fault.to_string())?;
+    Ok(bytes)
+}
+
+/// Faults of a text, one a line.
+fn joined(faults: &[text::TextError]) -> String {
+    faults.iter().map(|fault| fault.to_string()).collect::<Vec<_>>().join("\n")
+}
+
+/// A whole file solved as a file, anything else as a text, whose other lines stay as they are.
+fn solve(input: &[u8]) -> Result<Vec<u8>, String> {
+    if let Some(case) = whole_case(input) {
+        return Ok(told(&case).bytes());
+    }
+    let described = text::parse(input).map_err(|faults| joined(&faults))?;
+    if described.damage != text::Damage::default() {
+        return Err("a text with words of damage isn't solved".to_string());
+    }
+    let solution = text::solution_lines(&told(&described.case));
+    let kept = String::from_utf8_lossy(input);
+    let kept: Vec<&str> = kept.lines().filter(|line| !is_solution_row(line)).collect();
+    Ok(format!("{}\n{solution}", kept.join("\n").trim_end()).into_bytes())
+}
+
+/// A line of a text that gives a solution row.
+fn is_solution_row(line: &str) -> bool {
+    ["base", "wider", "local"].contains(&line.split_whitespace().next().unwrap_or(""))
+}
+
+/// A case solved; where its tables are refused, that is said and zeros are given.
+fn told(case: &Case) -> Case {
+    let (solved, trouble) = solver::solved(case);
+    if let Some(reason) = trouble {
+        eprintln!("zeros for solutions: {reason}");
+    }
+    solved
+}
+
+/// A case by chance.
+fn by_chance(seed: &str, nodes: &str) -> Result<Vec<u8>, String> {
+    Ok(random::random(number(seed)?, number(nodes)?).bytes())
+}
+
+/// A whole file with one thing changed by chance.
+fn spoil(file: &[u8], seed: &str) -> Result<Vec<u8>, String> {
+    let case = whole_case(file).ok_or("not a whole file")?;
+    Ok(random::spoiled(&case, number(seed)?).bytes())
+}
+
+/// A number among the arguments.
+fn number(word: &str) -> Result<u64, String> {
+    word.parse().map_err(|_| format!("{word} isn't a number"))
+}

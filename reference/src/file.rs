@@ -1,0 +1,326 @@
+//! 01 "The case file": records, sections and trailer as bytes, and refusal 1.
+
+use crate::quantities::{within, CIRCUITS, NODES, STATIONS};
+
+/// 01 "The case file": twelve bytes of a name or an identifier, as they stand in the file.
+pub type Name = [u8; 12];
+
+/// 01 "The case file": the sections in their order, with the bytes of one record.
+pub const SECTIONS: [(&str, usize); 7] =
+    [("settings", 64), ("nodes", 24), ("circuits", 44), ("stations", 32), ("base", 8), ("wider", 8), ("local", 8)];
+
+/// 01 "The case file": "then a 64-byte trailer".
+pub const TRAILER: usize = 64;
+
+/// 01 "The case file": "then the version 1".
+pub const VERSION: u32 = 1;
+
+/// 01 "The case file", settings: the 64 bytes of the one record.
+#[derive(Clone, Debug, Default, PartialEq, Eq)]
+pub struct Settings {
+    pub generation_zones: u32,
+    pub demand_zones: u32,
+    pub p: u32,
+    pub constant: u32,
+    pub wider_factor: u32,
+    pub local_factor: u32,
+    /// 400 overhead, 400 cable, 275 overhead, 275 cable, 132 overhead, 132 cable.
+    pub factors: [u32; 6],
+    pub reference: u32,
+    pub zero: u32,
+    pub revenue: u64,
+}
+
+/// 01 "The case file", node: 24 bytes.
+#[derive(Clone, Debug, PartialEq, Eq)]
+pub struct NodeRow {
+    pub name: Name,
+    pub generation_zone: u32,
+    pub demand_zone: u32,
+    pub demand: u32,
+}
+
+/// 01 "The case file", circuit: 44 bytes.
+#[derive(Clone, Debug, PartialEq, Eq)]
+pub struct CircuitRow {
+    pub first: Name,
+    pub second: Name,
+    pub voltage: u32,
+    pub x: u32,
+    pub overhead: u32,
+    pub cable: u32,
+    pub mark: u32,
+}
+
+/// 01 "The case file", station: 32 bytes.
+#[derive(Clone, Debug, PartialEq, Eq)]
+pub struct StationRow {
+    pub identifier: Name,
+    pub node: Name,
+    pub plant: u32,
+    pub tec: u32,
+}
+
+/// 01 "The case file": all sections, not yet judged by anything but their places.
+#[derive(Clone, Debug, Default, PartialEq, Eq)]
+pub struct Case {
+    pub settings: Settings,
+    pub nodes: Vec<NodeRow>,
+    pub circuits: Vec<CircuitRow>,
+    pub stations: Vec<StationRow>,
+    /// Base, wider, local: one potential a node, then one flow a circuit.
+    pub runs: [Vec<i64>; 3],
+}
+
+/// 01 "The case file": offset and record count of each section, version, file length.
+#[derive(Clone, Debug, PartialEq, Eq)]
+pub struct Trailer {
+    pub offsets: [u32; 7],
+    pub counts: [u32; 7],
+    pub version: u32,
+    pub length: u32,
+}
+
+/// 01 "The case file": the u32 at an offset, little-endian.
+pub fn u32_at(bytes: &[u8], at: usize) -> u32 {
+    u32::from_le_bytes(bytes[at..at + 4].try_into().unwrap())
+}
+
+/// 01 "The case file": the u64 at an offset, little-endian.
+pub fn u64_at(bytes: &[u8], at: usize) -> u64 {
+    u64::from_le_bytes(bytes[at..at + 8].try_into().unwrap())
+}
+
+/// 01 "The case file": the i64 at an offset, little-endian.
+pub fn i64_at(bytes: &[u8], at: usize) -> i64 {
+    i64::from_le_bytes(bytes[at..at + 8].try_into().unwrap())
+}
+
+/// 01 "The case file": the name at an offset.
+pub fn name_at(bytes: &[u8], at: usize) -> Name {
+    bytes[at..at + 12].try_into().unwrap()
+}
+
+impl Settings {
+    /// 01 "The case file": settings from their 64 bytes.
+    pub fn read(bytes: &[u8]) -> Settings {
+        Settings {
+            generation_zones: u32_at(bytes, 0),
+            demand_zones: u32_at(bytes, 4),
+            p: u32_at(bytes, 8),
+            constant: u32_at(bytes, 12),
+            wider_factor: u32_at(bytes, 16),
+            local_factor: u32_at(bytes, 20),
+            factors: std::array::from_fn(|k| u32_at(bytes, 24 + 4 * k)),
+            reference: u32_at(bytes, 48),
+            zero: u32_at(bytes, 52),
+            revenue: u64_at(bytes, 56),
+        }
+    }
+
+    /// 01 "The case file": the 64 bytes of settings.
+    pub fn bytes(&self) -> Vec<u8> {
+        let head =
+            [self.generation_zones, self.demand_zones, self.p, self.constant, self.wider_factor, self.local_factor];
+        let numbers = head.iter().chain(&self.factors).chain([&self.reference, &self.zero]);
+        let mut bytes: Vec<u8> = numbers.flat_map(|number| number.to_le_bytes()).collect();
+        bytes.extend(self.revenue.to_le_bytes());
+        bytes
+    }
+}
+
+impl NodeRow {
+    /// 01 "The case file": a node from its 24 bytes.
+    pub fn read(bytes: &[u8]) -> NodeRow {
+        NodeRow {
+            name: name_at(bytes, 0),
+            generation_zone: u32_at(bytes, 12),
+            demand_zone: u32_at(bytes, 16),
+            demand: u32_at(bytes, 20),
+        }
+    }
+
+    /// 01 "The case file": the 24 bytes of a node.
+    pub fn bytes(&self) -> Vec<u8> {
+        let numbers = [self.generation_zone, self.demand_zone, self.demand];
+        self.name.into_iter().chain(numbers.into_iter().flat_map(u32::to_le_bytes)).collect()
+    }
+}
+
+impl CircuitRow {
+    /// 01 "The case file": a circuit from its 44 bytes.
+    pub fn read(bytes: &[u8]) -> CircuitRow {
+        CircuitRow {
+            first: name_at(bytes, 0),
+            second: name_at(bytes, 12),
+            voltage: u32_at(bytes, 24),
+            x: u32_at(bytes, 28),
+            overhead: u32_at(bytes, 32),
+            cable: u32_at(bytes, 36),
+            mark: u32_at(bytes, 40),
+        }
+    }
+
+    /// 01 "The case file": the 44 bytes of a circuit.
+    pub fn bytes(&self) -> Vec<u8> {
+        let numbers = [self.voltage, self.x, self.overhead, self.cable, self.mark];
+        let names = self.first.into_iter().chain(self.second);
+        names.chain(numbers.into_iter().flat_map(u32::to_le_bytes)).collect()
+    }
+}
+
+impl StationRow {
+    /// 01 "The case file": a station from its 32 bytes.
+    pub fn read(bytes: &[u8]) -> StationRow {
+        StationRow {
+            identifier: name_at(bytes, 0),
+            node: name_at(bytes, 12),
+            plant: u32_at(bytes, 24),
+            tec: u32_at(bytes, 28),
+        }
+    }
+
+    /// 01 "The case file": the 32 bytes of a station.
+    pub fn bytes(&self) -> Vec<u8> {
+        let names = self.identifier.into_iter().chain(self.node);
+        names.chain([self.plant, self.tec].into_iter().flat_map(u32::to_le_bytes)).collect()
+    }
+}
+
+impl Trailer {
+    /// 01 "The case file": the trailer of a file long enough to have one: its last 64 bytes.
+    pub fn read(file: &[u8]) -> Option<Trailer> {
+        let start = file.len().checked_sub(TRAILER)?;
+        let bytes = &file[start..];
+        Some(Trailer {
+            offsets: std::array::from_fn(|k| u32_at(bytes, 8 * k)),
+            counts: std::array::from_fn(|k| u32_at(bytes, 8 * k + 4)),
+            version: u32_at(bytes, 56),
+            length: u32_at(bytes, 60),
+        })
+    }
+
+    /// 01 "The case file": the 64 bytes of a trailer.
+    pub fn bytes(&self) -> Vec<u8> {
+        let pairs = self.offsets.iter().zip(&self.counts).flat_map(|(offset, count)| [*offset, *count]);
+        pairs.chain([self.version, self.length]).flat_map(u32::to_le_bytes).collect()
+    }
+}
+
+impl Case {
+    /// 01 "The case file": the record counts of the sections in their order.
+    pub fn counts(&self) -> [usize; 7] {
+        let runs = &self.runs;
+        let tables = [1, self.nodes.len(), self.circuits.len(), self.stations.len()];
+        [tables[0], tables[1], tables[2], tables[3], runs[0].len(), runs[1].len(), runs[2].len()]
+    }
+
+    /// 01 "The case file": the sections one after another, without the trailer.
+    pub fn section_bytes(&self) -> Vec<u8> {
+        let mut bytes = self.settings.bytes();
+        bytes.extend(self.nodes.iter().flat_map(NodeRow::bytes));
+        bytes.extend(self.circuits.iter().flat_map(CircuitRow::bytes));
+        bytes.extend(self.stations.iter().flat_map(StationRow::bytes));
+        bytes.extend(self.runs.iter().flatten().flat_map(|number| number.to_le_bytes()));
+        bytes
+    }
+
+    /// 01 "The case file": the trailer that fits the sections.
+    pub fn trailer(&self) -> Trailer {
+        let counts = self.counts();
+        let mut offsets = [0; 7];
+        let mut end = 0;
+        for (k, (_, size)) in SECTIONS.iter().enumerate() {
+            offsets[k] = end as u32;
+            end += counts[k] * size;
+        }
+        Trailer { offsets, counts: counts.map(|count| count as u32), version: VERSION, length: (end + TRAILER) as u32 }
+    }
+
+    /// 01 "The case file": the whole file.
+    pub fn bytes(&self) -> Vec<u8> {
+        let mut bytes = self.section_bytes();
+        bytes.extend(self.trailer().bytes());
+        bytes
+    }
+
+    /// 01 "The case file": the sections of given counts, read one after another from offset 0.
+    /// `None` where the bytes end too early or the settings' count isn't 1.
+    pub fn read(bytes: &[u8], counts: [usize; 7]) -> Option<Case> {
+        let needed = counts
+            .iter()
+            .zip(SECTIONS)
+            .try_fold(0usize, |sum, (count, (_, size))| sum.checked_add(count.checked_mul(size)?))?;
+        if counts[0] != 1 || needed > bytes.len() {
+            return None;
+        }
+        let mut end = 0;
+        let mut records = |section: usize| -> Vec<&[u8]> {
+            let start = end;
+            end += counts[section] * SECTIONS[section].1;
+            bytes[start..end].chunks_exact(SECTIONS[section].1).collect()
+        };
+        Some(Case {
+            settings: Settings::read(records(0)[0]),
+            nodes: records(1).into_iter().map(NodeRow::read).collect(),
+            circuits: records(2).into_iter().map(CircuitRow::read).collect(),
+            stations: records(3).into_iter().map(StationRow::read).collect(),
+            runs: [4, 5, 6].map(|section| records(section).into_iter().map(|record| i64_at(record, 0)).collect()),
+        })
+    }
+}
+
+/// 01 "What stops a case", 1, "counts": settings 1, tables within their ranges, each solution nodes plus circuits.
+fn counts_are_right(counts: &[u32; 7]) -> bool {
+    let [settings, nodes, circuits, stations, solutions @ ..] = *counts;
+    settings == 1
+        && within(nodes, NODES)
+        && within(circuits, CIRCUITS)
+        && within(stations, STATIONS)
+        && solutions.iter().all(|solution| *solution == nodes + circuits)
+}
+
+/// 01 "What stops a case", 1, "chain": "Sections must follow one another exactly and end at the trailer".
+fn chain_is_right(trailer: &Trailer, file_length: usize) -> bool {
+    let mut end = 0;
+    for (k, (_, size)) in SECTIONS.iter().enumerate() {
+        if trailer.offsets[k] as usize != end {
+            return false;
+        }
+        end += trailer.counts[k] as usize * size;
+    }
+    end + TRAILER == file_length
+}
+
+/// 01 "What stops a case", 1: the case of a whole file. `None` where "length, trailer, version, counts, chain or
+/// the settings' zero" is wrong; which of them is found first makes no difference.
+pub fn whole_case(file: &[u8]) -> Option<Case> {
+    let trailer = Trailer::read(file)?;
+    let whole = trailer.version == VERSION
+        && trailer.length as usize == file.len()
+        && counts_are_right(&trailer.counts)
+        && chain_is_right(&trailer, file.len());
+    if !whole {
+        return None;
+    }
+    Case::read(file, trailer.counts.map(|count| count as usize)).filter(|case| case.settings.zero == 0)
+}
+
+/// 01 "The case file": "A name or identifier is 1 to 12 of A-Z, 0-9 and underscore, then spaces to 12".
+pub fn well_formed(name: &Name) -> bool {
+    let letters = name.iter().take_while(|byte| matches!(byte, b'A'..=b'Z' | b'0'..=b'9' | b'_')).count();
+    letters >= 1 && name[letters..].iter().all(|byte| *byte == b' ')
+}
+
+/// 01 "The sheet": a name "without padding".
+pub fn without_padding(name: &Name) -> &[u8] {
+    let end = name.iter().rposition(|byte| *byte != b' ').map_or(0, |last| last + 1);
+    &name[..end]
+}
+
+/// 01 "The case file": at most twelve bytes, "then spaces to 12".
+pub fn padded(bytes: &[u8]) -> Name {
+    let mut name = [b' '; 12];
+    name[..bytes.len()].copy_from_slice(bytes);
+    name
+}

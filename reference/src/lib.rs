@@ -1,0 +1,20 @@
+//! Independent reference for document 01: one study case in, a tariff sheet or a refusal out.
+//!
+//! Written from the words of 01 for clarity, not for speed: `i128` for every sum, one function for each
+//! sentence, and each function names its place. `judge_case` is the library entry, `program_output` what the
+//! program prints. `text` writes and reads cases as plain text, `solver` proposes solutions, `largest` builds
+//! the case of the greatest counts.
+
+pub mod charges;
+pub mod file;
+pub mod judge;
+pub mod largest;
+pub mod quantities;
+pub mod random;
+pub mod sheet;
+pub mod solutions;
+pub mod solver;
+pub mod tables;
+pub mod text;
+
+pub use judge::{judge_case, judge_into, program_output, Answer, Refusal};

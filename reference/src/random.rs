@@ -1,0 +1,223 @@
+//! Cases by chance, for comparisons: the same number gives the same case.
+
+use crate::file::{padded, Case, CircuitRow, NodeRow, Settings, StationRow};
+use crate::solver::solved;
+
+/// A plain generator of numbers by chance (splitmix64).
+pub struct Chance(pub u64);
+
+impl Chance {
+    /// The next 64 bits.
+    pub fn bits(&mut self) -> u64 {
+        self.0 = self.0.wrapping_add(0x9e37_79b9_7f4a_7c15);
+        let mut bits = self.0;
+        bits = (bits ^ (bits >> 30)).wrapping_mul(0xbf58_476d_1ce4_e5b9);
+        bits = (bits ^ (bits >> 27)).wrapping_mul(0x94d0_49bb_1331_11eb);
+        bits ^ (bits >> 31)
+    }
+
+    /// A number from `low` to `high`, both included.
+    pub fn within(&mut self, low: u64, high: u64) -> u64 {
+        low + self.bits() % (high - low + 1)
+    }
+
+    /// One of a list.
+    pub fn of<T: Copy>(&mut self, list: &[T]) -> T {
+        list[self.within(0, list.len() as u64 - 1) as usize]
+    }
+
+    /// A number from `low` to `high` whose size varies, the ends more likely than elsewhere.
+    pub fn spread(&mut self, low: u64, high: u64) -> u32 {
+        let number = match self.within(0, 11) {
+            0 => low,
+            1 => high,
+            2..=5 => self.within(low, high),
+            _ => low + (high - low) / 10u64.pow(self.within(1, 3) as u32) * self.within(0, 100) / 100,
+        };
+        number as u32
+    }
+}
+
+/// A case of at most so many nodes, with sound tables for nearly every number and solutions for those.
+pub fn random(seed: u64, most_nodes: u64) -> Case {
+    let chance = &mut Chance(seed);
+    let nodes = chance.within(1, most_nodes.clamp(1, 256));
+    let more = if nodes == 1 { 0 } else { chance.within(0, nodes.min(512 + 1 - nodes)) };
+    let stations = chance.within(1, (2 * nodes).min(512));
+    let settings = settings(chance, nodes);
+    let mut case = Case {
+        nodes: (0..nodes).map(|number| node(chance, number, &settings)).collect(),
+        circuits: (1..nodes + more).map(|number| circuit(chance, number, nodes)).collect(),
+        stations: (0..stations).map(|number| station(chance, number, nodes)).collect(),
+        runs: Default::default(),
+        settings,
+    };
+    fit_totals(&mut case);
+    solved(&case).0
+}
+
+/// Settings anywhere in their ranges.
+fn settings(chance: &mut Chance, nodes: u64) -> Settings {
+    Settings {
+        generation_zones: chance.within(1, 32.min(nodes + 1)) as u32,
+        demand_zones: chance.within(1, 32.min(nodes + 1)) as u32,
+        p: chance.spread(0, 1_000),
+        constant: chance.spread(1, 10_000),
+        wider_factor: chance.spread(1_000, 5_000),
+        local_factor: chance.spread(1_000, 5_000),
+        factors: std::array::from_fn(|place| if place == 0 { 1_000 } else { chance.spread(1_000, 30_000) }),
+        reference: chance.within(1, nodes) as u32,
+        zero: 0,
+        revenue: chance.of(&[0, 1, 999_999, 100_000_000, 2_939_300_000, 10_000_000_000]),
+    }
+}
+
+/// A node's name by its number.
+fn name(number: u64) -> [u8; 12] {
+    padded(format!("N{number}").as_bytes())
+}
+
+/// A node of any zone; about a third have no demand.
+fn node(chance: &mut Chance, number: u64, settings: &Settings) -> NodeRow {
+    NodeRow {
+        name: name(number),
+        generation_zone: chance.within(1, settings.generation_zones as u64) as u32,
+        demand_zone: chance.within(1, settings.demand_zones as u64) as u32,
+        demand: if chance.within(0, 2) == 0 { 0 } else { chance.spread(0, 3_000_000) },
+    }
+}
+
+/// A circuit: the first ones hang each node on an earlier one, the others join any two.
+fn circuit(chance: &mut Chance, number: u64, nodes: u64) -> CircuitRow {
+    let first = if number < nodes { number } else { chance.within(0, nodes - 1) };
+    let second =
+        if number < nodes { chance.within(0, first - 1) } else { (first + chance.within(1, nodes - 1)) % nodes };
+    let turned = chance.within(0, 1) == 1;
+    let (first, second) = if turned { (second, first) } else { (first, second) };
+    CircuitRow {
+        first: name(first),
+        second: name(second),
+        voltage: chance.of(&[132, 275, 400]),
+        x: chance.spread(1, 10_000),
+        overhead: chance.spread(0, 100_000),
+        cable: if chance.within(0, 3) == 0 { chance.spread(0, 5_000) } else { 0 },
+        mark: (chance.within(0, 4) == 0) as u32,
+    }
+}
+
+/// A station at any node.
+fn station(chance: &mut Chance, number: u64, nodes: u64) -> StationRow {
+    StationRow {
+        identifier: padded(format!("S{number}").as_bytes()),
+        node: name(chance.within(0, nodes - 1)),
+        plant: chance.within(1, 7) as u32,
+        tec: if chance.within(0, 9) == 0 { 0 } else { chance.spread(1, 5_000_000) },
+    }
+}
+
+/// 01 "What stops a case", 7: brings TEC under its greatest total, then demand under TEC.
+fn fit_totals(case: &mut Case) {
+    let tec = |case: &Case| case.stations.iter().map(|row| row.tec as u64).sum::<u64>();
+    let demand = |case: &Case| case.nodes.iter().map(|row| row.demand as u64).sum::<u64>();
+    while tec(case) > 100_000_000 {
+        case.stations.iter_mut().for_each(|row| row.tec /= 2);
+    }
+    while demand(case) > tec(case) {
+        case.nodes.iter_mut().for_each(|row| row.demand /= 2);
+    }
+}
+
+/// Numbers at the ends of 01's ranges for fields of 32 bits, and one beyond.
+const EDGES_32: [u32; 32] = [
+    0,
+    1,
+    2,
+    3,
+    7,
+    8,
+    31,
+    32,
+    33,
+    132,
+    275,
+    276,
+    400,
+    401,
+    999,
+    1_000,
+    1_001,
+    4_999,
+    5_000,
+    5_001,
+    9_999,
+    10_000,
+    10_001,
+    29_999,
+    30_000,
+    30_001,
+    500_000,
+    500_001,
+    20_000_000,
+    20_000_001,
+    1 << 31,
+    u32::MAX,
+];
+
+/// Numbers at the ends of 01's ranges for proposed numbers, and one beyond.
+const EDGES_64: [i64; 16] = [
+    0,
+    1,
+    200_000_000,
+    200_000_001,
+    400_000_000,
+    400_000_001,
+    500_000_000,
+    100_000_000_000_000,
+    100_000_000_000_001,
+    10_000_000_000_000_000,
+    10_000_000_000_000_001,
+    2_000_000_000_000_000_000,
+    2_000_000_000_000_000_001,
+    i64::MAX,
+    -i64::MAX,
+    i64::MIN,
+];
+
+/// A case with one thing changed by chance: a field of 32 bits, a proposed number, a name. Its counts stay, so its
+/// file stays whole but for the settings' zero.
+pub fn spoiled(case: &Case, seed: u64) -> Case {
+    let chance = &mut Chance(seed);
+    let counts = case.counts();
+    let mut sections = case.section_bytes();
+    let tables = 64 + 24 * counts[1] + 44 * counts[2] + 32 * counts[3];
+    match chance.within(0, 3) {
+        0 => {
+            let place = 4 * chance.within(0, tables as u64 / 4 - 1) as usize;
+            sections[place..place + 4].copy_from_slice(&chance.of(&EDGES_32).to_le_bytes());
+        }
+        1 => {
+            // One table's row over another row of its kind: names repeat, ends change.
+            let section = chance.within(1, 3) as usize;
+            let size = [24, 44, 32][section - 1];
+            let start = 64 + [0, 24 * counts[1], 24 * counts[1] + 44 * counts[2]][section - 1];
+            if counts[section] > 1 {
+                let row = |chance: &mut Chance| start + size * chance.within(0, counts[section] as u64 - 1) as usize;
+                let (from, to, length) = (row(chance), row(chance), chance.of(&[12, 24, size]));
+                sections.copy_within(from..from + length, to);
+            }
+        }
+        2 => {
+            let place = chance.within(0, tables as u64 - 1) as usize;
+            sections[place] = chance.of(b" A_a0\0\x01\xff");
+        }
+        _ => {
+            let numbers = (sections.len() - tables) as u64 / 8;
+            let place = tables + 8 * chance.within(0, numbers - 1) as usize;
+            let old = i64::from_le_bytes(sections[place..place + 8].try_into().unwrap());
+            let near = old.saturating_add(chance.of(&[1, -1, 50_000_000, 50_000_001, 100_000_000, -100_000_001]));
+            let new = if chance.within(0, 1) == 0 { near } else { chance.of(&EDGES_64) };
+            sections[place..place + 8].copy_from_slice(&new.to_le_bytes());
+        }
+    }
+    Case::read(&sections, counts).expect("the counts stay")
+}

@@ -1,0 +1,31 @@
+//! 01 "The sheet": the printed form.
+
+use crate::charges::{Sheet, Side};
+use crate::file::without_padding;
+
+/// 01 "The sheet": the lines `C`, `G`, `D`, `L`, `R`, each ended by a line feed, fields parted by one space.
+pub fn print(sheet: &Sheet) -> Vec<u8> {
+    let mut text = format!("C {}\n", sheet.c.0);
+    zone_lines(&mut text, 'G', &sheet.generation);
+    zone_lines(&mut text, 'D', &sheet.demand);
+    for line in &sheet.local {
+        let name = String::from_utf8_lossy(without_padding(&line.name));
+        text += &format!("L {} {} {}\n", name, line.metres.0, line.tariff.0);
+    }
+    text += &format!("R {} {}\n", sheet.generation.remainder, sheet.demand.remainder);
+    text.into_bytes()
+}
+
+/// 01 "The sheet": one line a zone in rising order; "A zone with no kilowatts prints its letter, number and `-`".
+fn zone_lines(text: &mut String, letter: char, side: &Side) {
+    for (place, zone) in side.zones.iter().enumerate() {
+        let number = place + 1;
+        *text += &match zone {
+            None => format!("{letter} {number} -\n"),
+            Some(line) => format!(
+                "{letter} {number} {} {} {} {} {}\n",
+                line.metres.0, line.after_c.0, line.tariff.0, line.residual.0, line.total.0
+            ),
+        };
+    }
+}

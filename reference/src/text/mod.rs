@@ -1,0 +1,63 @@
+//! A study case as plain text: written by hand, compared line by line, turned into the file of 01 and back.
+//!
+//! One line a setting (name and number), a node, a circuit, a station, a solution row. `#` begins a comment.
+//!
+//! ```text
+//! generation_zones 1            # and the other settings, in any order
+//! node NODA 1 1 0               # name, generation zone, demand zone, demand kW
+//! circuit NODA NODB 400 100 10000 0 0   # ends, voltage, x, overhead m, cable m, local mark
+//! station GEN_1 NODA 7 200000   # identifier, node, plant type, TEC kW
+//! base 11000000000000           # potentials of the nodes, then flows of the circuits; `wider`, `local` alike
+//! ```
+//!
+//! Numbers may be parted by `_` and end in an exponent (`45e9`). A name that isn't well-formed stands in quotes with
+//! `\xNN` for odd bytes, and spaces to twelve are added. Further words make files that aren't whole:
+//! `zero N`, `version N`, `length N`, `offset SECTION N`, `count SECTION N`, `as_is` (solutions of any number of
+//! rows), `cut N` (that many last bytes away), `tail HEX` (bytes behind the trailer), or `bytes HEX` lines alone.
+
+mod read;
+mod show;
+mod words;
+
+pub use read::{make, parse, Damage, Described};
+pub use show::{show, solution_lines};
+
+use crate::file::Settings;
+use std::fmt;
+
+/// A fault in a text, with its line counted from 1.
+#[derive(Clone, Debug, PartialEq, Eq)]
+pub struct TextError {
+    pub line: usize,
+    pub message: String,
+}
+
+impl fmt::Display for TextError {
+    fn fmt(&self, to: &mut fmt::Formatter) -> fmt::Result {
+        write!(to, "line {}: {}", self.line, self.message)
+    }
+}
+
+/// The place of a setting of 32 bits.
+type SettingPlace = fn(&mut Settings) -> &mut u32;
+
+/// 01 "The case file", settings: the names of those of 32 bits, in the file's order. `zero` stands only where it isn't 0.
+const SETTINGS: [(&str, SettingPlace); 14] = [
+    ("generation_zones", |settings| &mut settings.generation_zones),
+    ("demand_zones", |settings| &mut settings.demand_zones),
+    ("p", |settings| &mut settings.p),
+    ("constant", |settings| &mut settings.constant),
+    ("wider_factor", |settings| &mut settings.wider_factor),
+    ("local_factor", |settings| &mut settings.local_factor),
+    ("overhead_400", |settings| &mut settings.factors[0]),
+    ("cable_400", |settings| &mut settings.factors[1]),
+    ("overhead_275", |settings| &mut settings.factors[2]),
+    ("cable_275", |settings| &mut settings.factors[3]),
+    ("overhead_132", |settings| &mut settings.factors[4]),
+    ("cable_132", |settings| &mut settings.factors[5]),
+    ("reference", |settings| &mut settings.reference),
+    ("zero", |settings| &mut settings.zero),
+];
+
+/// 01 "The case file": the words of the three solutions' lines, in the file's order.
+const SOLUTIONS: [&str; 3] = ["base", "wider", "local"];

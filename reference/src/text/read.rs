@@ -1,0 +1,237 @@
+//! From a text to a case and to the bytes of its file.
+
+use super::words::{fitting, from_hex, name, split, Word};
+use super::{TextError, SETTINGS, SOLUTIONS};
+use crate::file::{Case, CircuitRow, NodeRow, StationRow, SECTIONS};
+
+/// What a text says beside the case itself, to make files that aren't whole.
+#[derive(Clone, Debug, Default, PartialEq, Eq)]
+pub struct Damage {
+    /// Solutions may have any number of rows.
+    pub as_is: bool,
+    pub version: Option<u32>,
+    pub length: Option<u32>,
+    pub offsets: [Option<u32>; 7],
+    pub counts: [Option<u32>; 7],
+    /// Last bytes to leave out.
+    pub cut: usize,
+    /// Bytes behind the trailer.
+    pub tail: Vec<u8>,
+    /// The whole file as bytes; then nothing else is said.
+    pub bytes: Option<Vec<u8>>,
+}
+
+/// A text's meaning.
+#[derive(Clone, Debug, Default, PartialEq, Eq)]
+pub struct Described {
+    pub case: Case,
+    pub damage: Damage,
+}
+
+/// The bytes of the file that a text describes, or every fault with its line.
+pub fn make(text: &[u8]) -> Result<Vec<u8>, Vec<TextError>> {
+    let described = parse(text)?;
+    let last = text.split(|byte| *byte == b'\n').count();
+    let faults = solutions_that_do_not_fit(&described);
+    if faults.is_empty() {
+        return Ok(described.bytes());
+    }
+    Err(faults.into_iter().map(|message| TextError { line: last, message }).collect())
+}
+
+/// Solutions whose rows aren't nodes plus circuits, unless the text says `as_is`.
+fn solutions_that_do_not_fit(described: &Described) -> Vec<String> {
+    let case = &described.case;
+    let rows = case.nodes.len() + case.circuits.len();
+    let free = described.damage.as_is || described.damage.bytes.is_some();
+    let unfit = SOLUTIONS.iter().zip(&case.runs).filter(|(_, run)| !free && run.len() != rows);
+    unfit.map(|(word, run)| format!("{word} has {} rows, nodes and circuits are {rows}", run.len())).collect()
+}
+
+/// A text's meaning, its solutions of any number of rows, or every fault with its line.
+pub fn parse(text: &[u8]) -> Result<Described, Vec<TextError>> {
+    let mut reader = Reader::default();
+    let mut faults = Vec::new();
+    let mut last = 0;
+    for (place, line) in text.split(|byte| *byte == b'\n').enumerate() {
+        last = place + 1;
+        let read =
+            std::str::from_utf8(line).map_err(|_| "not plain text".to_string()).and_then(|line| reader.line(line));
+        faults.extend(read.err().map(|message| TextError { line: last, message }));
+    }
+    if faults.is_empty() {
+        faults.extend(reader.left_out().map(|message| TextError { line: last, message }));
+    }
+    if faults.is_empty() {
+        Ok(reader.described)
+    } else {
+        Err(faults)
+    }
+}
+
+/// A text being read.
+#[derive(Default)]
+struct Reader {
+    described: Described,
+    /// Words that may stand once, and stood.
+    said: Vec<String>,
+    /// Some line other than `bytes` was read.
+    parts: bool,
+}
+
+impl Reader {
+    /// Takes one line in.
+    fn line(&mut self, line: &str) -> Result<(), String> {
+        let words = split(line)?;
+        let Some((first, fields)) = words.split_first() else { return Ok(()) };
+        let Word::Bare(kind) = first else { return Err("a line begins with a quote".to_string()) };
+        self.parts |= kind != "bytes";
+        match kind.as_str() {
+            "node" => self.node(fields),
+            "circuit" => self.circuit(fields),
+            "station" => self.station(fields),
+            "revenue" => self.revenue(fields),
+            _ => self.other(kind, fields),
+        }
+    }
+
+    /// 01 "The case file", node: name, generation zone, demand zone, demand.
+    fn node(&mut self, fields: &[Word]) -> Result<(), String> {
+        let [first, generation_zone, demand_zone, demand] =
+            exactly(fields, "name, generation zone, demand zone, demand")?;
+        self.described.case.nodes.push(NodeRow {
+            name: name(first)?,
+            generation_zone: fitting(generation_zone)?,
+            demand_zone: fitting(demand_zone)?,
+            demand: fitting(demand)?,
+        });
+        Ok(())
+    }
+
+    /// 01 "The case file", circuit: both ends, voltage, x, lengths, mark.
+    fn circuit(&mut self, fields: &[Word]) -> Result<(), String> {
+        let [first, second, voltage, x, overhead, cable, mark] =
+            exactly(fields, "first node, second node, voltage, x, overhead, cable, mark")?;
+        self.described.case.circuits.push(CircuitRow {
+            first: name(first)?,
+            second: name(second)?,
+            voltage: fitting(voltage)?,
+            x: fitting(x)?,
+            overhead: fitting(overhead)?,
+            cable: fitting(cable)?,
+            mark: fitting(mark)?,
+        });
+        Ok(())
+    }
+
+    /// 01 "The case file", station: identifier, node, plant type, TEC.
+    fn station(&mut self, fields: &[Word]) -> Result<(), String> {
+        let [identifier, node, plant, tec] = exactly(fields, "identifier, node, plant type, TEC")?;
+        self.described.case.stations.push(StationRow {
+            identifier: name(identifier)?,
+            node: name(node)?,
+            plant: fitting(plant)?,
+            tec: fitting(tec)?,
+        });
+        Ok(())
+    }
+
+    /// 01 "The case file", settings: the revenue, of 64 bits.
+    fn revenue(&mut self, fields: &[Word]) -> Result<(), String> {
+        let [number] = exactly(fields, "one number")?;
+        self.described.case.settings.revenue = fitting(number)?;
+        self.once("revenue".to_string())
+    }
+
+    /// A setting of 32 bits, a solution row, or a word of damage.
+    fn other(&mut self, kind: &str, fields: &[Word]) -> Result<(), String> {
+        if let Some((_, place)) = SETTINGS.iter().find(|(word, _)| *word == kind) {
+            let [number] = exactly(fields, "one number")?;
+            *place(&mut self.described.case.settings) = fitting(number)?;
+            return self.once(kind.to_string());
+        }
+        if let Some(solution) = SOLUTIONS.iter().position(|word| *word == kind) {
+            let [number] = exactly(fields, "one number")?;
+            self.described.case.runs[solution].push(fitting(number)?);
+            return Ok(());
+        }
+        self.damage(kind, fields)
+    }
+
+    /// A word of damage.
+    fn damage(&mut self, kind: &str, fields: &[Word]) -> Result<(), String> {
+        let damage = &mut self.described.damage;
+        match (kind, fields) {
+            ("as_is", []) => damage.as_is = true,
+            ("version", [number]) => damage.version = Some(fitting(number)?),
+            ("length", [number]) => damage.length = Some(fitting(number)?),
+            ("offset", [section, number]) => damage.offsets[section_place(section)?] = Some(fitting(number)?),
+            ("count", [section, number]) => damage.counts[section_place(section)?] = Some(fitting(number)?),
+            ("cut", [number]) => damage.cut = fitting(number)?,
+            ("tail", [Word::Bare(digits)]) => damage.tail.extend(from_hex(digits)?),
+            ("bytes", []) => damage.bytes = Some(damage.bytes.take().unwrap_or_default()),
+            ("bytes", [Word::Bare(digits)]) => damage.bytes.get_or_insert_with(Vec::new).extend(from_hex(digits)?),
+            ("as_is" | "version" | "length" | "offset" | "count" | "cut" | "tail" | "bytes", _) => {
+                return Err(format!("wrong fields for {kind}"));
+            }
+            _ => return Err(format!("unknown word {kind}")),
+        }
+        match (kind, fields) {
+            ("tail" | "bytes", _) => Ok(()),
+            ("offset" | "count", [Word::Bare(section), _]) => self.once(format!("{kind} {section}")),
+            _ => self.once(kind.to_string()),
+        }
+    }
+
+    /// A word that may stand only once.
+    fn once(&mut self, word: String) -> Result<(), String> {
+        if self.said.contains(&word) {
+            return Err(format!("{word} a second time"));
+        }
+        self.said.push(word);
+        Ok(())
+    }
+
+    /// What a text must still say at its end.
+    fn left_out(&self) -> Option<String> {
+        if self.described.damage.bytes.is_some() {
+            return self.parts.then(|| "bytes stand alone: no other lines beside them".to_string());
+        }
+        let needed = SETTINGS.iter().map(|(word, _)| *word).filter(|word| *word != "zero").chain(["revenue"]);
+        let missing: Vec<&str> = needed.filter(|word| !self.said.iter().any(|said| said == word)).collect();
+        (!missing.is_empty()).then(|| format!("settings left out: {}", missing.join(", ")))
+    }
+}
+
+/// The fields of a line, when they are as many as its kind has.
+fn exactly<'a, const N: usize>(fields: &'a [Word], wanted: &str) -> Result<&'a [Word; N], String> {
+    fields.try_into().map_err(|_| format!("{} fields where {N} are wanted: {wanted}", fields.len()))
+}
+
+/// A section's place by its name.
+fn section_place(word: &Word) -> Result<usize, String> {
+    let place = SECTIONS.iter().position(|(section, _)| *word == Word::Bare(section.to_string()));
+    place.ok_or_else(|| "a section is settings, nodes, circuits, stations, base, wider or local".to_string())
+}
+
+impl Described {
+    /// The file described, damage done.
+    pub fn bytes(&self) -> Vec<u8> {
+        let damage = &self.damage;
+        if let Some(bytes) = &damage.bytes {
+            return bytes.clone();
+        }
+        let mut trailer = self.case.trailer();
+        for place in 0..7 {
+            trailer.offsets[place] = damage.offsets[place].unwrap_or(trailer.offsets[place]);
+            trailer.counts[place] = damage.counts[place].unwrap_or(trailer.counts[place]);
+        }
+        trailer.version = damage.version.unwrap_or(trailer.version);
+        trailer.length = damage.length.unwrap_or(trailer.length);
+        let mut bytes = self.case.section_bytes();
+        bytes.extend(trailer.bytes());
+        bytes.truncate(bytes.len().saturating_sub(damage.cut));
+        bytes.extend(&damage.tail);
+        bytes
+    }
+}
