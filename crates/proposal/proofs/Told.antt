@@ -25,12 +25,13 @@ use Rattle.meaning.specs.Direction.{overheadFactor, cableFactor, expandedLength
 use Rattle.meaning.specs.Systems.{runOf, net, supply, lengthOf, offset, proposed, solutionStage, directionClear, directionStage, proposalsStage}
 use Rattle.meaning.specs.Conditions.{InRange, SoundSettings}
 use Rattle.meaning.proofs.Rows.{rows-at, length-rows}
+use Rattle.columns.proofs.PlaceLaws.{lowest-same}
 use Rattle.proposal.specs.declared.solution.Case.{Case}
 use Rattle.proposal.specs.Columns.{Filled}
 use Rattle.proposal.specs.Offsets.{offsetIn, offsetAt, clearBy}
 use Rattle.proposal.specs.Supplies.{kilowatts, kwAt, supplyAt}
 use Rattle.proposal.specs.Case.{netIn, offeredIn, solutionIn, doubtIn, proposalsIn}
-use Rattle.proposal.proofs.Same.{system-alike, lowest-same}
+use Rattle.proposal.proofs.Same.{system-alike}
 
 -- a column made row by row
 pub filled-rows : {A : Type 0} (nothing : A) (size count : ℕ) (f : ℕ → A) (column : List A) → count ≤ size → column ≡ rows size f → Filled nothing size f count column
