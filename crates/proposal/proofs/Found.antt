@@ -1,10 +1,13 @@
 -- The row that a loop finds, or the count where it finds none.
-use mathlib.Core.Path.{_≡_, refl, sym, ap}
+use mathlib.Core.Path.{_≡_, refl, sym, _∙_, ap}
 use mathlib.Core.Logic.{_⊎_, inl, inr}
 use mathlib.Core.Bool.{Bool, true, false, not}
 use mathlib.Core.Option.{Option, none, some}
 use Prim.Native.Nat.{ℕ, _+_, _≤_, _<_}
+use native.Mathlib.Numerals.{add-one}
 use native.Mathlib.Omega.{arith}
+use Rattle.meaning.specs.declared.Answer.{Answer}
+use Rattle.meaning.specs.Answers.{passed, at}
 use Rattle.meaning.specs.Rows.{failing}
 use Rattle.meaning.proofs.Rows.{Lowest, nothing, first, lowest-is, lowest-stops, lowest-none, below-suc}
 use Rattle.proposal.specs.Columns.{rowOf}
@@ -52,3 +55,14 @@ row-past test n = go (failing test n) (lowest-is (λ j. not (test j)) n)
     go : (o : Option ℕ) → Lowest (λ j. not (test j)) n o → n ≤ rowOf o n → (o ≡ none) × AllPass test n
     go o (nothing g) h = (refl, record { each = λ j k. not-false (test j) (g j k) })
     go o (first i k t g) h = absurd (omega arith)
+
+-- a stage that looks for the lowest row: what it answers
+pub row-stops : (test : ℕ → Bool) (n row : ℕ) (answer : ℕ → Answer) → row ≡ rowOf (failing test n) n → row < n → answer (row + 1) ≡ at (failing test n) answer
+unfolding at
+row-stops test n row answer e h =
+    let f : failing test n ≡ some row = row-is test n (omega arith) ∙ ap some (sym e) in
+    rw (add-one, f) refl
+
+pub row-passes : (test : ℕ → Bool) (n row : ℕ) (answer : ℕ → Answer) → row ≡ rowOf (failing test n) n → n ≤ row → passed ≡ at (failing test n) answer
+unfolding at
+row-passes test n row answer e h = rw (row-past test n (omega arith) .0) refl

@@ -1,39 +1,19 @@
 -- 10: the miss of one circuit, and the sum of their magnitudes as far as it is added.
-use mathlib.Core.Path.{_≡_, refl, sym, ap}
+use mathlib.Core.Path.{_≡_, sym, ap}
 use mathlib.Core.Bool.{true, false}
 use mathlib.Core.List.{List}
-use Prim.Native.Nat.{ℕ, zero, suc, _+_, _≤_, _<_}
-use native.Mathlib.Numerals.{add-one}
-use native.Mathlib.Decide.{decLe}
+use Prim.Native.Nat.{ℕ, _+_, _≤_, _<_}
 use native.Mathlib.Omega.{arith}
 use lib.Dec.{leb}
 use lib.IntN.{ℤ, natAbs}
 use lib.ListN.{getD}
 use borrow.Author.Tests.{lt-leb, le-leb}
 use Rattle.integers.specs.Numbers.{sum}
+use Rattle.integers.proofs.Sum.{sum-part}
 use Rattle.meaning.specs.Network.{Network}
 use Rattle.meaning.specs.Proposal.{potential, miss, missSum}
 use Rattle.proposal.specs.Columns.{number, netOf, missBy, missSumBy, Ended, Measured, Ranged, SmallMiss}
 use Rattle.proposal.proofs.Sizes.{miss-small}
-
--- ---- sums
-pub sum-zero : (f : ℕ → ℕ) → sum 0 f ≡ 0
-unfolding sum
-sum-zero f = refl
-
-pub sum-more : (n : ℕ) (f : ℕ → ℕ) → sum (n + 1) f ≡ sum n f + f n
-unfolding sum
-sum-more n f = rw add-one
-
--- a part of a sum is at most the sum
-pub sum-part : (f : ℕ → ℕ) (k m : ℕ) → k ≤ m → sum k f ≤ sum m f
-unfolding sum
-sum-part f k zero h = let e : k ≡ 0 = omega arith in rw e (omega arith)
-sum-part f k (suc m) h = go (decLe k m) (sum-part f k m)
-  where
-    go : Dec (k ≤ m) → (k ≤ m → sum k f ≤ sum m f) → sum k f ≤ sum m f + f m
-    go (yes l) r = omega (arith, r l)
-    go (no l) r = let e : k ≡ suc m = omega arith in rw e (omega arith)
 
 -- ---- circuit c of the columns
 module _ (n m : ℕ) (first second x : List ℕ) (offset run : List ℤ) (e : Ended n m first second) (w : Measured m x offset) (r : Ranged n m run) where
@@ -57,7 +37,7 @@ module _ (N : Network) (offset run : List ℤ) where
 
   pub too-high : (c total : ℕ) → c ≤ N .circuits → total ≡ sum c sizeAt → 100000000 < total → false ≡ leb (missSumBy N offset run) 100000000
   unfolding missSum
-  too-high c total h e l = sym (lt-leb (sum (N .circuits) sizeAt) 100000000 (omega (arith, sum-part sizeAt c (N .circuits) h)))
+  too-high c total h e l = sym (lt-leb (sum (N .circuits) sizeAt) 100000000 (omega (arith, sum-part c (N .circuits) sizeAt h)))
 
   pub all-low : (c total : ℕ) → c ≡ N .circuits → total ≡ sum c sizeAt → total ≤ 100000000 → true ≡ leb (missSumBy N offset run) 100000000
   unfolding missSum

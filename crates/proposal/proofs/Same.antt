@@ -1,35 +1,18 @@
 -- Two networks and proposals that agree on their rows are judged alike.
-use mathlib.Core.Path.{_≡_, refl, _∙_, ap, ap₂}
-use mathlib.Core.Bool.{Bool, not, cond}
-use mathlib.Core.Option.{none, some}
-use Prim.Native.Nat.{ℕ, zero, suc, _+_, _<_}
-use native.Mathlib.Omega.{arith}
+use mathlib.Core.Path.{_≡_, _∙_, ap, ap₂}
+use mathlib.Core.Bool.{not, cond}
+use Prim.Native.Nat.{ℕ, _+_, _<_}
 use lib.Dec.{eqb, leb}
-use lib.IntN.{ℤ, pos, natAbs, _+ℤ_, _-ℤ_}
+use lib.IntN.{ℤ, pos, natAbs, _-ℤ_}
 use lib.ListN.{getD}
 use Rattle.integers.specs.Numbers.{sum, Σ}
+use Rattle.integers.proofs.Sum.{sum-same, Σ-same}
 use Rattle.meaning.specs.declared.Answer.the-variants.{Unbalanced, MissesTooHigh}
 use Rattle.meaning.specs.Answers.{_orElse_, at, unless}
-use Rattle.meaning.specs.Rows.{lowest, failing, firstOf}
+use Rattle.meaning.specs.Rows.{failing}
 use Rattle.meaning.specs.Network.{Network}
 use Rattle.meaning.specs.Proposal.{Proposed, potential, flow, same, numberInRange, balanced, flowOut, flowIn, miss, missSum, rangeStage, balanceStage, missStage, systemStage}
-
--- ---- rows and sums that agree below the count
-lowest-same : (f g : ℕ → Bool) (n : ℕ) → ((i : ℕ) → i < n → f i ≡ g i) → lowest f n ≡ lowest g n
-unfolding lowest
-lowest-same f g zero h = refl
-lowest-same f g (suc n) h =
-    ap₂ (λ o b. firstOf o (cond b (some n) none)) (lowest-same f g n (λ i k. h i (omega arith))) (h n (omega arith))
-
-sum-same : (f g : ℕ → ℕ) (n : ℕ) → ((i : ℕ) → i < n → f i ≡ g i) → sum n f ≡ sum n g
-unfolding sum
-sum-same f g zero h = refl
-sum-same f g (suc n) h = ap₂ _+_ (sum-same f g n (λ i k. h i (omega arith))) (h n (omega arith))
-
-Σ-same : (f g : ℕ → ℤ) (n : ℕ) → ((i : ℕ) → i < n → f i ≡ g i) → Σ n f ≡ Σ n g
-unfolding Σ
-Σ-same f g zero h = refl
-Σ-same f g (suc n) h = ap₂ _+ℤ_ (Σ-same f g n (λ i k. h i (omega arith))) (h n (omega arith))
+use Rattle.columns.proofs.PlaceLaws.{lowest-same}
 
 -- ---- two proposals that say the same of each node and circuit
 pub record Alike (N M : Network) (P Q : Proposed) : Type 0 where
@@ -56,7 +39,7 @@ module _ (N M : Network) (P Q : Proposed) (s : Alike N M P Q) where
   side-same : (f g : ℕ → ℤ) → f ≡ g → (end end′ : ℕ → ℕ) → ((c : ℕ) → c < N .circuits → end c ≡ end′ c) → (v : ℕ)
       → Σ (N .circuits) (λ c. cond (eqb (end c) v) (f c) (pos 0)) ≡ Σ (M .circuits) (λ c. cond (eqb (end′ c) v) (g c) (pos 0))
   side-same f g e end end′ h v =
-      Σ-same (λ c. cond (eqb (end c) v) (f c) (pos 0)) (λ c. cond (eqb (end′ c) v) (g c) (pos 0)) (N .circuits)
+      Σ-same (N .circuits) (λ c. cond (eqb (end c) v) (f c) (pos 0)) (λ c. cond (eqb (end′ c) v) (g c) (pos 0))
       (λ c k. ap₂ (λ a z. cond (eqb a v) z (pos 0)) (h c k) (ap (λ w. w c) e))
       ∙ ap (λ m. Σ m (λ c. cond (eqb (end′ c) v) (g c) (pos 0))) (s .circuits)
 
@@ -82,7 +65,7 @@ module _ (N M : Network) (P Q : Proposed) (s : Alike N M P Q) where
   unfolding missStage missSum
   misses-same =
       ap₂ (λ total system. unless (leb total 100000000) (MissesTooHigh system))
-      (sum-same (λ c. natAbs (miss N (P .offset) (potential (P .run)) (flow N (P .run)) c)) (λ c. natAbs (miss M (Q .offset) (potential (Q .run)) (flow M (Q .run)) c)) (N .circuits) (λ c h. ap natAbs (missed c h))
+      (sum-same (N .circuits) (λ c. natAbs (miss N (P .offset) (potential (P .run)) (flow N (P .run)) c)) (λ c. natAbs (miss M (Q .offset) (potential (Q .run)) (flow M (Q .run)) c)) (λ c h. ap natAbs (missed c h))
       ∙ ap (λ m. sum m (λ c. natAbs (miss M (Q .offset) (potential (Q .run)) (flow M (Q .run)) c))) (s .circuits))
       (s .system)
 

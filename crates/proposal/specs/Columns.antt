@@ -26,6 +26,11 @@ netOf n m reference first second x =
       x = λ c. getD x c 0;
     }
 
+-- a column of that size whose first numbers, up to a count, are f 0, f 1, ..
+pub record Filled {A : Type 0} (nothing : A) (size : ℕ) (f : ℕ → A) (count : ℕ) (column : List A) : Type 0 where
+  pub long : length column ≡ size
+  pub at : (i : ℕ) → i < count → getD column i nothing ≡ f i
+
 -- what is proposed for a system, supply and offset in columns
 abbrev pub proposedIn : System → (limit : ℕ) (supply offset run : List ℤ) → Proposed
 proposedIn system limit supply offset run =

@@ -4,7 +4,8 @@ use native.Mathlib.Omega.{arith}
 use Rattle.integers.specs.Numbers.{sum}
 use Rattle.meaning.specs.Network.{Network}
 use Rattle.proposal.specs.Columns.{netOf}
-use Rattle.proposal.proofs.MissSum.{sum-zero, sum-more, sizeAt, miss-low, too-high, all-low}
+use Rattle.integers.proofs.Sum.{sum-zero, sum-more}
+use Rattle.proposal.proofs.MissSum.{sizeAt, miss-low, too-high, all-low}
 use Rattle.proposal.proofs.misses.misses_low.Statement.{statement}
 use Rattle.proposal.proofs.misses.misses_low.Tie as tie
 

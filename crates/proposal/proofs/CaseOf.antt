@@ -1,0 +1,91 @@
+-- The case of a study's columns: what its tables say, if they are sound.
+use mathlib.Core.Path.{_≡_, refl, _∙_, ap}
+use mathlib.Core.List.{List}
+use Prim.Native.Nat.{ℕ, _-_, _≤_}
+use native.Mathlib.Omega.{arith}
+use lib.ListN.{length}
+use Rattle.integers.specs.Numbers.{sum}
+use Rattle.integers.proofs.Sum.{sum-same}
+use Rattle.meaning.specs.declared.Kw.{Kw}
+use Rattle.meaning.specs.Rows as R
+use Rattle.meaning.specs.Study.{Settings, Circuit, Study}
+use Rattle.meaning.specs.Grid.{gridOf, nodeTec, nodeDemand, totalTec, totalDemand}
+use Rattle.meaning.specs.Direction.{expandedLength}
+use Rattle.meaning.specs.Conditions.{SoundSettings, SoundTables}
+use Rattle.meaning.proofs.Says.{says-le, _also_}
+use Rattle.columns.specs.declared.RowCounts.{RowCounts}
+use Rattle.columns.specs.declared.StudySettings.{StudySettings}
+use Rattle.columns.specs.declared.NodeColumns.{NodeColumns}
+use Rattle.columns.specs.declared.CircuitColumns.{CircuitColumns}
+use Rattle.columns.specs.Lengths.{lengthInRange, lengthIfInRange}
+use Rattle.columns.specs.Columns.{countsOf, settingsIn, nodesOf, circuitsOf}
+use Rattle.proposal.specs.Columns.{Filled}
+use Rattle.proposal.specs.Supplies.{kilowatts, kwAt}
+use Rattle.proposal.specs.Case.{caseOf, Countable}
+use Rattle.proposal.proofs.Filled.{filled-as}
+use Rattle.proposal.proofs.Told.{Told, kw-at, filled-rows, overhead-in, cable-in}
+
+-- a sound row's length is in range
+long-is : (s : Settings) (nodes : ℕ) → SoundSettings nodes s → (c : Circuit) → c .overhead ≤ 500000 → c .cable ≤ 500000 → lengthIfInRange s c ≡ expandedLength s c
+unfolding lengthIfInRange lengthInRange
+long-is s nodes sound c o k =
+    rw ((says-le also says-le also says-le also says-le) .1 (((o, k), overhead-in s nodes sound (c .voltage) .most), cable-in s nodes sound (c .voltage) .most)) refl
+
+module _ (S : Study) (sound : SoundTables S) (few : length (S .nodes) ≤ 256) (fewer : length (S .circuits) ≤ 512)
+    (rows : RowCounts) (settings : StudySettings) (nodes : NodeColumns) (ends : CircuitColumns) (scaling : List Kw)
+    (er : rows ≡ countsOf S) (es : settingsIn settings ≡ S .settings) (en : nodes ≡ nodesOf S) (ee : ends ≡ circuitsOf S)
+    (et : scaling ≡ R.rows 256 (λ v. kilowatts (nodeTec (gridOf S) v))) where
+  node-count : rows .nodes ≡ length (S .nodes)
+  unfolding countsOf
+  node-count = ap (λ (r : RowCounts). r .nodes) er
+
+  circuit-count : rows .circuits ≡ length (S .circuits)
+  unfolding countsOf
+  circuit-count = ap (λ (r : RowCounts). r .circuits) er
+
+  reference-row : settings .reference ≡ S .settings .reference
+  unfolding settingsIn
+  reference-row = ap (λ (s : Settings). s .reference) es
+
+  tec-filled : Filled (kilowatts 0) 256 (λ v. kilowatts (nodeTec (gridOf S) v)) (rows .nodes) scaling
+  tec-filled = filled-rows (kilowatts 0) 256 _ _ scaling (omega (arith, node-count)) et
+
+  demand-filled : Filled (kilowatts 0) 256 (λ v. kilowatts (nodeDemand (gridOf S) v)) (rows .nodes) (nodes .demand)
+  unfolding nodesOf gridOf
+  demand-filled = filled-rows (kilowatts 0) 256 _ _ (nodes .demand) (omega (arith, node-count)) (ap (λ (n : NodeColumns). n .demand) en)
+
+  total-tec : sum (rows .nodes) (kwAt scaling) ≡ totalTec (gridOf S)
+  unfolding gridOf
+  total-tec = sum-same (rows .nodes) (kwAt scaling) (nodeTec (gridOf S)) (λ v h. kw-at (tec-filled .at v h)) ∙ ap (λ (n : ℕ). sum n (nodeTec (gridOf S))) node-count
+
+  total-demand : sum (rows .nodes) (kwAt (nodes .demand)) ≡ totalDemand (gridOf S)
+  unfolding gridOf
+  total-demand =
+      sum-same (rows .nodes) (kwAt (nodes .demand)) (nodeDemand (gridOf S)) (λ v h. kw-at (demand-filled .at v h)) ∙ ap (λ (n : ℕ). sum n (nodeDemand (gridOf S))) node-count
+
+  pub countable : Countable rows settings nodes scaling
+  countable = record {
+    few = omega (arith, node-count);
+    reference = omega (arith, reference-row, sound .settings .reference .least);
+    tecSmall = omega (arith, total-tec, sound .tecTotal .most);
+    demandSmall = omega (arith, total-demand, sound .demandTotal .most);
+  }
+
+  pub case-told : Told (gridOf S) (caseOf rows settings nodes ends scaling)
+  unfolding caseOf circuitsOf gridOf
+  case-told =
+      let m : rows .circuits ≤ 512 = omega (arith, circuit-count) in
+      record {
+        nodes = node-count;
+        circuits = circuit-count;
+        reference = ap (λ (r : ℕ). r - 1) reference-row;
+        first = filled-rows 0 512 _ _ (ends .first) m (ap (λ (e : CircuitColumns). e .first) ee);
+        second = filled-rows 0 512 _ _ (ends .second) m (ap (λ (e : CircuitColumns). e .second) ee);
+        x = filled-rows 0 512 _ _ (ends .x) m (ap (λ (e : CircuitColumns). e .x) ee);
+        lengths = filled-as (λ c h. let r = sound .circuits c (omega (arith, circuit-count)) in long-is (S .settings) _ (sound .settings) _ (r .overhead) (r .cable)) (filled-rows 0 512 _ _ (ends .length) m (ap (λ (e : CircuitColumns). e .length) ee));
+        marks = filled-rows 0 512 _ _ (ends .mark) m (ap (λ (e : CircuitColumns). e .mark) ee);
+        tec = tec-filled;
+        demand = demand-filled;
+        allTec = total-tec;
+        allDemand = total-demand;
+      }

@@ -1,0 +1,79 @@
+-- From a file that was opened to the answer of 1 to 11: where the tables stop the case, and where the proposals decide.
+use mathlib.Core.Path.{_≡_, sym, _∙_, ap}
+use mathlib.Core.Bool.{Bool, true, false}
+use mathlib.Core.List.{List}
+use Prim.Native.Nat.{ℕ, _+_, _≤_}
+use native.Mathlib.Omega.{arith}
+use lib.IntN.{ℤ}
+use lib.ListN.{length}
+use Rattle.meaning.specs.declared.Answer.{Answer}
+use Rattle.meaning.specs.Answers.{stops}
+use Rattle.meaning.specs.Study.{Study, Runs}
+use Rattle.meaning.specs.File.{studyOf}
+use Rattle.meaning.specs.Grid.{gridOf}
+use Rattle.meaning.specs.Systems.{proposalsStage}
+use Rattle.meaning.specs.Outcome.{judged}
+use Rattle.columns.specs.declared.TecColumns.{TecColumns}
+use Rattle.columns.specs.Tec.{tecOf}
+use Rattle.tables.specs.declared.Opened.{Opened}
+use Rattle.tables.specs.Opens.{Opens}
+use Rattle.tables.proofs.Sound.{SoundOpened, opened-sound}
+use Rattle.proposal.specs.declared.solution.Case.{Case}
+use Rattle.proposal.specs.Case.{caseOf, proposalsIn, Countable, Judgeable}
+use Rattle.proposal.specs.Judges.{Judges}
+use Rattle.proposal.proofs.Told.{Told, proposals-told}
+use Rattle.proposal.proofs.Sound.{judgeable}
+use Rattle.proposal.proofs.CaseOf.{countable, case-told}
+use Rattle.proposal.proofs.Chain.{chain-stops, chain-passes}
+
+-- the case of a file that was opened
+abbrev pub caseIn : Opened → Case
+caseIn o = caseOf (o .counts) (o .settings) (o .nodes) (o .circuits) (o .tec .scaling)
+
+module _ (file : List ℕ) (runs : Runs) (o : Opened) (t : Opens file (length (runs .base)) (length (runs .wider)) (length (runs .local)) o) (told : Bool) (e : told ≡ stops (o .answer)) where
+  -- the columns stay as they are
+  with-answer : (r : Answer) → r ≡ judged file runs
+      → Judges file runs (record { answer = r; counts = o .counts; settings = o .settings; nodes = o .nodes; circuits = o .circuits; tec = o .tec })
+  with-answer r a = record { answer = a; counts = t .counts; settings = t .settings; nodes = t .nodes; circuits = t .circuits; tec = t .tec }
+
+  pub tables-stop : told ≡ true → Judges file runs o
+  unfolding judged
+  tables-stop h = with-answer (o .answer) (chain-stops _ (proposalsStage (gridOf (studyOf file)) runs) (o .answer) told (t .answer) e h)
+
+  module _ (h : told ≡ false) where
+    abbrev S : Study
+    S = studyOf file
+
+    s : SoundOpened file (length (runs .base)) (length (runs .wider)) (length (runs .local)) o
+    s = opened-sound t (sym e ∙ h)
+
+    few : length (S .nodes) ≤ 256
+    few = omega (arith, s .nodeCount, s .nodesFew .most)
+
+    fewer : length (S .circuits) ≤ 512
+    fewer = omega (arith, s .circuitCount, s .circuitsFew)
+
+    pub passed-countable : Countable (o .counts) (o .settings) (o .nodes) (o .tec .scaling)
+    unfolding tecOf
+    passed-countable =
+        countable S (s .tables) few fewer (o .counts) (o .settings) (o .nodes) (o .circuits) (o .tec .scaling) (s .counts) (s .settings) (s .nodes) (s .circuits)
+        (ap (λ (c : TecColumns). c .scaling) (s .tec))
+
+    told-case : Told (gridOf S) (caseIn o)
+    unfolding tecOf
+    told-case =
+        case-told S (s .tables) few fewer (o .counts) (o .settings) (o .nodes) (o .circuits) (o .tec .scaling) (s .counts) (s .settings) (s .nodes) (s .circuits)
+        (ap (λ (c : TecColumns). c .scaling) (s .tec))
+
+    can-judge : (run : List ℤ) → length run ≡ o .counts .nodes + o .counts .circuits → Judgeable (caseIn o) (runs .base) run
+    can-judge run l =
+        judgeable S (caseIn o) told-case (s .tables) few fewer runs run (omega (arith, s .baseRun, s .nodeCount, s .circuitCount)) (omega (arith, s .nodeCount, s .circuitCount))
+
+    pub passed-judgeable : Judgeable (caseIn o) (runs .base) (runs .base) × Judgeable (caseIn o) (runs .base) (runs .wider) × Judgeable (caseIn o) (runs .base) (runs .local)
+    passed-judgeable = (can-judge _ (s .baseRun), can-judge _ (s .widerRun), can-judge _ (s .localRun))
+
+    pub proposals-decide : (r : Answer) → r ≡ proposalsIn (caseIn o) (runs .base) (runs .wider) (runs .local)
+        → Judges file runs (record { answer = r; counts = o .counts; settings = o .settings; nodes = o .nodes; circuits = o .circuits; tec = o .tec })
+    unfolding judged gridOf
+    proposals-decide r f =
+        with-answer r (chain-passes _ (proposalsStage (gridOf S) runs) (o .answer) told (t .answer) e r h (f ∙ proposals-told (gridOf S) (caseIn o) told-case runs (s .tables .settings)))

@@ -1,0 +1,164 @@
+-- Columns that are a grid's: with them supply, offset and direction are those of the definitions.
+use mathlib.Core.Path.{_≡_, refl, sym, _∙_, ap, ap₂}
+use mathlib.Core.Bool.{Bool, true, false, not, cond}
+use mathlib.Core.List.{List}
+use Prim.Native.Nat.{ℕ, _+_, _*_, _-_, _/_, _%_, _≤_, _<_}
+use native.Mathlib.Nat.{mul-le-mul-left, zero-mul}
+use native.Mathlib.Decide.{decLe}
+use native.Mathlib.Omega.{arith}
+use lib.Dec.{eqb, leb}
+use lib.IntN.{pos, _-ℤ_, _*ℤ_}
+use lib.ListN.{length, getD}
+use borrow.Author.Tests.{le-leb}
+use Rattle.integers.proofs.Sum.{sum-same}
+use Rattle.meaning.specs.declared.Kw.{Kw}
+use Rattle.meaning.specs.declared.System.{System}
+use Rattle.meaning.specs.declared.System.the-variants.{Base, Wider, Local}
+use Rattle.meaning.specs.declared.Answer.the-variants.{DirectionInDoubt}
+use Rattle.meaning.specs.Answers.{at, _orElse_}
+use Rattle.meaning.specs.Rows.{rows, failing}
+use Rattle.meaning.specs.Study.{Settings, Circuit, Runs, circuit}
+use Rattle.meaning.specs.Grid.{Grid, place, nodeTec, nodeDemand, totalTec, totalDemand}
+use Rattle.meaning.specs.Network.{networkOf}
+use Rattle.meaning.specs.Scaled.{wholeShare, leftOver, missing, scaled}
+use Rattle.meaning.specs.Direction.{overheadFactor, cableFactor, expandedLength, hasLength, signedLength}
+use Rattle.meaning.specs.Systems.{runOf, net, supply, lengthOf, offset, proposed, solutionStage, directionClear, directionStage, proposalsStage}
+use Rattle.meaning.specs.Conditions.{InRange, SoundSettings}
+use Rattle.meaning.proofs.Rows.{rows-at, length-rows}
+use Rattle.columns.proofs.PlaceLaws.{lowest-same}
+use Rattle.proposal.specs.declared.solution.Case.{Case}
+use Rattle.proposal.specs.Columns.{Filled}
+use Rattle.proposal.specs.Offsets.{offsetIn, offsetAt, clearBy}
+use Rattle.proposal.specs.Supplies.{kilowatts, kwAt, supplyAt}
+use Rattle.proposal.specs.Case.{netIn, offeredIn, solutionIn, doubtIn, proposalsIn}
+use Rattle.proposal.proofs.Same.{system-alike}
+
+-- a column made row by row
+pub filled-rows : {A : Type 0} (nothing : A) (size count : ℕ) (f : ℕ → A) (column : List A) → count ≤ size → column ≡ rows size f → Filled nothing size f count column
+filled-rows nothing size count f column h e = record {
+  long = ap (λ (l : List _). length l) e ∙ length-rows size f;
+  at = λ i k. ap (λ (l : List _). getD l i nothing) e ∙ rows-at nothing size f i (omega arith);
+}
+
+-- the columns of a grid
+pub record Told (G : Grid) (k : Case) : Type 0 where
+  pub nodes : k .nodes ≡ length (G .nodes)
+  pub circuits : k .circuits ≡ length (G .circuits)
+  pub reference : k .reference ≡ G .settings .reference - 1
+  pub first : Filled 0 512 (λ c. place (G .nodes) (circuit (G .circuits) c .first)) (k .circuits) (k .first)
+  pub second : Filled 0 512 (λ c. place (G .nodes) (circuit (G .circuits) c .second)) (k .circuits) (k .second)
+  pub x : Filled 0 512 (λ c. circuit (G .circuits) c .x) (k .circuits) (k .x)
+  pub lengths : Filled 0 512 (λ c. expandedLength (G .settings) (circuit (G .circuits) c)) (k .circuits) (k .length)
+  pub marks : Filled 0 512 (λ c. circuit (G .circuits) c .localMark) (k .circuits) (k .mark)
+  pub tec : Filled (kilowatts 0) 256 (λ v. kilowatts (nodeTec G v)) (k .nodes) (k .tec)
+  pub demand : Filled (kilowatts 0) 256 (λ v. kilowatts (nodeDemand G v)) (k .nodes) (k .demand)
+  pub allTec : k .«total_tec» .0 ≡ totalTec G
+  pub allDemand : k .«total_demand» .0 ≡ totalDemand G
+
+-- ---- step 1 sees the TEC of the n nodes alone
+module _ (n : ℕ) (f g : ℕ → ℕ) (demand : ℕ) (e : (v : ℕ) → v < n → f v ≡ g v) where
+  share-same : (v : ℕ) → v < n → wholeShare n f demand v ≡ wholeShare n g demand v
+  unfolding wholeShare
+  share-same v h = ap₂ (λ (a t : ℕ). a * demand / t) (e v h) (sum-same n f g e)
+
+  over-same : (v : ℕ) → v < n → leftOver n f demand v ≡ leftOver n g demand v
+  unfolding leftOver
+  over-same v h = ap₂ (λ (a t : ℕ). cond (eqb (a * demand % t) 0) 0 1) (e v h) (sum-same n f g e)
+
+  missing-same : missing n f demand ≡ missing n g demand
+  unfolding missing
+  missing-same = ap (λ (a : ℕ). demand - a) (sum-same n (wholeShare n f demand) (wholeShare n g demand) share-same)
+
+  pub scaled-same : (v : ℕ) → v < n → scaled n f demand v ≡ scaled n g demand v
+  unfolding scaled
+  scaled-same v h = rw (share-same v h, over-same v h, missing-same, sum-same v (leftOver n f demand) (leftOver n g demand) (λ i l. over-same i (omega arith))) refl
+
+-- ---- 11: with factors of at least 1 a circuit has an expanded length exactly when it has a length
+long-both : (o k f g : ℕ) → 1 ≤ f → 1 ≤ g → leb 1 (o * f + k * g) ≡ leb 1 (o + k)
+long-both o k f g h l = go (decLe 1 (o + k))
+  where
+    go : Dec (1 ≤ o + k) → leb 1 (o * f + k * g) ≡ leb 1 (o + k)
+    go (yes y) = le-leb 1 (o * f + k * g) (omega (arith, mul-le-mul-left o h, mul-le-mul-left k l)) ∙ sym (le-leb 1 (o + k) y)
+    go (no n) =
+        let a : o ≡ 0 = omega arith in
+        let b : k ≡ 0 = omega arith in
+        rw (a, b, zero-mul f, zero-mul g) refl
+
+module _ (s : Settings) (nodes : ℕ) (sound : SoundSettings nodes s) where
+  pub overhead-in : (voltage : ℕ) → InRange (overheadFactor s voltage) 1000 30000
+  unfolding overheadFactor
+  overhead-in voltage = go (eqb voltage 400) (eqb voltage 275)
+    where
+      go : (a b : Bool) → InRange (cond a (s .overhead400) (cond b (s .overhead275) (s .overhead132))) 1000 30000
+      go true b = record { least = omega (arith, sound .overhead400); most = omega (arith, sound .overhead400) }
+      go false true = sound .overhead275
+      go false false = sound .overhead132
+
+  pub cable-in : (voltage : ℕ) → InRange (cableFactor s voltage) 1000 30000
+  unfolding cableFactor
+  cable-in voltage = go (eqb voltage 400) (eqb voltage 275)
+    where
+      go : (a b : Bool) → InRange (cond a (s .cable400) (cond b (s .cable275) (s .cable132))) 1000 30000
+      go true b = sound .cable400
+      go false true = sound .cable275
+      go false false = sound .cable132
+
+  pub has-length : (c : Circuit) → leb 1 (expandedLength s c) ≡ hasLength c
+  unfolding expandedLength hasLength
+  has-length c = long-both (c .overhead) (c .cable) _ _ (omega (arith, overhead-in (c .voltage) .least)) (omega (arith, cable-in (c .voltage) .least))
+
+pub kw-at : {a : Kw} {n : ℕ} → a ≡ kilowatts n → a .0 ≡ n
+kw-at e = ap (λ (a : Kw). a .0) e
+
+-- ---- what the columns say is the grid's
+module _ (G : Grid) (k : Case) (t : Told G k) (runs : Runs) where
+  pub supply-told : (system : System) (v : ℕ) → v < k .nodes → supplyAt system (k .nodes) (k .tec) (k .demand) (k .«total_demand») v ≡ supply G system v
+  unfolding supplyAt supply net
+  supply-told Base v h =
+      ap₂ (λ (a d : ℕ). pos 1000000 *ℤ (pos a -ℤ pos d))
+      (scaled-same (k .nodes) (kwAt (k .tec)) (nodeTec G) (k .«total_demand» .0) (λ i l. kw-at (t .tec .at i l)) v h
+      ∙ ap₂ (λ (n d : ℕ). scaled n (nodeTec G) d v) (t .nodes) (t .allDemand))
+      (kw-at (t .demand .at v h))
+  supply-told Wider v h = refl
+  supply-told Local v h = refl
+
+  pub offset-told : (system : System) (c : ℕ) → c < k .circuits → offsetAt system (k .nodes) (k .length) (k .mark) (runs .base) c ≡ offset G runs system c
+  unfolding offsetIn offset lengthOf signedLength networkOf
+  offset-told Base c h = refl
+  offset-told Wider c h = rw (t .marks .at c h, t .lengths .at c h, t .nodes) refl
+  offset-told Local c h = rw (t .marks .at c h, t .lengths .at c h, t .nodes) refl
+
+  pub net-alike : (system : System) → solutionIn system k (runs .base) (runOf runs system) ≡ solutionStage G runs system
+  unfolding networkOf proposed
+  net-alike system = system-alike (netIn k) (networkOf G) (offeredIn system k (runs .base) (runOf runs system)) (proposed G runs system) (record {
+    nodes = t .nodes;
+    circuits = t .circuits;
+    reference = t .reference;
+    system = refl;
+    limit = refl;
+    run = refl;
+    first = t .first .at;
+    second = t .second .at;
+    x = t .x .at;
+    offset = offset-told system;
+    supply = supply-told system;
+  })
+
+  -- 11
+  clear-same : SoundSettings (length (G .nodes)) (G .settings) → (c : ℕ) → c < k .circuits → clearBy (k .nodes) (k .length) (runs .base) c ≡ directionClear G runs c
+  unfolding directionClear clearBy networkOf
+  clear-same sound c h = rw (t .lengths .at c h, has-length (G .settings) _ sound (circuit (G .circuits) c), t .nodes) refl
+
+  pub doubt-told : SoundSettings (length (G .nodes)) (G .settings)
+      → doubtIn k (runs .base) ≡ directionStage G runs
+  unfolding directionStage
+  doubt-told sound =
+      ap (λ o. at o DirectionInDoubt)
+      (lowest-same (λ c. not (clearBy (k .nodes) (k .length) (runs .base) c)) (λ c. not (directionClear G runs c)) (k .circuits) (λ c h. ap not (clear-same sound c h))
+      ∙ ap (failing (directionClear G runs)) (t .circuits))
+
+  -- the whole chain
+  pub proposals-told : SoundSettings (length (G .nodes)) (G .settings)
+      → proposalsIn k (runs .base) (runs .wider) (runs .local) ≡ proposalsStage G runs
+  unfolding proposalsStage runOf
+  proposals-told sound = ap₂ _orElse_ (net-alike Base) (ap₂ _orElse_ (doubt-told sound) (ap₂ _orElse_ (net-alike Wider) (net-alike Local)))

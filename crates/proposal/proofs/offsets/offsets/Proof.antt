@@ -1,0 +1,94 @@
+use mathlib.Core.Path.{_≡_, refl, _∙_}
+use Prim.Native.Nat.{_+_, _-_, _≤_}
+use native.Mathlib.Omega.{arith}
+use lib.IntN.{ℤ, pos}
+use Rattle.integers.proofs.Machine.{Back, back}
+use Rattle.proposal.specs.Columns.{number, Filled}
+use Rattle.proposal.specs.Offsets.{offsetAt}
+use Rattle.proposal.proofs.Filled.{filled-none, filled-more}
+use Rattle.proposal.proofs.offsets.offsets.Statement.{statement}
+use Rattle.proposal.proofs.offsets.offsets.Tie as tie
+
+abbrev Inv-loop : tie.InvT-loop
+Inv-loop system n m lengths marks base offset₀ c₀ offset c = (c ≤ m) × Filled (pos 0) 512 (offsetAt system n lengths marks base) c offset
+
+abbrev μ-loop : tie.MeasureT-loop
+μ-loop system n m lengths marks base offset₀ c₀ offset c = m - c
+
+loop-holds : tie.Need-loop-holds Inv-loop μ-loop
+loop-holds c = (omega arith, filled-none refl)
+
+mul-long : tie.Need-mul-long Inv-loop μ-loop
+mul-long c = omega arith
+
+shared-slice-read-long : tie.Need-shared-slice-read-long Inv-loop μ-loop
+shared-slice-read-long c = omega arith
+
+mul-mark : tie.Need-mul-mark Inv-loop μ-loop
+mul-mark c = omega arith
+
+shared-slice-read-mark : tie.Need-shared-slice-read-mark Inv-loop μ-loop
+shared-slice-read-mark c = omega arith
+
+add-flow : tie.Need-add-flow Inv-loop μ-loop
+add-flow c = omega arith
+
+mul-flow : tie.Need-mul-flow Inv-loop μ-loop
+mul-flow c = omega arith
+
+shared-slice-copy-out-flow : tie.Need-shared-slice-copy-out-flow Inv-loop μ-loop
+shared-slice-copy-out-flow c = omega arith
+
+module _ (c : tie.After-flow Inv-loop μ-loop) where
+  abbrev flow : ℤ
+  flow = let s = c .before .before .before .before .before .before .before in number (s .args .base .now) (s .args .n + c .before .before .before .before .loop .c)
+
+  bf : Back flow
+  bf = back _ (c .flow .given)
+
+offset-of-requires : tie.Need-offset-of-requires Inv-loop μ-loop
+offset-of-requires c κs = let s = c .before .before .before .before .before .before .before in s .pre .1 .lengthSmall _ (omega arith)
+
+mul-offset : tie.Need-mul-offset Inv-loop μ-loop
+mul-offset c = omega arith
+
+array-set-from-offset : tie.Need-array-set-from-offset Inv-loop μ-loop
+array-set-from-offset c = omega arith
+
+add-c : tie.Need-add-c Inv-loop μ-loop
+add-c c = omega arith
+
+loop-less : tie.Need-loop-less Inv-loop μ-loop
+loop-less c = omega arith
+
+loop-again : tie.Need-loop-again Inv-loop μ-loop
+loop-again c =
+    let l = c .before .before .before .before .before in
+    (omega arith, filled-more (l .loop .inv .1) (omega arith) (back _ (c .offset-of .ok) ∙ simp (bf (c .before)) at (c .offset-of .ensures)))
+
+returns : tie.Need-returns Inv-loop μ-loop
+returns c =
+    let e : c .before .loop .c ≡ c .before .before .before .before .args .m = omega arith in
+    rw e at (c .before .loop .inv .1)
+
+pub offsets-spec : {M : Type 1} → statement M
+offsets-spec =
+    tie.close
+    (tie.spec
+    Inv-loop
+    μ-loop
+    loop-holds
+    mul-long
+    shared-slice-read-long
+    mul-mark
+    shared-slice-read-mark
+    add-flow
+    mul-flow
+    shared-slice-copy-out-flow
+    offset-of-requires
+    mul-offset
+    array-set-from-offset
+    add-c
+    loop-less
+    loop-again
+    returns)

@@ -1,0 +1,63 @@
+use mathlib.Core.List.{List}
+use Prim.Native.Nat.{ℕ}
+use Rattle.meaning.specs.Study.{Runs}
+use Rattle.tables.specs.declared.Opened.{Opened}
+use Rattle.proposal.specs.Judges.{runsOf}
+use Rattle.proposal.proofs.Opening.{tables-stop, passed-countable, passed-judgeable, proposals-decide}
+use borrow.Author.Needs.{needs}
+use Rattle.proposal.proofs.open.Statement.{statement}
+use Rattle.proposal.proofs.open.Tie as tie
+
+-- the file, the runs, and what the tables' judge gave of them
+module _ (c : tie.After-is-refusal) where
+  abbrev s : tie.Start
+  s = c .before .before .before
+
+  abbrev bytes : List ℕ
+  bytes = s .args .file .now
+
+  abbrev runs : Runs
+  runs = runsOf (s .args .base .now) (s .args .wider .now) (s .args .local .now)
+
+  abbrev read : Opened
+  read = c .before .«open» .result
+
+open-requires : tie.Need-open-requires
+open-requires c κs = search needs
+
+is-refusal-requires : tie.Need-is-refusal-requires
+is-refusal-requires c κs = search needs
+
+returns : tie.Need-returns
+returns c =
+    let a = c .before in
+    tables-stop (bytes a) (runs a) (read a) (a .before .«open» .ensures) _ (a .is-refusal .ensures) (c .if1 .taken)
+
+case-of-requires : tie.Need-case-of-requires
+case-of-requires c κs =
+    let d = c .before .before .before .before .before .before in
+    let a = d .before in
+    passed-countable (bytes a) (runs a) (read a) (a .before .«open» .ensures) _ (a .is-refusal .ensures) (d .if1 .left)
+
+proposals-requires : tie.Need-proposals-requires
+proposals-requires c κs =
+    let d = c .before .before .before .before .before .before .before in
+    let a = d .before in
+    rw (c .case-of .ensures) (passed-judgeable (bytes a) (runs a) (read a) (a .before .«open» .ensures) _ (a .is-refusal .ensures) (d .if1 .left))
+
+returns-2 : tie.Need-returns-2
+returns-2 c =
+    let d = c .before .before .before .before .before .before .before .before in
+    let a = d .before in
+    proposals-decide (bytes a) (runs a) (read a) (a .before .«open» .ensures) _ (a .is-refusal .ensures) (d .if1 .left) _ (rw (c .before .case-of .ensures) at (c .proposals .ensures))
+
+pub open-spec : {M : Type 1} → statement M
+open-spec =
+    tie.close
+    (tie.spec
+    open-requires
+    is-refusal-requires
+    returns
+    case-of-requires
+    proposals-requires
+    returns-2)

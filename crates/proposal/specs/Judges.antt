@@ -1,0 +1,23 @@
+-- What opening a case with its three runs gives: the first refusal among 1 to 11, and the columns as `tables` states them.
+use mathlib.Core.Path.{_≡_}
+use mathlib.Core.List.{List}
+use Prim.Native.Nat.{ℕ}
+use lib.IntN.{ℤ}
+use Rattle.meaning.specs.Study.{Runs}
+use Rattle.meaning.specs.Outcome.{judged}
+use Rattle.columns.specs.Readable.{readable}
+use Rattle.columns.specs.Columns.{countsOf, settingsIn, nodesOf, circuitsOf}
+use Rattle.columns.specs.Tec.{tecOf}
+use Rattle.tables.specs.declared.Opened.{Opened}
+
+-- the three runs as one record
+abbrev pub runsOf : (base wider local : List ℤ) → Runs
+runsOf base wider local = record { base = base; wider = wider; local = local }
+
+pub record Judges (file : List ℕ) (runs : Runs) (o : Opened) : Type 0 where
+  pub answer : o .answer ≡ judged file runs
+  pub counts : o .counts ≡ countsOf (readable file)
+  pub settings : settingsIn (o .settings) ≡ readable file .settings
+  pub nodes : o .nodes ≡ nodesOf (readable file)
+  pub circuits : o .circuits ≡ circuitsOf (readable file)
+  pub tec : o .tec ≡ tecOf (readable file)
