@@ -39,7 +39,10 @@ fn answers_are_those_told() {
 #[test]
 fn every_answer_occurs() {
     let mut counts = BTreeMap::new();
-    for case in cases() {
+    let cases = cases();
+    // As README.md says.
+    assert_eq!(cases.len(), 1_760);
+    for case in cases {
         *counts.entry(number(&case)).or_insert(0) += 1;
     }
     assert_eq!(counts.keys().copied().collect::<Vec<u32>>(), (0..=11).collect::<Vec<u32>>());
