@@ -69,11 +69,13 @@ module _ (file : List ℕ) (runs : Runs) (o : Opened) (t : Opens file (length (r
     can-judge run l =
         judgeable S (caseIn o) told-case (s .tables) few fewer runs run (omega (arith, s .baseRun, s .nodeCount, s .circuitCount)) (omega (arith, s .nodeCount, s .circuitCount))
 
-    pub passed-judgeable : Judgeable (caseIn o) (runs .base) (runs .base) × Judgeable (caseIn o) (runs .base) (runs .wider) × Judgeable (caseIn o) (runs .base) (runs .local)
-    passed-judgeable = (can-judge _ (s .baseRun), can-judge _ (s .widerRun), can-judge _ (s .localRun))
+    pub passed-judgeable : (k : Case) → k ≡ caseIn o → Judgeable k (runs .base) (runs .base) × Judgeable k (runs .base) (runs .wider) × Judgeable k (runs .base) (runs .local)
+    passed-judgeable k q = rw q (can-judge _ (s .baseRun), can-judge _ (s .widerRun), can-judge _ (s .localRun))
 
-    pub proposals-decide : (r : Answer) → r ≡ proposalsIn (caseIn o) (runs .base) (runs .wider) (runs .local)
+    pub proposals-decide : (k : Case) → k ≡ caseIn o → (r : Answer) → r ≡ proposalsIn k (runs .base) (runs .wider) (runs .local)
         → Judges file runs (record { answer = r; counts = o .counts; settings = o .settings; nodes = o .nodes; circuits = o .circuits; tec = o .tec })
     unfolding judged gridOf
-    proposals-decide r f =
-        with-answer r (chain-passes _ (proposalsStage (gridOf S) runs) (o .answer) told (t .answer) e r h (f ∙ proposals-told (gridOf S) (caseIn o) told-case runs (s .tables .settings)))
+    proposals-decide k q r f =
+        with-answer r
+        (chain-passes _ (proposalsStage (gridOf S) runs) (o .answer) told (t .answer) e r h
+        (f ∙ ap (λ (c : Case). proposalsIn c (runs .base) (runs .wider) (runs .local)) q ∙ proposals-told (gridOf S) (caseIn o) told-case runs (s .tables .settings)))

@@ -23,10 +23,10 @@ module _ (c : tie.After-is-refusal) where
   read = c .before .«open» .result
 
 open-requires : tie.Need-open-requires
-open-requires c κs = search needs
+open-requires c κs = tt
 
 is-refusal-requires : tie.Need-is-refusal-requires
-is-refusal-requires c κs = search needs
+is-refusal-requires c κs = tt
 
 returns : tie.Need-returns
 returns c =
@@ -43,13 +43,13 @@ proposals-requires : tie.Need-proposals-requires
 proposals-requires c κs =
     let d = c .before .before .before .before .before .before .before in
     let a = d .before in
-    rw (c .case-of .ensures) (passed-judgeable (bytes a) (runs a) (read a) (a .before .«open» .ensures) _ (a .is-refusal .ensures) (d .if1 .left))
+    passed-judgeable (bytes a) (runs a) (read a) (a .before .«open» .ensures) _ (a .is-refusal .ensures) (d .if1 .left) _ (c .case-of .ensures)
 
 returns-2 : tie.Need-returns-2
 returns-2 c =
     let d = c .before .before .before .before .before .before .before .before in
     let a = d .before in
-    proposals-decide (bytes a) (runs a) (read a) (a .before .«open» .ensures) _ (a .is-refusal .ensures) (d .if1 .left) _ (rw (c .before .case-of .ensures) at (c .proposals .ensures))
+    proposals-decide (bytes a) (runs a) (read a) (a .before .«open» .ensures) _ (a .is-refusal .ensures) (d .if1 .left) _ (c .before .case-of .ensures) _ (c .proposals .ensures)
 
 pub open-spec : {M : Type 1} → statement M
 open-spec =
