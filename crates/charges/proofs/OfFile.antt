@@ -1,5 +1,5 @@
 -- The columns of a file that nothing stops are those of its grid: all that the figures ask of a case.
-use mathlib.Core.Path.{_≡_, _∙_, ap}
+use mathlib.Core.Path.{_≡_, ap}
 use mathlib.Core.List.{List}
 use Prim.Native.Nat.{ℕ, _≤_, _<_}
 use native.Mathlib.Omega.{arith}
@@ -26,7 +26,9 @@ use Rattle.columns.specs.Readable.{readable}
 use Rattle.columns.specs.Columns.{countsOf, settingsIn, nodesOf}
 use Rattle.columns.specs.Tec.{tecOf}
 use Rattle.columns.proofs.Rows.{readable-whole}
+use Rattle.tables.specs.declared.Opened.{Opened}
 use Rattle.tables.proofs.Sound.{passes-whole}
+use Rattle.proposal.specs.Judges.{Judges}
 use Rattle.charges.specs.Columns.{kilowatts, numberAt, kwAt}
 use Rattle.charges.specs.Inputs.{generationIn, demandIn, moneyIn}
 use Rattle.charges.specs.Case.{SideOf, MoneyOf, CaseOf}
@@ -85,13 +87,14 @@ module _ (file : List ℕ) (runs : Runs) (p : Passes (judged file runs)) where
   few-nodes : length (studyOf file .nodes) ≤ 256
   few-nodes = omega (arith, starts.counts file runs (accepted .whole) .0, accepted .whole .nodes .most)
 
-  module _ (c : RowCounts) (ec : c ≡ countsOf (readable file)) where
-    node-count : c .nodes ≡ length (studyOf file .nodes)
+  -- opened by the judge
+  module _ (o : Opened) (j : Judges file runs o) where
+    node-count : o .counts .nodes ≡ length (studyOf file .nodes)
     unfolding countsOf
-    node-count = ap (λ (x : RowCounts). x .nodes) (rw read at ec)
+    node-count = ap (λ (c : RowCounts). c .nodes) (rw read at (j .counts))
 
     -- a potential for each node
-    pub runs-reach : (c .nodes ≤ length (runs .wider)) × (c .nodes ≤ length (runs .local))
+    pub runs-reach : (o .counts .nodes ≤ length (runs .wider)) × (o .counts .nodes ≤ length (runs .local))
     runs-reach =
         let w = accepted .whole in
         let e = starts.counts file runs w .0 in
@@ -99,15 +102,14 @@ module _ (file : List ℕ) (runs : Runs) (p : Passes (judged file runs)) where
         let local = w .solutions 6 (record { least = omega arith; most = omega arith }) in
         (omega (arith, node-count, e, wider, w .widerRun), omega (arith, node-count, e, local, w .localRun))
 
-    pub case-of-file : (s : StudySettings) (n : NodeColumns) (t : TecColumns) → settingsIn s ≡ readable file .settings → n ≡ nodesOf (readable file) → t ≡ tecOf (readable file)
-        → CaseOf (gridOf (studyOf file)) runs (generationIn s n t) (demandIn s n) (c .nodes) (moneyIn s)
-    case-of-file s n t es en et =
-        let hs = rw read at es in
-        let hn = rw read at en in
-        let ht = rw read at et in
+    pub case-of-file : CaseOf (gridOf (studyOf file)) runs (generationIn (o .settings) (o .nodes) (o .tec)) (demandIn (o .settings) (o .nodes)) (o .counts .nodes) (moneyIn (o .settings))
+    case-of-file =
         let S = studyOf file in
-        case-of S (accepted .tables) runs (generationIn s n t) (demandIn s n) (c .nodes) (moneyIn s) (solved-in-range S runs (accepted .solved)) node-count
+        let es = rw read at (j .settings) in
+        let en = rw read at (j .nodes) in
+        let et = rw read at (j .tec) in
+        case-of S (accepted .tables) runs _ _ (o .counts .nodes) _ (solved-in-range S runs (accepted .solved)) node-count
         (omega (arith, node-count, few-nodes))
-        (generation-of S few-nodes s n t hs hn ht)
-        (demand-of S few-nodes s n t hs hn ht)
-        (money-of S few-nodes s n t hs hn ht)
+        (generation-of S few-nodes (o .settings) (o .nodes) (o .tec) es en et)
+        (demand-of S few-nodes (o .settings) (o .nodes) (o .tec) es en et)
+        (money-of S few-nodes (o .settings) (o .nodes) (o .tec) es en et)
