@@ -1,0 +1,3 @@
+// The text of a sheet, written into a lent buffer.
+mod put;
+pub mod figures;
