@@ -36,7 +36,7 @@ same-digits (suc j) (suc k) n hj hk =
     ⊎-elim
     (λ h. simp (lt-ltb n 10 h))
     (λ h.
-      rw (le-ltb n 10 h) (ap (λ (l : List ℕ). l ++ ((48 + n % 10) ∷ [])) (same-digits j k (n / 10) (omega arith) (omega arith))))
+    rw (le-ltb n 10 h) (ap (λ (l : List ℕ). l ++ ((48 + n % 10) ∷ [])) (same-digits j k (n / 10) (omega arith) (omega arith))))
     (lt-or-le n 10)
 
 pub natural-one : (n : ℕ) → n < 10 → natural n ≡ (48 + n) ∷ []

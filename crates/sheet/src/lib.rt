@@ -1,3 +1,4 @@
 // The text of a sheet, written into a lent buffer.
-mod put;
 pub mod figures;
+mod name;
+mod put;

@@ -1,4 +1,6 @@
 // Writings at a place, for this crate alone: each requires room and answers the place after it. And their lengths.
+use meaning::Metres;
+use meaning::MicroPerKw;
 ghost use mathlib.Core.Path.{_≡_};
 ghost use mathlib.Core.List.{_++_};
 ghost use Prim.Native.Nat.{_+_, _≤_};
@@ -73,4 +75,38 @@ pub fn number_len(z: i64) -> usize
 {
     let n = natural_len(magnitude(z));
     if z < 0 { n + 1 } else { n }
+}
+
+// A space, then a count.
+pub fn put_count(out: &mut [u8], at: usize, n: usize) -> usize
+    requires { ⌜ Room (now out) at (text " " ++ natural n) ⌝ }
+    ensures { λ r. ⌜ Put (now (out .entry)) at (text " " ++ natural n) (now (out .exit)) r ⌝ }
+{
+    let p = put_bytes(out, at, b" ");
+    put_natural(out, p, n as u64)
+}
+
+// A space, then a number.
+pub fn put_field(out: &mut [u8], at: usize, z: i64) -> usize
+    requires { ⌜ Room (now out) at (text " " ++ decimal z) ⌝ }
+    ensures { λ r. ⌜ Put (now (out .entry)) at (text " " ++ decimal z) (now (out .exit)) r ⌝ }
+{
+    let p = put_bytes(out, at, b" ");
+    put_number(out, p, z)
+}
+
+// A space, then metres.
+pub fn put_metres(out: &mut [u8], at: usize, m: Metres) -> usize
+    requires { ⌜ Room (now out) at (text " " ++ decimal (m .0)) ⌝ }
+    ensures { λ r. ⌜ Put (now (out .entry)) at (text " " ++ decimal (m .0)) (now (out .exit)) r ⌝ }
+{
+    put_field(out, at, m.0)
+}
+
+// A space, then micro-pounds per kilowatt.
+pub fn put_price(out: &mut [u8], at: usize, t: MicroPerKw) -> usize
+    requires { ⌜ Room (now out) at (text " " ++ decimal (t .0)) ⌝ }
+    ensures { λ r. ⌜ Put (now (out .entry)) at (text " " ++ decimal (t .0)) (now (out .exit)) r ⌝ }
+{
+    put_field(out, at, t.0)
 }

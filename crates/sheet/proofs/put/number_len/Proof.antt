@@ -1,30 +1,50 @@
+-- `sheet::put::number_len` meets its contract: the length of the digits of the magnitude, and of a minus sign below zero.
 use borrow.Author.Needs.{needs}
+use mathlib.Core.Path.{_≡_, ap}
+use native.Mathlib.Omega.{arith}
+use Prim.Native.Nat.{ℕ, _+_}
+use lib.ListN.{length}
+use Rattle.integers.proofs.Machine.{Back, fit-back, lt-true, lt-false}
+use Rattle.meaning.specs.Text.{natural, decimal}
+use Rattle.sheet.proofs.Digits.{decimal-below, decimal-above, decimal-i64}
 use Rattle.sheet.proofs.put.number_len.Statement.{statement}
 use Rattle.sheet.proofs.put.number_len.Tie as tie
-use Rattle.sheet.proofs.put.number_len.Reads as reads
-use Rattle.sheet.proofs.put.number_len.Lts as lts
-use Rattle.sheet.proofs.put.magnitude.Reads as magnitude-reads
-use Rattle.sheet.proofs.put.natural_len.Reads as natural-len-reads
 
--- src/put.rt:74:25
+bz : (s : tie.Start) → Back (s .args .z)
+bz s = fit-back (s .fits .z)
+
 magnitude-requires : tie.Need-magnitude-requires
 magnitude-requires c κs = search needs
 
--- src/put.rt:74:9
 natural-len-requires : tie.Need-natural-len-requires
 natural-len-requires c κs = search needs
 
--- src/put.rt:75:16
 add-result : tie.Need-add-result
 add-result c = search needs
 
--- src/put.rt:71:1
 returns : tie.Need-returns
-returns c = ?
+returns c =
+    let s = c .before .before .before in
+    let e = decimal-below (s .args .z) (lt-true (simp (bz s) at (c .if1 .taken))) in
+    omega (
+      arith,
+      decimal-i64 (s .args .z) (s .fits .z),
+      ap length e,
+      ap (λ (n : ℕ). length (natural n)) (simp (bz s) at (c .before .before .magnitude .ensures)),
+      c .before .natural-len .ensures .0,
+    )
 
--- src/put.rt:71:1
 returns-2 : tie.Need-returns-2
-returns-2 c = ?
+returns-2 c =
+    let s = c .before .before .before in
+    let e = decimal-above (s .args .z) (lt-false (simp (bz s) at (c .if1 .left))) in
+    omega (
+      arith,
+      decimal-i64 (s .args .z) (s .fits .z),
+      ap length e,
+      ap (λ (n : ℕ). length (natural n)) (simp (bz s) at (c .before .before .magnitude .ensures)),
+      c .before .natural-len .ensures .0,
+    )
 
 pub number-len-spec : {M : Type 1} → statement M
 number-len-spec =
