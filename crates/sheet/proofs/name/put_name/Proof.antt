@@ -36,8 +36,8 @@ returns : tie.Need-returns
 returns c =
     let q = c .before .before in
     let p = q .before .before .before .before .before in
-    let n = p .before .before .before .before in
-    let a = n .before .before .args in
+    let n = p .before .before .before in
+    let a = n .before .before .before .args in
     let e = name-part (a .file .now) (a .from) (n .name-len .result) (n .name-len .ensures .0) (n .name-len .ensures .1) in
     rw e (then (p .put-bytes .ensures) (q .put-bytes2 .ensures))
 
