@@ -1,4 +1,5 @@
 // The text of a sheet, written into a lent buffer.
 pub mod figures;
+mod lines;
 mod name;
 mod put;
