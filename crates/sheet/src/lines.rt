@@ -108,3 +108,36 @@ pub fn put_refused(out: &mut [u8], at: usize, number: usize, system: usize, row:
     let p4 = put_count(out, p3, row);
     put_bytes(out, p4, b"\n")
 }
+
+// The line of a zone.
+pub fn put_zone(
+    out: &mut [u8],
+    at: usize,
+    side: Side,
+    zone: usize,
+    residual: MicroPerKw,
+    z: ZoneFigures,
+) -> usize
+    requires { ⌜ Room (now out) at (zoneText side zone residual z) ⌝ }
+    ensures { λ r. ⌜ Put (now (out .entry)) at (zoneText side zone residual z) (now (out .exit)) r ⌝ }
+{
+    let w = z.weight;
+    if w.0 == 0 {
+        put_empty_zone(out, at, side, zone)
+    } else {
+        put_full_zone(out, at, side, zone, residual, z)
+    }
+}
+
+// The line of a node: none without TEC.
+pub fn put_node(out: &mut [u8], at: usize, file: &[u8], from: usize, l: LocalFigures) -> usize
+    requires { ⌜ (from + 12 ≤ length (now file)) × Room (now out) at (localText (unpadded (nameAt (now file) from)) l) ⌝ }
+    ensures { λ r. ⌜ Put (now (out .entry)) at (localText (unpadded (nameAt (now (file .entry)) from)) l) (now (out .exit)) r ⌝ }
+{
+    let tec = l.tec;
+    if tec.0 == 0 {
+        at
+    } else {
+        put_full_node(out, at, file, from, l)
+    }
+}
