@@ -6,6 +6,8 @@ use native.Mathlib.Numerals.{add-one}
 use native.Mathlib.Omega.{arith}
 use lib.ListN.{length, length-append}
 use Rattle.meaning.specs.Rows.{joined}
+use Rattle.sheet.specs.Writing.{Room, Put}
+use Rattle.sheet.proofs.Writing.{then, kept, put-none}
 
 -- of equal texts
 pub joined-same : (n : ℕ) (f g : ℕ → List ℕ) → ((i : ℕ) → i < n → f i ≡ g i) → joined n f ≡ joined n g
@@ -43,3 +45,16 @@ joined-le k n f h = rw e (go (n - k))
     go (suc d) =
         let s : k + suc d ≡ k + d + 1 = omega arith in
         rw s (omega (arith, go d, joined-more-length (k + d) f))
+
+-- ---- a loop that writes text after text
+pub rows-start : (old : List ℕ) (from : ℕ) (f : ℕ → List ℕ) → Put old from (joined 0 f) old from
+rows-start old from f = rw (joined-none f) (put-none old from)
+
+module _ {old : List ℕ} {from : ℕ} (f : ℕ → List ℕ) (k : ℕ) {out : List ℕ} {at : ℕ} (p : Put old from (joined k f) out at) where
+  -- there is room for the next
+  pub rows-room : (n : ℕ) → k < n → Room old from (joined n f) → Room out at (f k)
+  rows-room n h room = omega (arith, p .next, kept p, joined-more-length k f, joined-le (k + 1) n f (omega arith))
+
+  -- the next is written
+  pub rows-more : {new : List ℕ} {r : ℕ} → Put out at (f k) new r → Put old from (joined (k + 1) f) new r
+  rows-more q = rw (joined-more k f) (then p q)

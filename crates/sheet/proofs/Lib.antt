@@ -3,3 +3,4 @@ pub mod Digits
 pub mod Joined
 pub mod Padding
 pub mod Lined
+pub mod Rows

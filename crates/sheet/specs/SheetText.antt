@@ -1,10 +1,10 @@
 -- 01, The sheet, of figures that are computed: the shape of meaning's `zoneLine`, `localLine` and `sheet`, from the tables of a struct.
 use mathlib.Core.Bool.{cond}
 use mathlib.Core.List.{List, [], _∷_, _++_}
-use Prim.Native.Nat.{ℕ, suc, _+_, _*_}
+use Prim.Native.Nat.{ℕ, suc, _+_, _*_, _≤_}
 use lib.Dec.{eqb}
 use lib.IntN.{ℤ, pos}
-use lib.ListN.{getD}
+use lib.ListN.{length, getD}
 use Rattle.meaning.specs.Rows.{joined}
 use Rattle.meaning.specs.Text.{text, natural, decimal, line}
 use Rattle.meaning.specs.Name.{unpadded}
@@ -82,6 +82,13 @@ sheetText f names =
 -- the case file: nodes follow the 64 bytes of settings, 24 bytes each, and begin with their name
 unfoldable pub nameOf : (file : List ℕ) → ℕ → List ℕ
 nameOf file v = unpadded (nameAt file (64 + 24 * v))
+
+-- figures whose counts stay inside their tables and the file
+pub record Sized (f : Figures) (file : List ℕ) : Type 0 where
+  pub generation : f .generation .zones ≤ 32
+  pub demand : f .demand .zones ≤ 32
+  pub nodes : f .nodes ≤ 256
+  pub inside : 64 + 24 * f .nodes ≤ length file
 
 -- "`refused`, number, system and row"
 unfoldable pub refusedText : (number system row : ℕ) → List ℕ

@@ -3,3 +3,4 @@ pub mod figures;
 mod lines;
 mod name;
 mod put;
+mod sections;
