@@ -7,7 +7,7 @@ use native.Mathlib.Nat.{add-zero, zero-add, add-suc, suc-add}
 use native.Mathlib.Omega.{arith}
 use lib.ListN.{length, getD, set, take, drop, length-append, drop-of-length-le}
 use lib.Seq.{sets, sets-eq, length-sets, drop-cons}
-use Rattle.sheet.specs.Writing.{Room, Put}
+use Rattle.sheet.specs.Writing.{Room, Put, Written}
 
 module _ {ℓ} {A : Type ℓ} where
   -- a run of stores that is cut in two
@@ -40,9 +40,9 @@ kept {old} {at} {t} p = ap length (p .list) ∙ length-sets old at t
 pub split : {old : List ℕ} {at : ℕ} {t new : List ℕ} {r : ℕ} → Room old at t → Put old at t new r → new ≡ take at old ++ t ++ drop (at + length t) old
 split {old} {at} {t} h p = p .list ∙ sets-eq t old at h
 
--- a writing at the start
-pub front : {old t new : List ℕ} {r : ℕ} → length t ≤ length old → Put old 0 t new r → new ≡ t ++ drop (length t) old
-front {old} {t} h p = rw zero-add at (split (rw zero-add h) p)
+-- a writing at the front
+pub written : {old t new : List ℕ} {r : ℕ} → Room old 0 t → Put old 0 t new r → Written t old new r
+written {old} {t} h p = record { buffer = rw zero-add at (split h p); answer = rw zero-add at (p .next) }
 
 -- a text copied byte by byte: what is left of it, at its place, makes the whole
 pub copy-none : (old : List ℕ) (at : ℕ) (text : List ℕ) → sets old (at + 0) (drop 0 text) ≡ sets old at text
@@ -86,3 +86,11 @@ module _ {old : List ℕ} {from : ℕ} {whole out : List ℕ} {at : ℕ} where
   -- nothing is left
   pub going-done : Going old from whole out at [] → Put old from whole out at
   going-done g = record { list = g .list; next = omega (arith, g .ends) }
+
+  -- the last part, which is all that is left
+  pub going-room-end : (t : List ℕ) → Room old from whole → Going old from whole out at t → Room out at t
+  going-room-end t h g = omega (arith, g .ends, g .size)
+
+  pub going-end : {t new : List ℕ} {r : ℕ} → Going old from whole out at t → Put out at t new r → Put old from whole new r
+  going-end {t} {new} {r} g p =
+      record { list = p .list ∙ g .list; next = omega (arith, g .ends, p .next) }

@@ -33,7 +33,7 @@ add-put-node : tie.Need-add-put-node Inv-loop μ-loop
 add-put-node c = search needs
 
 put-node-requires : tie.Need-put-node-requires Inv-loop μ-loop
-put-node-requires c κs = 
+put-node-requires c κs =
     let l = c .before .before .before in
     let s = l .before .before .before in
     let a = s .args in (
@@ -50,7 +50,7 @@ loop-less : tie.Need-loop-less Inv-loop μ-loop
 loop-less c = search needs
 
 loop-again : tie.Need-loop-again Inv-loop μ-loop
-loop-again c = 
+loop-again c =
     let p = c .before .before in
     let l = p .before .before .before .before in
     let a = l .before .before .before .args in
@@ -60,7 +60,7 @@ same-length : tie.Need-same-length Inv-loop μ-loop
 same-length c = kept (c .before .loop .inv .1)
 
 returns : tie.Need-returns Inv-loop μ-loop
-returns c = 
+returns c =
     let l = c .before in
     let a = l .before .before .before .args in
     let e : l .loop .v ≡ a .t4 .nodes = omega arith in

@@ -30,7 +30,7 @@ add-put-zone : tie.Need-add-put-zone Inv-loop μ-loop
 add-put-zone c = search needs
 
 put-zone-requires : tie.Need-put-zone-requires Inv-loop μ-loop
-put-zone-requires c κs = 
+put-zone-requires c κs =
     let l = c .before .before .before .before in
     let s = l .before .before in
     let a = s .args in
@@ -45,7 +45,7 @@ loop-less : tie.Need-loop-less Inv-loop μ-loop
 loop-less c = search needs
 
 loop-again : tie.Need-loop-again Inv-loop μ-loop
-loop-again c = 
+loop-again c =
     let p = c .before .before in
     let l = p .before .before .before .before .before in
     let a = l .before .before .args in
@@ -55,7 +55,7 @@ same-length : tie.Need-same-length Inv-loop μ-loop
 same-length c = kept (c .before .loop .inv .1)
 
 returns : tie.Need-returns Inv-loop μ-loop
-returns c = 
+returns c =
     let l = c .before in
     let a = l .before .before .args in
     let e : l .loop .k ≡ a .t4 .zones = omega arith in
