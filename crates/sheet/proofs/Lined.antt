@@ -15,7 +15,8 @@ use Rattle.meaning.specs.declared.Metres.{Metres}
 use Rattle.meaning.specs.declared.MicroPerKw.{MicroPerKw}
 use Rattle.sheet.specs.declared.figures.ZoneFigures.{ZoneFigures}
 use Rattle.sheet.specs.declared.figures.LocalFigures.{LocalFigures}
-use Rattle.sheet.specs.SheetText.{zoneText, emptyZone, fullZone, localText, fullNode, constantText, remainderText}
+use Rattle.sheet.specs.declared.figures.Figures.{Figures}
+use Rattle.sheet.specs.SheetText.{zoneText, emptyZone, fullZone, zoneTexts, localText, fullNode, localTexts, constantText, remainderText, sheetText}
 
 module _ (side : Side) (zone : ℕ) (residual : MicroPerKw) (z : ZoneFigures) where
   pub zone-empty : z .weight .0 ≡ 0 → zoneText side zone residual z ≡ emptyZone side zone
@@ -66,3 +67,15 @@ constant-length c = simp length-append (omega arith)
 pub remainder-length : (g d : ℤ) → length (remainderText g d) ≡ length (decimal g) + length (decimal d) + 4
 unfolding remainderText line
 remainder-length g d = simp length-append (omega arith)
+
+pub sheet-length : (f : Figures) (names : ℕ → List ℕ)
+    → length (sheetText f names)
+    ≡ length (decimal (f .c .0)) + length (zoneTexts Generation (f .generation)) + length (zoneTexts Demand (f .demand))
+    + length (localTexts f names)
+    + length (decimal (f .generation .remainder))
+    + length (decimal (f .demand .remainder))
+    + 7
+unfolding sheetText
+sheet-length f names =
+    simp length-append
+    (omega (arith, constant-length (f .c), remainder-length (f .generation .remainder) (f .demand .remainder)))
