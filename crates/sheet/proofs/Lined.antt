@@ -2,7 +2,7 @@
 use Prim.Native.Nat.{ℕ, suc, _+_, _≤_}
 use mathlib.Core.Bool.{cond}
 use mathlib.Core.Path.{_≡_, refl, sym, ap, _∙_}
-use mathlib.Core.List.{List, [], _∷_, _++_}
+use mathlib.Core.List.{List, [], _∷_, _++_, append-assoc}
 use native.Mathlib.Omega.{arith}
 use borrow.Author.Tests.{eq-eqb, ne-eqb}
 use lib.IntN.{ℤ}
@@ -16,7 +16,7 @@ use Rattle.meaning.specs.declared.MicroPerKw.{MicroPerKw}
 use Rattle.sheet.specs.declared.figures.ZoneFigures.{ZoneFigures}
 use Rattle.sheet.specs.declared.figures.LocalFigures.{LocalFigures}
 use Rattle.sheet.specs.declared.figures.Figures.{Figures}
-use Rattle.sheet.specs.SheetText.{zoneText, emptyZone, fullZone, zoneTexts, localText, fullNode, localTexts, constantText, remainderText, sheetText}
+use Rattle.sheet.specs.SheetText.{zoneText, emptyZone, fullZone, distancesOf, pricesOf, zoneTexts, localText, fullNode, localTexts, constantText, remainderText, sheetText}
 
 module _ (side : Side) (zone : ℕ) (residual : MicroPerKw) (z : ZoneFigures) where
   pub zone-empty : z .weight .0 ≡ 0 → zoneText side zone residual z ≡ emptyZone side zone
@@ -26,6 +26,11 @@ module _ (side : Side) (zone : ℕ) (residual : MicroPerKw) (z : ZoneFigures) wh
   pub zone-full : (z .weight .0 ≡ 0 → ⊥) → zoneText side zone residual z ≡ fullZone side zone residual z
   unfolding zoneText
   zone-full n = simp (ne-eqb _ _ n)
+
+  -- a full line, in the parts that are written
+  pub full-zone-parts : fullZone side zone residual z ≡ letter side ++ ((text " " ++ natural zone) ++ (distancesOf z ++ (pricesOf residual z ++ text "\n")))
+  unfolding fullZone distancesOf pricesOf line
+  full-zone-parts = simp append-assoc
 
 module _ (name : List ℕ) (l : LocalFigures) where
   pub node-empty : l .tec .0 ≡ 0 → localText name l ≡ []

@@ -66,6 +66,10 @@ pub record Going (old : List ℕ) (from : ℕ) (whole : List ℕ) (out : List �
 pub going-start : (old : List ℕ) (from : ℕ) (whole : List ℕ) → Going old from whole old from whole
 going-start old from whole = record { list = refl; ends = refl; size = refl }
 
+-- the whole, taken in parts
+pub going-parts : (old : List ℕ) (from : ℕ) {whole parts : List ℕ} → whole ≡ parts → Going old from whole old from parts
+going-parts old from e = record { list = ap (sets old from) (sym e); ends = ap (λ (t : List ℕ). from + length t) (sym e); size = refl }
+
 module _ {old : List ℕ} {from : ℕ} {whole out : List ℕ} {at : ℕ} where
   -- there is room for the next part
   pub going-room : (t u : List ℕ) → Room old from whole → Going old from whole out at (t ++ u) → Room out at t

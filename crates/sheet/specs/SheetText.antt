@@ -43,6 +43,14 @@ fullZone side zone residual z =
     ∷ decimal (z .total .0)
     ∷ [])
 
+-- parts of that line: its two distances, and its three prices, a space before each
+unfoldable pub distancesOf : ZoneFigures → List ℕ
+distancesOf z = text " " ++ (decimal (z .metres .0) ++ (text " " ++ decimal (z .«after_c» .0)))
+
+unfoldable pub pricesOf : (residual : MicroPerKw) → ZoneFigures → List ℕ
+pricesOf residual z =
+    text " " ++ (decimal (z .tariff .0) ++ (text " " ++ (decimal (residual .0) ++ (text " " ++ decimal (z .total .0)))))
+
 -- "A zone with no kilowatts prints its letter, number and `-`."
 unfoldable pub emptyZone : Side → (zone : ℕ) → List ℕ
 emptyZone side zone = line (letter side ∷ natural zone ∷ text "-" ∷ [])

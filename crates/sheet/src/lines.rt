@@ -19,7 +19,7 @@ ghost use Rattle.meaning.specs.File.{nameAt};
 ghost use Rattle.meaning.specs.Sheet.{letter};
 ghost use Rattle.meaning.specs.Text.{text, natural, decimal, line};
 ghost use Rattle.sheet.specs.Writing.{Room, Put};
-ghost use Rattle.sheet.specs.SheetText.{zoneText, localText, emptyZone, fullZone, fullNode, constantText, remainderText, refusedText};
+ghost use Rattle.sheet.specs.SheetText.{zoneText, localText, emptyZone, distancesOf, pricesOf, fullZone, fullNode, constantText, remainderText, refusedText};
 
 // The letter of a side.
 pub fn put_letter(out: &mut [u8], at: usize, side: Side) -> usize
@@ -42,6 +42,25 @@ pub fn put_empty_zone(out: &mut [u8], at: usize, side: Side, zone: usize) -> usi
     put_bytes(out, p2, b" -\n")
 }
 
+// Metres, and metres after C, of a zone.
+pub fn put_distances(out: &mut [u8], at: usize, z: ZoneFigures) -> usize
+    requires { ⌜ Room (now out) at (distancesOf z) ⌝ }
+    ensures { λ r. ⌜ Put (now (out .entry)) at (distancesOf z) (now (out .exit)) r ⌝ }
+{
+    let p1 = put_metres(out, at, z.metres);
+    put_metres(out, p1, z.after_c)
+}
+
+// Tariff, residual and total of a zone.
+pub fn put_prices(out: &mut [u8], at: usize, residual: MicroPerKw, z: ZoneFigures) -> usize
+    requires { ⌜ Room (now out) at (pricesOf residual z) ⌝ }
+    ensures { λ r. ⌜ Put (now (out .entry)) at (pricesOf residual z) (now (out .exit)) r ⌝ }
+{
+    let p1 = put_price(out, at, z.tariff);
+    let p2 = put_price(out, p1, residual);
+    put_price(out, p2, z.total)
+}
+
 // The line of a zone with kilowatts.
 pub fn put_full_zone(
     out: &mut [u8],
@@ -56,12 +75,9 @@ pub fn put_full_zone(
 {
     let p1 = put_letter(out, at, side);
     let p2 = put_count(out, p1, zone);
-    let p3 = put_metres(out, p2, z.metres);
-    let p4 = put_metres(out, p3, z.after_c);
-    let p5 = put_price(out, p4, z.tariff);
-    let p6 = put_price(out, p5, residual);
-    let p7 = put_price(out, p6, z.total);
-    put_bytes(out, p7, b"\n")
+    let p3 = put_distances(out, p2, z);
+    let p4 = put_prices(out, p3, residual, z);
+    put_bytes(out, p4, b"\n")
 }
 
 // The line of a node with TEC.

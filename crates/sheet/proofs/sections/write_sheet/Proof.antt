@@ -5,10 +5,10 @@ use mathlib.Core.List.{List, [], _∷_, _++_}
 use native.Mathlib.Omega.{arith}
 use Rattle.meaning.specs.declared.Side.the-variants.{Generation, Demand}
 use Rattle.integers.proofs.Machine.{back}
-use Rattle.sheet.proofs.Writing.{written, going-end, going-room-end}
+use Rattle.sheet.proofs.Writing.{written}
 use Rattle.sheet.specs.Writing.{Put}
 use Rattle.sheet.specs.SheetText.{constantText, zoneTexts, localTexts, remainderText, nameOf, sheetText}
-use Rattle.sheet.proofs.Writing.{Going, going-start, going-room, going-on, going-done}
+use Rattle.sheet.proofs.Writing.{Going, going-start, going-room, going-on, going-end, going-room-end}
 use Rattle.sheet.proofs.sections.write_sheet.Statement.{statement}
 use Rattle.sheet.proofs.sections.write_sheet.Tie as tie
 
