@@ -4,3 +4,4 @@ pub mod Joined
 pub mod Padding
 pub mod Lined
 pub mod Rows
+pub mod Agrees

@@ -82,8 +82,8 @@ pub fn put_count(out: &mut [u8], at: usize, n: usize) -> usize
     requires { ⌜ Room (now out) at (text " " ++ natural n) ⌝ }
     ensures { λ r. ⌜ Put (now (out .entry)) at (text " " ++ natural n) (now (out .exit)) r ⌝ }
 {
-    let p = put_bytes(out, at, b" ");
-    put_natural(out, p, n as u64)
+    let digits = put_bytes(out, at, b" ");
+    put_natural(out, digits, n as u64)
 }
 
 // A space, then a number.
@@ -91,8 +91,8 @@ pub fn put_field(out: &mut [u8], at: usize, z: i64) -> usize
     requires { ⌜ Room (now out) at (text " " ++ decimal z) ⌝ }
     ensures { λ r. ⌜ Put (now (out .entry)) at (text " " ++ decimal z) (now (out .exit)) r ⌝ }
 {
-    let p = put_bytes(out, at, b" ");
-    put_number(out, p, z)
+    let number = put_bytes(out, at, b" ");
+    put_number(out, number, z)
 }
 
 // A space, then metres.
