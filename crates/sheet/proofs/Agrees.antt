@@ -1,5 +1,5 @@
 -- Figures that are those of the meaning have its sheet as their text.
-use Prim.Native.Nat.{ℕ, suc, _<_}
+use Prim.Native.Nat.{ℕ, suc, _+_, _*_, _<_}
 use mathlib.Core.Bool.{cond}
 use mathlib.Core.Path.{_≡_, refl, sym, ap, ap₂, _∙_}
 use mathlib.Core.List.{List, [], _∷_, _++_}
@@ -10,7 +10,9 @@ use lib.ListN.{length, getD}
 use Rattle.meaning.specs.Rows.{joined}
 use Rattle.meaning.specs.Name.{unpadded}
 use Rattle.meaning.specs.Text.{text, natural, decimal, line}
-use Rattle.meaning.specs.Study.{Runs, node}
+use Rattle.meaning.specs.Study.{Runs, Node, node, noNode}
+use Rattle.meaning.specs.File.{nameAt, nodeAt, recordSize, sectionStart, sectionCount, studyOf}
+use Rattle.meaning.proofs.Rows.{rows-at}
 use Rattle.meaning.specs.Grid.{Grid, nodeTec}
 use Rattle.meaning.specs.Figures.{zones, zoneWeight, zonalMetres, C, afterC, zoneTariff, residual, zoneTotal, localMetres, localTariff, remainder}
 use Rattle.meaning.specs.Sheet.{letter, zoneLine, zoneLines, localLine, sheet}
@@ -24,7 +26,7 @@ use Rattle.sheet.specs.declared.figures.ZoneFigures.{ZoneFigures}
 use Rattle.sheet.specs.declared.figures.SideFigures.{SideFigures}
 use Rattle.sheet.specs.declared.figures.LocalFigures.{LocalFigures}
 use Rattle.sheet.specs.declared.figures.Figures.{Figures}
-use Rattle.sheet.specs.SheetText.{noZone, noLocal, zoneText, emptyZone, fullZone, zoneTexts, localText, fullNode, localTexts, constantText, remainderText, sheetText, refusedText}
+use Rattle.sheet.specs.SheetText.{noZone, noLocal, zoneText, emptyZone, fullZone, zoneTexts, localText, fullNode, localTexts, constantText, remainderText, sheetText, nameOf, refusedText}
 use Rattle.sheet.proofs.Joined.{joined-same}
 use Rattle.sheet.proofs.Lined.{zone-empty, zone-full, node-empty, node-full}
 
@@ -111,6 +113,16 @@ module _ (G : Grid) (runs : Runs) where
         a .generation .remainder,
         a .demand .remainder,
       )
+
+-- the names that the writer reads are those of the study's nodes
+pub names-agree : (file : List ℕ) (v : ℕ) → sectionCount file 0 ≡ 1 → v < sectionCount file 1
+    → nameOf file v ≡ unpadded (node (studyOf file .nodes) v .name)
+unfolding nameOf studyOf nodeAt sectionStart recordSize
+names-agree file v one h =
+    let start : sectionStart file 1 ≡ 64 = ap (λ (n : ℕ). 0 + 64 * n) one in
+    sym (
+    ap (λ (n : Node). unpadded (n .name)) (rows-at noNode (sectionCount file 1) (λ i. nodeAt file (sectionStart file 1 + 24 * i)) v h)
+    ∙ ap (λ (at : ℕ). unpadded (nameAt file (at + 24 * v))) start)
 
 -- the line of a refusal
 pub refused-agrees : (a : Answer) → refusedText (values a .number) (values a .system) (values a .row) ≡ refusedLine a

@@ -1,3 +1,4 @@
+-- `sheet::put::natural_len` meets its contract: one digit, or one more than those before it. It ends since the number falls.
 use native.Mathlib.Omega.{arith}
 use Rattle.sheet.proofs.Digits.{natural-one-length, natural-more-length, natural-u64}
 use borrow.Author.Needs.{needs}

@@ -1,3 +1,4 @@
+-- `sheet::put::put_natural` meets its contract: one digit, or those before the last and the last. It ends since the number falls.
 use native.Mathlib.Omega.{arith}
 use Rattle.sheet.proofs.Digits.{natural-one-length, natural-more-length, put-one, put-last}
 use borrow.Author.Needs.{needs}

@@ -1,3 +1,4 @@
+-- `sheet::put::put_bytes` meets its contract: what is left of the text, at its place, makes the whole.
 use Prim.Native.Nat.{_≤_, _+_, _-_}
 use mathlib.Core.Path.{_≡_, refl, sym, _∙_}
 use lib.ListN.{length, drop, length-set}
@@ -7,8 +8,6 @@ use borrow.Author.Needs.{needs}
 use native.Mathlib.Omega.{arith}
 use Rattle.sheet.proofs.put.put_bytes.Statement.{statement}
 use Rattle.sheet.proofs.put.put_bytes.Tie as tie
-use Rattle.sheet.proofs.put.put_bytes.Reads as reads
-use Rattle.sheet.proofs.put.put_bytes.Lts as lts
 
 abbrev Inv-loop : tie.InvT-loop
 Inv-loop out₀ at text i₀ out i = (i ≤ length text) × (length out ≡ length out₀) × (sets out (at + i) (drop i text) ≡ sets out₀ at text)
