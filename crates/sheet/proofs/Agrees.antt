@@ -22,10 +22,10 @@ use Rattle.meaning.specs.declared.Answer.{Answer}
 use Rattle.meaning.specs.declared.Side.{Side}
 use Rattle.meaning.specs.declared.Side.the-variants.{Generation, Demand}
 use Rattle.meaning.specs.declared.MicroPerKw.{MicroPerKw}
-use Rattle.sheet.specs.declared.figures.ZoneFigures.{ZoneFigures}
-use Rattle.sheet.specs.declared.figures.SideFigures.{SideFigures}
-use Rattle.sheet.specs.declared.figures.LocalFigures.{LocalFigures}
-use Rattle.sheet.specs.declared.figures.Figures.{Figures}
+use Rattle.charges.specs.declared.figures.ZoneFigures.{ZoneFigures}
+use Rattle.charges.specs.declared.figures.SideFigures.{SideFigures}
+use Rattle.charges.specs.declared.figures.LocalFigures.{LocalFigures}
+use Rattle.charges.specs.declared.figures.Figures.{Figures}
 use Rattle.sheet.specs.SheetText.{noZone, noLocal, zoneText, emptyZone, fullZone, zoneTexts, localText, fullNode, localTexts, constantText, remainderText, sheetText, nameOf, refusedText}
 use Rattle.sheet.proofs.Joined.{joined-same}
 use Rattle.sheet.proofs.Lined.{zone-empty, zone-full, node-empty, node-full}

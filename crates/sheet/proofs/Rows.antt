@@ -8,8 +8,8 @@ use Rattle.meaning.specs.Rows.{joined}
 use Rattle.meaning.specs.Name.{unpadded}
 use Rattle.meaning.specs.File.{nameAt}
 use Rattle.meaning.specs.declared.Side.{Side}
-use Rattle.sheet.specs.declared.figures.SideFigures.{SideFigures}
-use Rattle.sheet.specs.declared.figures.Figures.{Figures}
+use Rattle.charges.specs.declared.figures.SideFigures.{SideFigures}
+use Rattle.charges.specs.declared.figures.Figures.{Figures}
 use Rattle.sheet.specs.SheetText.{noZone, noLocal, zoneText, zoneTexts, localText, localTexts, nameOf}
 
 -- zone k + 1

@@ -14,10 +14,10 @@ use Rattle.meaning.specs.declared.Side.{Side}
 use Rattle.meaning.specs.declared.Side.the-variants.{Generation, Demand}
 use Rattle.meaning.specs.declared.Metres.{Metres}
 use Rattle.meaning.specs.declared.MicroPerKw.{MicroPerKw}
-use Rattle.sheet.specs.declared.figures.ZoneFigures.{ZoneFigures}
-use Rattle.sheet.specs.declared.figures.SideFigures.{SideFigures}
-use Rattle.sheet.specs.declared.figures.LocalFigures.{LocalFigures}
-use Rattle.sheet.specs.declared.figures.Figures.{Figures}
+use Rattle.charges.specs.declared.figures.ZoneFigures.{ZoneFigures}
+use Rattle.charges.specs.declared.figures.SideFigures.{SideFigures}
+use Rattle.charges.specs.declared.figures.LocalFigures.{LocalFigures}
+use Rattle.charges.specs.declared.figures.Figures.{Figures}
 
 -- what lies past the end of a table
 abbrev pub noZone : ZoneFigures

@@ -1,8 +1,8 @@
 // The lengths of the lines and of the sheet, without writing.
-use crate::figures::Figures;
-use crate::figures::LocalFigures;
-use crate::figures::SideFigures;
-use crate::figures::ZoneFigures;
+use charges::figures::Figures;
+use charges::figures::LocalFigures;
+use charges::figures::SideFigures;
+use charges::figures::ZoneFigures;
 use crate::name::name_len;
 use crate::put::natural_len;
 use crate::put::number_len;

@@ -1,5 +1,4 @@
 // The text of a sheet, written into a lent buffer.
-pub mod figures;
 mod lengths;
 mod lines;
 mod name;

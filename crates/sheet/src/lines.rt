@@ -1,6 +1,6 @@
 // The lines of a sheet, and the line of a refusal.
-use crate::figures::LocalFigures;
-use crate::figures::ZoneFigures;
+use charges::figures::LocalFigures;
+use charges::figures::ZoneFigures;
 use crate::name::put_name;
 use crate::put::put_bytes;
 use crate::put::put_count;

@@ -1,6 +1,6 @@
 // The sections of a sheet that have a line for each zone or node, and the sheet.
-use crate::figures::Figures;
-use crate::figures::SideFigures;
+use charges::figures::Figures;
+use charges::figures::SideFigures;
 use crate::lines::put_constant;
 use crate::lines::put_node;
 use crate::lines::put_remainders;
