@@ -26,7 +26,9 @@ use Rattle.charges.specs.declared.figures.ZoneFigures.{ZoneFigures}
 use Rattle.charges.specs.declared.figures.SideFigures.{SideFigures}
 use Rattle.charges.specs.declared.figures.LocalFigures.{LocalFigures}
 use Rattle.charges.specs.declared.figures.Figures.{Figures}
-use Rattle.sheet.specs.SheetText.{noZone, noLocal, zoneText, emptyZone, fullZone, zoneTexts, localText, fullNode, localTexts, constantText, remainderText, sheetText, nameOf, refusedText}
+use Rattle.charges.specs.Steps.{noLocal}
+use Rattle.charges.specs.Sides.{noLine}
+use Rattle.sheet.specs.SheetText.{zoneText, emptyZone, fullZone, zoneTexts, localText, fullNode, localTexts, constantText, remainderText, sheetText, nameOf, refusedText}
 use Rattle.sheet.proofs.Joined.{joined-same}
 use Rattle.sheet.proofs.Lined.{zone-empty, zone-full, node-empty, node-full}
 
@@ -46,7 +48,7 @@ module _ (G : Grid) (runs : Runs) where
     pub zones : s .zones ≡ zones G side
     pub residual : s .residual .0 ≡ residual G runs side
     pub remainder : s .remainder ≡ remainder G runs side
-    pub zone : (k : ℕ) → k < s .zones → ZoneAgrees side (suc k) (getD (s .zone) k noZone)
+    pub zone : (k : ℕ) → k < s .zones → ZoneAgrees side (suc k) (getD (s .zone) k noLine)
 
   -- the figures of a node: only its kilowatts where it has none
   pub record NodeFull (v : ℕ) (l : LocalFigures) : Type 0 where
@@ -79,7 +81,7 @@ module _ (G : Grid) (runs : Runs) where
   zones-agree : (side : Side) (s : SideFigures) → SideAgrees side s → zoneTexts side s ≡ zoneLines G runs side
   unfolding zoneTexts zoneLines
   zones-agree side s a =
-      joined-same (s .zones) _ (λ k. zoneLine G runs side (suc k)) (λ k h. zone-agrees side (suc k) (s .residual) (getD (s .zone) k noZone) (a .residual) (a .zone k h))
+      joined-same (s .zones) _ (λ k. zoneLine G runs side (suc k)) (λ k h. zone-agrees side (suc k) (s .residual) (getD (s .zone) k noLine) (a .residual) (a .zone k h))
       ∙ ap (λ (n : ℕ). joined n (λ k. zoneLine G runs side (suc k))) (a .zones)
 
   node-agrees : (v : ℕ) (name : List ℕ) (l : LocalFigures) → name ≡ unpadded (node (G .nodes) v .name) → NodeAgrees v l

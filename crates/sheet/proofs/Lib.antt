@@ -5,3 +5,4 @@ pub mod Padding
 pub mod Lined
 pub mod Rows
 pub mod Agrees
+pub mod OfCase

@@ -10,13 +10,15 @@ use Rattle.meaning.specs.File.{nameAt}
 use Rattle.meaning.specs.declared.Side.{Side}
 use Rattle.charges.specs.declared.figures.SideFigures.{SideFigures}
 use Rattle.charges.specs.declared.figures.Figures.{Figures}
-use Rattle.sheet.specs.SheetText.{noZone, noLocal, zoneText, zoneTexts, localText, localTexts, nameOf}
+use Rattle.charges.specs.Steps.{noLocal}
+use Rattle.charges.specs.Sides.{noLine}
+use Rattle.sheet.specs.SheetText.{zoneText, zoneTexts, localText, localTexts, nameOf}
 
 -- zone k + 1
 unfoldable pub zoneRow : Side → SideFigures → ℕ → List ℕ
-zoneRow side f k = zoneText side (suc k) (f .residual) (getD (f .zone) k noZone)
+zoneRow side f k = zoneText side (suc k) (f .residual) (getD (f .zone) k noLine)
 
-pub zone-row : (side : Side) (f : SideFigures) (k : ℕ) → zoneRow side f k ≡ zoneText side (k + 1) (f .residual) (getD (f .zone) k noZone)
+pub zone-row : (side : Side) (f : SideFigures) (k : ℕ) → zoneRow side f k ≡ zoneText side (k + 1) (f .residual) (getD (f .zone) k noLine)
 unfolding zoneRow
 zone-row side f k = rw (add-one k) refl
 

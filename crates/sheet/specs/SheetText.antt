@@ -3,7 +3,7 @@ use mathlib.Core.Bool.{cond}
 use mathlib.Core.List.{List, [], _∷_, _++_}
 use Prim.Native.Nat.{ℕ, suc, _+_, _*_, _≤_}
 use lib.Dec.{eqb}
-use lib.IntN.{ℤ, pos}
+use lib.IntN.{ℤ}
 use lib.ListN.{length, getD}
 use Rattle.meaning.specs.Rows.{joined}
 use Rattle.meaning.specs.Text.{text, natural, decimal, line}
@@ -18,20 +18,8 @@ use Rattle.charges.specs.declared.figures.ZoneFigures.{ZoneFigures}
 use Rattle.charges.specs.declared.figures.SideFigures.{SideFigures}
 use Rattle.charges.specs.declared.figures.LocalFigures.{LocalFigures}
 use Rattle.charges.specs.declared.figures.Figures.{Figures}
-
--- what lies past the end of a table
-abbrev pub noZone : ZoneFigures
-noZone =
-    record {
-      weight = record { 0 = 0 };
-      metres = record { 0 = pos 0 };
-      «after_c» = record { 0 = pos 0 };
-      tariff = record { 0 = pos 0 };
-      total = record { 0 = pos 0 };
-    }
-
-abbrev pub noLocal : LocalFigures
-noLocal = record { tec = record { 0 = 0 }; metres = record { 0 = pos 0 }; tariff = record { 0 = pos 0 } }
+use Rattle.charges.specs.Steps.{noLocal}
+use Rattle.charges.specs.Sides.{noLine}
 
 -- "`G`, zone, zonal metres, metres after C, tariff, residual, total. `D`, the same for demand."
 unfoldable pub fullZone : Side → (zone : ℕ) → (residual : MicroPerKw) → ZoneFigures → List ℕ
@@ -60,7 +48,7 @@ zoneText side zone residual z = cond (eqb (z .weight .0) 0) (emptyZone side zone
 
 -- "Zones stand in rising order": zone k + 1 is row k of the table
 unfoldable pub zoneTexts : Side → SideFigures → List ℕ
-zoneTexts side f = joined (f .zones) (λ k. zoneText side (suc k) (f .residual) (getD (f .zone) k noZone))
+zoneTexts side f = joined (f .zones) (λ k. zoneText side (suc k) (f .residual) (getD (f .zone) k noLine))
 
 -- "`L`, node name without padding, local metres, local tariff, for nodes with TEC above zero"
 unfoldable pub fullNode : (name : List ℕ) → LocalFigures → List ℕ

@@ -1,11 +1,11 @@
 // The lengths of the lines and of the sheet, without writing.
+use crate::name::name_len;
+use crate::put::natural_len;
+use crate::put::number_len;
 use charges::figures::Figures;
 use charges::figures::LocalFigures;
 use charges::figures::SideFigures;
 use charges::figures::ZoneFigures;
-use crate::name::name_len;
-use crate::put::natural_len;
-use crate::put::number_len;
 use meaning::Metres;
 use meaning::MicroPerKw;
 ghost use mathlib.Core.Path.{_≡_};

@@ -1,12 +1,12 @@
 // The lines of a sheet, and the line of a refusal.
-use charges::figures::LocalFigures;
-use charges::figures::ZoneFigures;
 use crate::name::put_name;
 use crate::put::put_bytes;
 use crate::put::put_count;
 use crate::put::put_field;
 use crate::put::put_metres;
 use crate::put::put_price;
+use charges::figures::LocalFigures;
+use charges::figures::ZoneFigures;
 use meaning::Metres;
 use meaning::MicroPerKw;
 use meaning::Side;

@@ -1,10 +1,10 @@
 // The sections of a sheet that have a line for each zone or node, and the sheet.
-use charges::figures::Figures;
-use charges::figures::SideFigures;
 use crate::lines::put_constant;
 use crate::lines::put_node;
 use crate::lines::put_remainders;
 use crate::lines::put_zone;
+use charges::figures::Figures;
+use charges::figures::SideFigures;
 use meaning::Side;
 ghost use mathlib.Core.List.{_++_};
 ghost use mathlib.Core.Path.{_≡_};
