@@ -6,3 +6,4 @@ pub mod Lined
 pub mod Rows
 pub mod Agrees
 pub mod OfCase
+pub mod Settles
