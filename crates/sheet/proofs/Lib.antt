@@ -7,3 +7,4 @@ pub mod Rows
 pub mod Agrees
 pub mod OfCase
 pub mod Settles
+pub mod Refusing

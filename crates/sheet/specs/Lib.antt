@@ -1,3 +1,4 @@
 pub mod Writing
 pub mod SheetText
 pub mod Lengths
+pub mod Refusing

@@ -9,6 +9,7 @@ ghost use mathlib.Core.Path.{_≡_};
 ghost use Rattle.meaning.specs.Answers.{stops};
 ghost use Rattle.meaning.specs.Outcome.{Settled, settle};
 ghost use Rattle.proposal.specs.Judges.{runsOf};
+ghost use Rattle.sheet.specs.Refusing.{Refuses};
 use meaning::Answer;
 
 // Whether an answer is a refusal.
@@ -34,4 +35,15 @@ pub fn write(file: &[u8], base: &[i64], wider: &[i64], local: &[i64], out: &mut 
         return Answer::ShortBuffer;
     }
     Answer::Accepted(sections::write_sheet(figures, file, out))
+}
+
+// Writes the line of a refusal at the front of a buffer of at least 96 bytes, which holds any; a shorter one is left as it is, and the length is then 0.
+pub fn refuse(answer: Answer, out: &mut [u8]) -> usize
+    ensures { λ r. ⌜ Refuses answer (now (out .entry)) (now (out .exit)) r ⌝ }
+{
+    if out.len() < 96 {
+        return 0;
+    }
+    let carried = tables::values(answer);
+    lines::put_refused(out, 0, carried.number, carried.system, carried.row)
 }
