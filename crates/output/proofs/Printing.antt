@@ -5,7 +5,7 @@ use mathlib.Core.List.{List, _++_}
 use Prim.Native.Nat.{ℕ, zero, suc, _+_, _-_, _≤_, _<_}
 use native.Mathlib.Omega.{arith}
 use borrow.Author.Tests.{le-leb}
-use lib.ListN.{length, drop, replicate, length-replicate}
+use lib.ListN.{length, drop, replicate, length-replicate, length-append}
 use Rattle.meaning.specs.declared.Answer.{Answer}
 use Rattle.meaning.specs.declared.Values.{Values}
 use Rattle.meaning.specs.declared.Answer.the-variants.{Accepted, BadFile}
@@ -97,3 +97,7 @@ module _ (file : List ℕ) where
               buffer = ap (λ (s : Settled). s .buffer) (settled ∙ settled-sheet t);
               answer = ap (λ (x : Values). x .length) e ∙ ap (λ (s : Settled). values (s .answer) .length) (settled ∙ settled-sheet t);
             }))
+
+-- what is printed stands inside the buffer
+pub printed-inside : (text : List ℕ) (r : Printed) → Prints text r → r .length ≤ length (r .bytes)
+printed-inside text r p = omega (arith, p .long, ap {B = ℕ} length (p .bytes) ∙ length-append text (replicate (16384 - length text) 0))

@@ -1,0 +1,13 @@
+// Reads one case from standard input and prints its sheet, or its refusal.
+use libc::STDIN_FILENO;
+use libc::STDOUT_FILENO;
+
+// A read that fails ends the input. No whole file has 65,536 bytes (the longest has 63,616), so what is read of a longer input is refused as 1, as all of it would be.
+fn main() {
+    let mut input = io::large_buffer();
+    let read = io::read_full(STDIN_FILENO, &mut input);
+    let printed = output::print(&input[..read]);
+    let bytes = printed.bytes;
+    let length = printed.length;
+    io::write_all(STDOUT_FILENO, &bytes[0..length]);
+}
