@@ -11,6 +11,7 @@ pub mod judge;
 pub mod largest;
 pub mod quantities;
 pub mod random;
+pub mod replay;
 pub mod sheet;
 pub mod solutions;
 pub mod solver;

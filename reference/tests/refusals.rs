@@ -469,16 +469,6 @@ fn twelve_buffer() {
     assert!(buffer.iter().all(|byte| *byte == b'#'));
 }
 
-/// KILN with a fourth node of 300 kW demand behind a circuit without length, solved by hand.
-fn kiln_with_a_spur() -> Case {
-    let mut case = kiln();
-    case.nodes.push(node("NODD", 300));
-    case.circuits.push(circuit("NODC", "NODD", 1, 0));
-    case.stations[0].tec = 200_400;
-    case.stations[1].tec = 100_200;
-    reference::solver::solved(&case).0
-}
-
 #[test]
 fn order_of_all_numbers() {
     type Fault = (fn(&mut Case), (u32, u32, u32));

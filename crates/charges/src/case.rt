@@ -1,4 +1,7 @@
 use crate::figures::Figures;
+use crate::figures::LocalFigures;
+use crate::figures::SideFigures;
+use crate::figures::ZoneFigures;
 use crate::income::local_by_node;
 use crate::income::local_income;
 use crate::sides::MoneySettings;
@@ -6,12 +9,16 @@ use crate::sides::side_figures;
 use crate::tariffs::c_of;
 use crate::zones::SideColumns;
 use crate::zones::zones_of;
+use meaning::Kw;
+use meaning::Metres;
+use meaning::MicroPerKw;
 use meaning::Side;
 ghost use mathlib.Core.Path.{_≡_};
 ghost use Prim.Native.Nat.{_≤_};
 ghost use lib.ListN.{length};
 ghost use Rattle.meaning.specs.Proposal.{potential};
 ghost use Rattle.charges.specs.Sides.{figuresFrom, CaseFits};
+ghost use Rattle.charges.specs.Charged.{noFigures};
 
 // Steps 6 to 10: the figures of a case, from the columns of its two sides and the wider and local potentials.
 pub fn figures_of(
@@ -46,5 +53,36 @@ pub fn figures_of(
         demand: of_demand,
         nodes: nodes,
         local: lines,
+    }
+}
+
+// The figures of a case that is stopped.
+pub fn no_figures() -> Figures
+    ensures { λ r. ⌜ r ≡ noFigures ⌝ }
+{
+    let line = ZoneFigures {
+        weight: Kw(0),
+        metres: Metres(0),
+        after_c: Metres(0),
+        tariff: MicroPerKw(0),
+        total: MicroPerKw(0),
+    };
+    let side = SideFigures {
+        zones: 0,
+        residual: MicroPerKw(0),
+        remainder: 0,
+        zone: [line; 32],
+    };
+    let node = LocalFigures {
+        tec: Kw(0),
+        metres: Metres(0),
+        tariff: MicroPerKw(0),
+    };
+    Figures {
+        c: Metres(0),
+        generation: side,
+        demand: side,
+        nodes: 0,
+        local: [node; 256],
     }
 }

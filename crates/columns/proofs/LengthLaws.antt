@@ -5,10 +5,11 @@ use mathlib.Core.List.{List}
 use Prim.Native.Nat.{ℕ, _+_, _*_, _≤_}
 use native.Mathlib.Nat.{mul-le-mul}
 use native.Mathlib.Omega.{arith}
-use lib.Dec.{leb}
-use Rattle.meaning.specs.Study.{Settings, Circuit, noCircuit}
+use lib.Dec.{eqb, leb}
+use Rattle.meaning.specs.Study.{Settings, Circuit, Study, circuit, noCircuit}
 use Rattle.meaning.specs.File.{u32, circuitAt}
 use Rattle.meaning.specs.Direction.{overheadFactor, cableFactor, expandedLength}
+use Rattle.meaning.specs.Conditions.{InRange, SoundSettings, SoundCircuit}
 use Rattle.meaning.proofs.Says.{Says, says-as, _also_, says-le}
 use Rattle.columns.specs.Lengths.{lengthInRange, lengthIfInRange}
 use Rattle.columns.proofs.FileLaws.{is-true, is-false}
@@ -51,6 +52,29 @@ pub length-read : (file : List ℕ) (at : ℕ) (s : Settings) (voltage overhead 
     → sized overhead over cable under ≡ lengthIfInRange s (circuitAt file at)
 unfolding lengthIfInRange lengthInRange expandedLength circuitAt
 length-read file at s voltage overhead cable over under v o k f g = rw (f, g, v, o, k) refl
+
+-- the column has the expanded length of every sound circuit
+pub length-whole : (s : Settings) (c : Circuit) → Low (c .overhead) (overheadFactor s (c .voltage)) (c .cable) (cableFactor s (c .voltage))
+    → lengthIfInRange s c ≡ expandedLength s c
+unfolding lengthIfInRange lengthInRange expandedLength
+length-whole s c l = sym (sized-in (c .overhead) (overheadFactor s (c .voltage)) (c .cable) (cableFactor s (c .voltage)) l)
+
+-- factors of sound settings, whatever the voltage
+factors-low : {n : ℕ} {s : Settings} → SoundSettings n s → (voltage : ℕ) → (overheadFactor s voltage ≤ 30000) × (cableFactor s voltage ≤ 30000)
+unfolding overheadFactor cableFactor
+factors-low {n} {s} h voltage = go (eqb voltage 400) (eqb voltage 275)
+  where
+    go : (a b : Bool)
+        → (cond a (s .overhead400) (cond b (s .overhead275) (s .overhead132)) ≤ 30000) × (cond a (s .cable400) (cond b (s .cable275) (s .cable132)) ≤ 30000)
+    go true b = (omega (arith, h .overhead400), h .cable400 .most)
+    go false true = (h .overhead275 .most, h .cable275 .most)
+    go false false = (h .overhead132 .most, h .cable132 .most)
+
+pub length-sound : {n : ℕ} (S : Study) (i : ℕ) → SoundSettings n (S .settings) → SoundCircuit S i
+    → lengthIfInRange (S .settings) (circuit (S .circuits) i) ≡ expandedLength (S .settings) (circuit (S .circuits) i)
+length-sound S i h k =
+    let f = factors-low h (circuit (S .circuits) i .voltage) in
+    length-whole (S .settings) (circuit (S .circuits) i) (record { overhead-low = k .overhead; cable-low = k .cable; over-low = f .0; under-low = f .1 })
 
 -- a row past the end of the table has no length
 pub length-none : (s : Settings) → lengthIfInRange s noCircuit ≡ 0

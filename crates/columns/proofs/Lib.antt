@@ -4,4 +4,5 @@ pub mod LengthLaws
 pub mod Rows
 pub mod PlaceLaws
 pub mod TableColumns
+pub mod ColumnAt
 pub mod TecLaws

@@ -48,7 +48,23 @@ u64-at-requires c κs = search needs
 
 returns : tie.Need-returns
 unfolding settingsIn settingsAt
-returns c = cc
+returns c =
+    rw (
+      c .before .before .before .before .before .before .before .before .before .before .before .before .before .u32-at .ensures .value,
+      c .before .before .before .before .before .before .before .before .before .before .before .before .u32-at2 .ensures .value,
+      c .before .before .before .before .before .before .before .before .before .before .before .u32-at3 .ensures .value,
+      c .before .before .before .before .before .before .before .before .before .before .u32-at4 .ensures .value,
+      c .before .before .before .before .before .before .before .before .before .u32-at5 .ensures .value,
+      c .before .before .before .before .before .before .before .before .u32-at6 .ensures .value,
+      c .before .before .before .before .before .before .before .u32-at7 .ensures .value,
+      c .before .before .before .before .before .before .u32-at8 .ensures .value,
+      c .before .before .before .before .before .u32-at9 .ensures .value,
+      c .before .before .before .before .u32-at10 .ensures .value,
+      c .before .before .before .u32-at11 .ensures .value,
+      c .before .before .u32-at12 .ensures .value,
+      c .before .u32-at13 .ensures .value,
+      c .u64-at .ensures,
+    )
 
 pub settings-spec : {M : Type 1} → statement M
 settings-spec =

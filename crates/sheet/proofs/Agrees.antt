@@ -1,0 +1,132 @@
+-- Figures that are those of the meaning have its sheet as their text.
+use Prim.Native.Nat.{ℕ, suc, _+_, _*_, _<_}
+use mathlib.Core.Bool.{cond}
+use mathlib.Core.Path.{_≡_, refl, sym, ap, ap₂, _∙_}
+use mathlib.Core.List.{List, [], _∷_, _++_}
+use native.Mathlib.Decide.{ℕ-discrete}
+use borrow.Author.Tests.{eq-eqb, ne-eqb}
+use lib.Dec.{eqb}
+use lib.ListN.{length, getD}
+use Rattle.meaning.specs.Rows.{joined}
+use Rattle.meaning.specs.Name.{unpadded}
+use Rattle.meaning.specs.Text.{text, natural, decimal, line}
+use Rattle.meaning.specs.Study.{Runs, Node, node, noNode}
+use Rattle.meaning.specs.File.{nameAt, nodeAt, recordSize, sectionStart, sectionCount, studyOf}
+use Rattle.meaning.proofs.Rows.{rows-at}
+use Rattle.meaning.specs.Grid.{Grid, nodeTec}
+use Rattle.meaning.specs.Figures.{zones, zoneWeight, zonalMetres, C, afterC, zoneTariff, residual, zoneTotal, localMetres, localTariff, remainder}
+use Rattle.meaning.specs.Sheet.{letter, zoneLine, zoneLines, localLine, sheet}
+use Rattle.meaning.specs.Answers.{values}
+use Rattle.meaning.specs.Outcome.{refusedLine}
+use Rattle.meaning.specs.declared.Answer.{Answer}
+use Rattle.meaning.specs.declared.Side.{Side}
+use Rattle.meaning.specs.declared.Side.the-variants.{Generation, Demand}
+use Rattle.meaning.specs.declared.MicroPerKw.{MicroPerKw}
+use Rattle.charges.specs.declared.figures.ZoneFigures.{ZoneFigures}
+use Rattle.charges.specs.declared.figures.SideFigures.{SideFigures}
+use Rattle.charges.specs.declared.figures.LocalFigures.{LocalFigures}
+use Rattle.charges.specs.declared.figures.Figures.{Figures}
+use Rattle.charges.specs.Steps.{noLocal}
+use Rattle.charges.specs.Sides.{noLine}
+use Rattle.sheet.specs.SheetText.{zoneText, emptyZone, fullZone, zoneTexts, localText, fullNode, localTexts, constantText, remainderText, sheetText, nameOf, refusedText}
+use Rattle.sheet.proofs.Joined.{joined-same}
+use Rattle.sheet.proofs.Lined.{zone-empty, zone-full, node-empty, node-full}
+
+module _ (G : Grid) (runs : Runs) where
+  -- the figures of a zone: only its kilowatts where it has none
+  pub record ZoneFull (side : Side) (zone : ℕ) (z : ZoneFigures) : Type 0 where
+    pub metres : z .metres .0 ≡ zonalMetres G runs side zone
+    pub afterC : z .«after_c» .0 ≡ afterC G runs side zone
+    pub tariff : z .tariff .0 ≡ zoneTariff G runs side zone
+    pub total : z .total .0 ≡ zoneTotal G runs side zone
+
+  pub record ZoneAgrees (side : Side) (zone : ℕ) (z : ZoneFigures) : Type 0 where
+    pub weight : z .weight .0 ≡ zoneWeight G side zone
+    pub full : (zoneWeight G side zone ≡ 0 → ⊥) → ZoneFull side zone z
+
+  pub record SideAgrees (side : Side) (s : SideFigures) : Type 0 where
+    pub zones : s .zones ≡ zones G side
+    pub residual : s .residual .0 ≡ residual G runs side
+    pub remainder : s .remainder ≡ remainder G runs side
+    pub zone : (k : ℕ) → k < s .zones → ZoneAgrees side (suc k) (getD (s .zone) k noLine)
+
+  -- the figures of a node: only its kilowatts where it has none
+  pub record NodeFull (v : ℕ) (l : LocalFigures) : Type 0 where
+    pub metres : l .metres .0 ≡ localMetres runs v
+    pub tariff : l .tariff .0 ≡ localTariff G runs v
+
+  pub record NodeAgrees (v : ℕ) (l : LocalFigures) : Type 0 where
+    pub tec : l .tec .0 ≡ nodeTec G v
+    pub full : (nodeTec G v ≡ 0 → ⊥) → NodeFull v l
+
+  pub record Agrees (f : Figures) : Type 0 where
+    pub c : f .c .0 ≡ C G runs
+    pub generation : SideAgrees Generation (f .generation)
+    pub demand : SideAgrees Demand (f .demand)
+    pub nodes : f .nodes ≡ length (G .nodes)
+    pub local : (v : ℕ) → v < f .nodes → NodeAgrees v (getD (f .local) v noLocal)
+
+  zone-agrees : (side : Side) (zone : ℕ) (r : MicroPerKw) (z : ZoneFigures) → r .0 ≡ residual G runs side → ZoneAgrees side zone z
+      → zoneText side zone r z ≡ zoneLine G runs side zone
+  unfolding zoneLine emptyZone fullZone
+  zone-agrees side zone r z er a = go (ℕ-discrete (zoneWeight G side zone) 0)
+    where
+      go : Dec (zoneWeight G side zone ≡ 0) → zoneText side zone r z ≡ zoneLine G runs side zone
+      go (yes e) = zone-empty side zone r z (a .weight ∙ e) ∙ simp (eq-eqb _ _ e)
+      go (no n) =
+          let h = a .full n in
+          zone-full side zone r z (λ q. n (sym (a .weight) ∙ q))
+          ∙ simp (ne-eqb _ _ n, h .metres, h .afterC, h .tariff, h .total, er)
+
+  zones-agree : (side : Side) (s : SideFigures) → SideAgrees side s → zoneTexts side s ≡ zoneLines G runs side
+  unfolding zoneTexts zoneLines
+  zones-agree side s a =
+      joined-same (s .zones) _ (λ k. zoneLine G runs side (suc k)) (λ k h. zone-agrees side (suc k) (s .residual) (getD (s .zone) k noLine) (a .residual) (a .zone k h))
+      ∙ ap (λ (n : ℕ). joined n (λ k. zoneLine G runs side (suc k))) (a .zones)
+
+  node-agrees : (v : ℕ) (name : List ℕ) (l : LocalFigures) → name ≡ unpadded (node (G .nodes) v .name) → NodeAgrees v l
+      → localText name l ≡ localLine G runs v
+  unfolding localLine fullNode
+  node-agrees v name l en a = go (ℕ-discrete (nodeTec G v) 0)
+    where
+      go : Dec (nodeTec G v ≡ 0) → localText name l ≡ localLine G runs v
+      go (yes e) = node-empty name l (a .tec ∙ e) ∙ simp (eq-eqb _ _ e)
+      go (no n) =
+          let h = a .full n in
+          node-full name l (λ q. n (sym (a .tec) ∙ q)) ∙ simp (ne-eqb _ _ n, h .metres, h .tariff, en)
+
+  nodes-agree : (f : Figures) (names : ℕ → List ℕ) → Agrees f → ((v : ℕ) → v < f .nodes → names v ≡ unpadded (node (G .nodes) v .name))
+      → localTexts f names ≡ joined (length (G .nodes)) (localLine G runs)
+  unfolding localTexts
+  nodes-agree f names a named =
+      joined-same (f .nodes) _ (localLine G runs) (λ v h. node-agrees v (names v) (getD (f .local) v noLocal) (named v h) (a .local v h))
+      ∙ ap (λ (n : ℕ). joined n (localLine G runs)) (a .nodes)
+
+  -- the text of figures that agree is the sheet
+  pub sheet-agrees : (f : Figures) (names : ℕ → List ℕ) → Agrees f → ((v : ℕ) → v < f .nodes → names v ≡ unpadded (node (G .nodes) v .name))
+      → sheetText f names ≡ sheet G runs
+  unfolding sheetText sheet constantText remainderText
+  sheet-agrees f names a named =
+      simp (
+        zones-agree Generation (f .generation) (a .generation),
+        zones-agree Demand (f .demand) (a .demand),
+        nodes-agree f names a named,
+        a .c,
+        a .generation .remainder,
+        a .demand .remainder,
+      )
+
+-- the names that the writer reads are those of the study's nodes
+pub names-agree : (file : List ℕ) (v : ℕ) → sectionCount file 0 ≡ 1 → v < sectionCount file 1
+    → nameOf file v ≡ unpadded (node (studyOf file .nodes) v .name)
+unfolding nameOf studyOf nodeAt sectionStart recordSize
+names-agree file v one h =
+    let start : sectionStart file 1 ≡ 64 = ap (λ (n : ℕ). 0 + 64 * n) one in
+    sym (
+    ap (λ (n : Node). unpadded (n .name)) (rows-at noNode (sectionCount file 1) (λ i. nodeAt file (sectionStart file 1 + 24 * i)) v h)
+    ∙ ap (λ (at : ℕ). unpadded (nameAt file (at + 24 * v))) start)
+
+-- the line of a refusal
+pub refused-agrees : (a : Answer) → refusedText (values a .number) (values a .system) (values a .row) ≡ refusedLine a
+unfolding refusedText refusedLine
+refused-agrees a = refl

@@ -1,0 +1,107 @@
+-- `sheet::lines::put_refused` meets its contract: before each call, what is left to write starts with what the call writes.
+use borrow.Author.Needs.{needs}
+use Prim.Native.Nat.{ℕ}
+use mathlib.Core.List.{List, [], _++_}
+use Rattle.meaning.specs.Text.{text, natural, line}
+use Rattle.sheet.specs.SheetText.{refusedText}
+use Rattle.sheet.proofs.Writing.{Going, going-start, going-room, going-on, going-done}
+use Rattle.sheet.proofs.lines.put_refused.Statement.{statement}
+use Rattle.sheet.proofs.lines.put_refused.Tie as tie
+
+-- the text, and what is left of it before each call
+module _ (s : tie.Start) where
+  abbrev whole : List ℕ
+  whole = refusedText (s .args .number) (s .args .system) (s .args .row)
+
+  abbrev On : List ℕ → ℕ → List ℕ → Type 0
+  On out at rest = Going (s .args .out .now) (s .args .at) whole out at rest
+
+  abbrev left5 : List ℕ
+  left5 = text "\n"
+
+  abbrev left4 : List ℕ
+  left4 = (text " " ++ natural (s .args .row)) ++ left5
+
+  abbrev left3 : List ℕ
+  left3 = (text " " ++ natural (s .args .system)) ++ left4
+
+  abbrev left2 : List ℕ
+  left2 = (text " " ++ natural (s .args .number)) ++ left3
+
+  abbrev left1 : List ℕ
+  left1 = text "refused" ++ left2
+
+  at0 : On (s .args .out .now) (s .args .at) left1
+  unfolding refusedText line
+  at0 = going-start (s .args .out .now) (s .args .at) whole
+
+abbrev s1 : tie.After-put-bytes → tie.Start
+s1 c = c .before .before .before .before
+
+at1 : (c : tie.After-put-bytes) → On (s1 c) (c .put-bytes .last .0) (c .put-bytes .result) (left2 (s1 c))
+at1 c = going-on (at0 (s1 c)) (c .put-bytes .ensures)
+
+abbrev s2 : tie.After-put-count → tie.Start
+s2 c = s1 (c .before .before .before .before)
+
+at2 : (c : tie.After-put-count) → On (s2 c) (c .put-count .last .0) (c .put-count .result) (left3 (s2 c))
+at2 c = going-on (at1 (c .before .before .before .before)) (c .put-count .ensures)
+
+abbrev s3 : tie.After-put-count2 → tie.Start
+s3 c = s2 (c .before .before .before .before)
+
+at3 : (c : tie.After-put-count2) → On (s3 c) (c .put-count2 .last .0) (c .put-count2 .result) (left4 (s3 c))
+at3 c = going-on (at2 (c .before .before .before .before)) (c .put-count2 .ensures)
+
+abbrev s4 : tie.After-put-count3 → tie.Start
+s4 c = s3 (c .before .before .before .before)
+
+at4 : (c : tie.After-put-count3) → On (s4 c) (c .put-count3 .last .0) (c .put-count3 .result) (left5 (s4 c))
+at4 c = going-on (at3 (c .before .before .before .before)) (c .put-count3 .ensures)
+
+abbrev s5 : tie.After-put-bytes2 → tie.Start
+s5 c = s4 (c .before .before .before .before .before)
+
+at5 : (c : tie.After-put-bytes2) → On (s5 c) (c .put-bytes2 .last .0) (c .put-bytes2 .result) []
+at5 c = going-on (at4 (c .before .before .before .before .before)) (c .put-bytes2 .ensures)
+
+slice-aggregate-put-bytes : tie.Need-slice-aggregate-put-bytes
+slice-aggregate-put-bytes c = search needs
+
+put-bytes-requires : tie.Need-put-bytes-requires
+put-bytes-requires c κs = let s = c .before .before .before in going-room (text "refused") (left2 s) (s .pre) (at0 s)
+
+put-count-requires : tie.Need-put-count-requires
+put-count-requires c κs = let p = c .before .before .before in let s = s1 p in going-room (text " " ++ natural (s .args .number)) (left3 s) (s .pre) (at1 p)
+
+put-count-requires-2 : tie.Need-put-count-requires-2
+put-count-requires-2 c κs = let p = c .before .before .before in let s = s2 p in going-room (text " " ++ natural (s .args .system)) (left4 s) (s .pre) (at2 p)
+
+put-count-requires-3 : tie.Need-put-count-requires-3
+put-count-requires-3 c κs = let p = c .before .before .before in let s = s3 p in going-room (text " " ++ natural (s .args .row)) (left5 s) (s .pre) (at3 p)
+
+slice-aggregate-put-bytes-2 : tie.Need-slice-aggregate-put-bytes-2
+slice-aggregate-put-bytes-2 c = search needs
+
+put-bytes-requires-2 : tie.Need-put-bytes-requires-2
+put-bytes-requires-2 c κs = let p = c .before .before .before .before in let s = s4 p in going-room (text "\n") [] (s .pre) (at4 p)
+
+same-length : tie.Need-same-length
+same-length c = search needs
+
+returns : tie.Need-returns
+returns c = going-done (at5 (c .before .before))
+
+pub put-refused-spec : {M : Type 1} → statement M
+put-refused-spec =
+    tie.close
+    (tie.spec
+    slice-aggregate-put-bytes
+    put-bytes-requires
+    put-count-requires
+    put-count-requires-2
+    put-count-requires-3
+    slice-aggregate-put-bytes-2
+    put-bytes-requires-2
+    same-length
+    returns)

@@ -1,0 +1,37 @@
+// The text of a sheet, and the library's entry: a case judged, its figures made, its sheet written into the lent buffer.
+mod lengths;
+mod lines;
+mod name;
+mod put;
+mod sections;
+
+ghost use mathlib.Core.Path.{_≡_};
+ghost use Rattle.meaning.specs.Answers.{stops};
+ghost use Rattle.meaning.specs.Outcome.{Settled, settle};
+ghost use Rattle.proposal.specs.Judges.{runsOf};
+use meaning::Answer;
+
+// Whether an answer is a refusal.
+fn is_refusal(answer: Answer) -> bool
+    ensures { λ r. ⌜ r ≡ stops answer ⌝ }
+{
+    tables::values(answer).number >= 1
+}
+
+// Judges a case and writes its sheet: the answer, and the buffer afterwards, of any bytes, runs and buffer. Nothing is written before all is judged
+// and the sheet's length known.
+pub fn write(file: &[u8], base: &[i64], wider: &[i64], local: &[i64], out: &mut [u8]) -> Answer
+    ensures { λ r. ⌜ _≡_ {A = Settled} (record { answer = r; buffer = now (out .exit) }) (settle (now (file .entry)) (runsOf (now (base .entry)) (now (wider .entry)) (now (local .entry))) (now (out .entry))) ⌝ }
+{
+    let charged = charges::charge(file, base, wider, local);
+    let answer = charged.answer;
+    if is_refusal(answer) {
+        return answer;
+    }
+    let figures = charged.figures;
+    let length = lengths::sheet_len(figures, file);
+    if out.len() < length {
+        return Answer::ShortBuffer;
+    }
+    Answer::Accepted(sections::write_sheet(figures, file, out))
+}

@@ -1,0 +1,163 @@
+//! Cases that others are made from by a change, and short ways to write rows.
+
+use super::{changed, solved};
+use crate::file::{padded, Case, CircuitRow, Name, NodeRow, Settings, StationRow};
+use crate::text;
+
+/// A text of the folder of texts, by its name.
+macro_rules! text_named {
+    ($name:literal) => {
+        ($name, include_str!(concat!("../../../cases/", $name, ".txt")))
+    };
+}
+
+/// The folder of texts.
+pub const TEXTS: [(&str, &str); 10] = [
+    text_named!("KILN"),
+    text_named!("CUSC1421"),
+    text_named!("TUT1"),
+    text_named!("TUT1_P5"),
+    text_named!("TUT1_P150"),
+    text_named!("TUT1_P200"),
+    text_named!("TUT2_275"),
+    text_named!("CUSC1422"),
+    text_named!("TUT8_TARIFF"),
+    text_named!("ALONE"),
+];
+
+/// The case of a text of the folder.
+pub fn named_case(name: &str) -> Case {
+    let (_, text) = TEXTS.into_iter().find(|(known, _)| *known == name).expect("a text of the folder");
+    text::parse(text.as_bytes()).expect("a text without faults").case
+}
+
+/// 01's own case.
+pub fn kiln() -> Case {
+    named_case("KILN")
+}
+
+/// KILN with A-C marked. The solutions of all three systems are whole numbers, none of them all zero.
+pub fn kiln_marked() -> Case {
+    solved(&changed(&kiln(), |case| case.circuits[2].mark = 1))
+}
+
+/// KILN with three generation zones, one a node, and two demand zones: NODB in the second.
+pub fn kiln_zoned() -> Case {
+    changed(&kiln(), |case| {
+        (case.settings.generation_zones, case.settings.demand_zones) = (3, 2);
+        (case.nodes[1].generation_zone, case.nodes[1].demand_zone) = (2, 2);
+        case.nodes[2].generation_zone = 3;
+    })
+}
+
+/// KILN with a fourth node of 300 kW demand behind a circuit without length.
+pub fn kiln_with_a_spur() -> Case {
+    solved(&changed(&kiln(), |case| {
+        case.nodes.push(node("NODD", 300));
+        case.circuits.push(circuit("NODC", "NODD", 1, 0));
+        case.stations[0].tec = 200_400;
+        case.stations[1].tec = 100_200;
+    }))
+}
+
+/// KILN with one more node and one more station at it, of no demand and no TEC, and solutions of zeros there: for rows.
+pub fn kiln_of_four() -> Case {
+    changed(&kiln(), |case| {
+        case.nodes.push(node("NODD", 0));
+        case.circuits.push(circuit("NODC", "NODD", 1, 0));
+        case.stations.push(station("GEN_3", "NODD", 0));
+        for run in &mut case.runs {
+            run.insert(3, 0);
+            run.push(0);
+        }
+    })
+}
+
+/// Five nodes with lengths of all six kinds, overhead and cable at each voltage, one circuit marked, reference row 3.
+pub fn all_kinds() -> Case {
+    let length = |voltage, overhead, cable, row: CircuitRow| CircuitRow { voltage, overhead, cable, ..row };
+    let places = [("HUB", 1, 1, 70_000), ("WEST", 2, 1, 0), ("NORTH", 3, 2, 5_000), ("EAST", 4, 2, 12_000)];
+    let mut nodes: Vec<NodeRow> = places.map(|(text, g, d, demand)| zoned_node(text, g, d, demand)).into();
+    nodes.push(zoned_node("FAR_EAST", 4, 1, 1_000));
+    let marked = CircuitRow { mark: 1, ..circuit("FAR_EAST", "EAST", 30, 0) };
+    solved(&Case {
+        settings: Settings {
+            generation_zones: 4,
+            demand_zones: 2,
+            p: 730,
+            constant: 1_234,
+            wider_factor: 1_800,
+            local_factor: 1_150,
+            factors: [1_000, 10_200, 1_140, 11_450, 2_800, 22_580],
+            reference: 3,
+            zero: 0,
+            revenue: 7_654_321,
+        },
+        nodes,
+        circuits: vec![
+            length(400, 10_000, 2_000, circuit("WEST", "HUB", 100, 0)),
+            length(275, 8_000, 1_000, circuit("NORTH", "HUB", 150, 0)),
+            length(132, 5_000, 500, circuit("HUB", "EAST", 200, 0)),
+            length(400, 17_000, 0, circuit("NORTH", "WEST", 250, 0)),
+            length(132, 700, 70, marked),
+        ],
+        stations: vec![
+            station("WIND", "WEST", 50_001),
+            station("WATER", "NORTH", 40_000),
+            station("SUN", "FAR_EAST", 20_000),
+        ],
+        runs: Default::default(),
+    })
+}
+
+/// Three nodes in a line, GENR to MID unmarked and MID to LOAD marked, each 1,000 m; 1,000 kW; reference LOAD. A change
+/// of GENR's potential is a miss of the first circuit alone.
+pub fn line() -> Case {
+    let mut case = pair(1_000, vec![circuit("GENR", "MID", 100, 1_000), circuit("MID", "LOAD", 100, 1_000)]);
+    case.nodes.insert(1, node("MID", 0));
+    case.circuits[1].mark = 1;
+    case.settings.reference = 3;
+    solved(&case)
+}
+
+/// Two nodes: a station of so many kW at GENR, the reference, all demand at LOAD; solutions all zero.
+pub fn pair(kw: u32, circuits: Vec<CircuitRow>) -> Case {
+    let rows = 2 + circuits.len();
+    Case {
+        settings: Settings { reference: 1, ..kiln().settings },
+        nodes: vec![node("GENR", 0), node("LOAD", kw)],
+        circuits,
+        stations: vec![station("ST", "GENR", kw)],
+        runs: std::array::from_fn(|_| vec![0; rows]),
+    }
+}
+
+/// A well-formed name.
+pub fn name(text: &str) -> Name {
+    padded(text.as_bytes())
+}
+
+/// A node of zone 1 and 1.
+pub fn node(text: &str, demand: u32) -> NodeRow {
+    zoned_node(text, 1, 1, demand)
+}
+
+/// A node of a generation and a demand zone.
+pub fn zoned_node(text: &str, generation_zone: u32, demand_zone: u32, demand: u32) -> NodeRow {
+    NodeRow { name: name(text), generation_zone, demand_zone, demand }
+}
+
+/// An unmarked 400 kV overhead circuit.
+pub fn circuit(first: &str, second: &str, x: u32, overhead: u32) -> CircuitRow {
+    CircuitRow { first: name(first), second: name(second), voltage: 400, x, overhead, cable: 0, mark: 0 }
+}
+
+/// A station of type 7.
+pub fn station(identifier: &str, node: &str, tec: u32) -> StationRow {
+    StationRow { identifier: name(identifier), node: name(node), plant: 7, tec }
+}
+
+/// Numbers of zero for as many rows as a case has.
+pub fn zeros(case: &Case) -> [Vec<i64>; 3] {
+    std::array::from_fn(|_| vec![0; case.nodes.len() + case.circuits.len()])
+}
