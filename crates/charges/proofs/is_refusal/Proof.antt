@@ -1,3 +1,4 @@
+-- `charges::is_refusal` meets its contract.
 use mathlib.Core.Path.{ap}
 use lib.Dec.{leb}
 use Rattle.meaning.specs.declared.Values.{Values}
