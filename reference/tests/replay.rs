@@ -6,7 +6,7 @@ use std::collections::{BTreeMap, HashMap};
 
 /// A stored file of the folder of data.
 fn stored(name: &str) -> Vec<u8> {
-    let path = concat!(env!("CARGO_MANIFEST_DIR"), "/../data/");
+    let path = concat!(env!("CARGO_MANIFEST_DIR"), "/../crates/replay/");
     std::fs::read(format!("{path}{name}")).unwrap_or_else(|fault| panic!("{name}: {fault}"))
 }
 
@@ -73,8 +73,8 @@ fn lengths_go_from_nothing_to_the_longest() {
 fn stored_files_are_made_again() {
     let made = archive(&cases());
     assert!(made.len() < 1_500_000, "{}", made.len());
-    assert!(stored("replay.archive") == made, "data/replay.archive is another archive");
-    assert!(stored("replay.expected") == expected(&made).unwrap(), "data/replay.expected is another text");
+    assert!(stored("stdin") == made, "crates/replay/stdin is another archive");
+    assert!(stored("stdout") == expected(&made).unwrap(), "crates/replay/stdout is another text");
 }
 
 #[test]

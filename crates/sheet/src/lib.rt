@@ -30,11 +30,12 @@ pub fn write(file: &[u8], base: &[i64], wider: &[i64], local: &[i64], out: &mut 
         return answer;
     }
     let figures = charged.figures;
-    let length = lengths::sheet_len(figures, file);
-    if out.len() < length {
+    let needed = lengths::sheet_len(figures, file);
+    if out.len() < needed {
         return Answer::ShortBuffer;
     }
-    Answer::Accepted(sections::write_sheet(figures, file, out))
+    let length = sections::write_sheet(figures, file, out);
+    Answer::Accepted(length)
 }
 
 // Writes the line of a refusal at the front of a buffer of at least 96 bytes, which holds any; a shorter one is left as it is, and the length is then 0.

@@ -1,0 +1,90 @@
+// The entry called with KILN, lent buffers of several lengths and runs of wrong lengths: prints each answer's values, and whether the buffer changed.
+use libc::STDIN_FILENO;
+use libc::STDOUT_FILENO;
+
+// Six numbers of a solution, and a seventh that is one too many.
+fn run_at(file: &[u8], at: usize) -> [i64; 7] {
+    if at > 1000 {
+        return [0; 7];
+    }
+    [
+        fields::i64_at(file, at),
+        fields::i64_at(file, at + 8),
+        fields::i64_at(file, at + 16),
+        fields::i64_at(file, at + 24),
+        fields::i64_at(file, at + 32),
+        fields::i64_at(file, at + 40),
+        0,
+    ]
+}
+
+// How many bytes of a buffer are still 7.
+fn sevens(out: &[u8]) -> usize {
+    let mut count: usize = 0;
+    let mut i = 0;
+    while i < out.len() {
+        if out[i] == 7 {
+            count += 1;
+        }
+        i += 1;
+    }
+    count
+}
+
+// One call: what it answers, and how much of the buffer is as it was.
+fn call(file: &[u8], base: &[i64], wider: &[i64], local: &[i64], out: &mut [u8]) {
+    let answer = sheet::write(file, base, wider, local, out);
+    let carried = tables::values(answer);
+    io::print_decimal(STDOUT_FILENO, carried.number as u64);
+    io::write_all(STDOUT_FILENO, b" ");
+    io::print_decimal(STDOUT_FILENO, carried.system as u64);
+    io::write_all(STDOUT_FILENO, b" ");
+    io::print_decimal(STDOUT_FILENO, carried.row as u64);
+    io::write_all(STDOUT_FILENO, b" ");
+    io::print_decimal(STDOUT_FILENO, carried.length as u64);
+    io::write_all(STDOUT_FILENO, b", as before: ");
+    io::print_decimal(STDOUT_FILENO, sevens(out) as u64);
+    io::write_all(STDOUT_FILENO, b"\n");
+}
+
+// A call with a buffer of 200 bytes.
+fn call_with_room(file: &[u8], base: &[i64], wider: &[i64], local: &[i64]) {
+    let mut out = [7u8; 200];
+    call(file, base, wider, local, &mut out);
+}
+
+// An exact fit, one byte too few, no byte, and more than enough.
+fn buffers(file: &[u8], base: &[i64], wider: &[i64], local: &[i64]) {
+    let mut exact = [7u8; 117];
+    call(file, base, wider, local, &mut exact);
+    io::write_all(STDOUT_FILENO, &exact);
+    let mut short = [7u8; 116];
+    call(file, base, wider, local, &mut short);
+    let mut none = [7u8; 0];
+    call(file, base, wider, local, &mut none);
+    call_with_room(file, base, wider, local);
+}
+
+// A run too short, one too long, an empty one, two exchanged, and an empty file.
+fn wrong_runs(file: &[u8], base: &[i64], wider: &[i64], local: &[i64], long: &[i64]) {
+    if base.len() < 5 {
+        return;
+    }
+    call_with_room(file, &base[0..5], wider, local);
+    call_with_room(file, base, long, local);
+    call_with_room(file, base, wider, &local[..0]);
+    call_with_room(file, wider, base, local);
+    call_with_room(&file[..0], base, wider, local);
+}
+
+fn main() {
+    let mut input = io::buffer();
+    let read = io::read_full(STDIN_FILENO, &mut input);
+    let file = &input[..read];
+    let base = run_at(file, 332);
+    let wider = run_at(file, 380);
+    let local = run_at(file, 428);
+    buffers(file, &base[0..6], &wider[0..6], &local[0..6]);
+    let long = run_at(file, 380);
+    wrong_runs(file, &base[0..6], &wider[0..6], &local[0..6], &long);
+}
