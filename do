@@ -5,8 +5,10 @@ cd "$(dirname "${BASH_SOURCE[0]}")"
 case "${1:-help}" in
 gate) exec .ci/run ;;                                   # the verdict, from nothing
 kiln)                                                   # build the program and print the sheet of case KILN
-    rt check tariff >target.log 2>&1 || { cat target.log; rm -f target.log; exit 1; }
-    rm -f target.log
+    echo "proving and building the program; the first time takes some minutes" >&2
+    log=$(mktemp)
+    rt check tariff >"$log" 2>&1 || { cat "$log"; rm -f "$log"; exit 1; }
+    rm -f "$log"
     exec target/bin/tariff <crates/tariff/stdin
     ;;
 check) shift && exec rt check "$@" ;;                   # prove these crates and what they depend on

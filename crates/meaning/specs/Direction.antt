@@ -1,4 +1,4 @@
--- 01, step 4: expanded length, direction and signed length of a circuit.
+-- 01, step 4 (CUSC 14.15.10, 14.15.42 to 47 for lengths; the bands are 01's own): expanded length, direction and signed length of a circuit.
 use mathlib.Core.Bool.{Bool, true, false, cond}
 use Prim.Native.Nat.{ℕ, _+_, _*_}
 use lib.Dec.{eqb, leb}

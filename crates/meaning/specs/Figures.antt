@@ -11,15 +11,15 @@ use Rattle.meaning.specs.Study.{Kw, Metres, MicroPerKw, Settings, Runs, 
 use Rattle.meaning.specs.Grid.{Grid, nodeTec, payingTec, nodeDemand}
 use Rattle.meaning.specs.Proposal.{potential}
 
--- step 6: "the nearest of potential / 1,000,000,000"
+-- step 6 (CUSC 14.15.4, 14.15.13): "the nearest of potential / 1,000,000,000"
 unfoldable pub metres : (nanometres : ℤ) → Metres
 metres nanometres = nearest nanometres 1000000000
 
--- step 9: "the nearest of metres x constant x security factor / 100,000"
+-- step 9 (CUSC 14.15.60, 14.15.61): "the nearest of metres x constant x security factor / 100,000"
 unfoldable pub tariff : Metres → (constant factor : ℕ) → MicroPerKw
 tariff m constant factor = nearest (m *ℤ pos constant *ℤ pos factor) 100000
 
--- step 10: "rest / total kW rounded down (also below zero)", and "what is left"
+-- step 10 (CUSC 14.22(vi), 14.23(v)): "rest / total kW rounded down (also below zero)", and "what is left"
 unfoldable pub residualOf : (rest : ℤ) → Kw → MicroPerKw
 residualOf rest kw = floorDiv rest kw
 
@@ -33,7 +33,7 @@ widerMetres runs v = metres (potential (runs .wider) v)
 unfoldable pub localMetres : Runs → ℕ → Metres
 localMetres runs v = metres (potential (runs .local) v)
 
--- step 6: "A demand node's distance is the negative of its rounded wider one"
+-- step 6 (CUSC 14.15.13): "A demand node's distance is the negative of its rounded wider one"
 unfoldable pub distance : Runs → Side → ℕ → Metres
 distance runs Generation v = widerMetres runs v
 distance runs Demand v = negℤ (widerMetres runs v)
@@ -51,7 +51,7 @@ module _ (G : Grid) where
   zoneOf Generation v = node nodes v .generationZone
   zoneOf Demand v = node nodes v .demandZone
 
-  -- step 7: kilowatts of node v that weigh, "generation weighted by TEC, demand by demand"
+  -- step 7 (CUSC 14.22(i), 14.23(i)): kilowatts of node v that weigh, "generation weighted by TEC, demand by demand"
   unfoldable pub weight : Side → ℕ → Kw
   weight Generation v = nodeTec G v
   weight Demand v = nodeDemand G v
@@ -81,13 +81,13 @@ module _ (G : Grid) where
   target Demand = pos (revenue * p * 1000)
 
   module _ (runs : Runs) where
-    -- step 7: "the nearest of the average over the zone's nodes"
+    -- step 7 (CUSC 14.22(ii), 14.23(ii)): "the nearest of the average over the zone's nodes"
     unfoldable pub zonalMetres : Side → ℕ → Metres
     zonalMetres side zone =
         nearest (Σ (length nodes) (λ v. cond (eqb (zoneOf side v) zone) (distance runs side v *ℤ pos (weight side v)) (pos 0)))
         (zoneWeight side zone)
 
-    -- step 8
+    -- step 8 (CUSC 14.15.63, 14.15.64): "C is the nearest of" what demand's and generation's zones bring, by their shares of the revenue
     unfoldable pub C : Metres
     C =
         nearest (pos (1000 - p) *ℤ overZones Demand (zonalMetres Demand) -ℤ pos p *ℤ overZones Generation (zonalMetres Generation))
@@ -98,14 +98,14 @@ module _ (G : Grid) where
     afterC Generation zone = zonalMetres Generation zone +ℤ C
     afterC Demand zone = zonalMetres Demand zone -ℤ C
 
-    -- step 9: "Local tariffs use the node's local metres and the local factor, without C."
+    -- step 9 (CUSC 14.15.65): "Local tariffs use the node's local metres and the local factor, without C."
     unfoldable pub zoneTariff : Side → ℕ → MicroPerKw
     zoneTariff side zone = tariff (afterC side zone) constant widerFactor
 
     unfoldable pub localTariff : ℕ → MicroPerKw
     localTariff v = tariff (localMetres runs v) constant localFactor
 
-    -- step 10: "node local tariffs times TEC"; demand has none
+    -- step 10 (CUSC 14.15.72): "node local tariffs times TEC"; demand has none
     unfoldable pub localIncome : Side → ℤ
     localIncome Generation = Σ (length nodes) (λ v. localTariff v *ℤ pos (payingTec G v))
     localIncome Demand = pos 0
@@ -120,6 +120,6 @@ module _ (G : Grid) where
     unfoldable pub remainder : Side → ℤ
     remainder side = remainderOf (rest side) (totalPaying side)
 
-    -- "A zone's total is its tariff plus the residual."
+    -- step 10 (CUSC 14.22(vii), 14.23(vi)): "A zone's total is its tariff plus the residual."
     unfoldable pub zoneTotal : Side → ℕ → MicroPerKw
     zoneTotal side zone = zoneTariff side zone +ℤ residual side

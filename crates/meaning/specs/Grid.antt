@@ -15,7 +15,7 @@ use Rattle.meaning.specs.declared.Answer.{Answer}
 use Rattle.meaning.specs.declared.Answer.the-variants.{BadTotal}
 use Rattle.meaning.specs.Answers.{unless}
 
--- 01, The case file: plant types 1 to 7 "are the rows of the table in 14.15.7, in order"
+-- 01, The case file (CUSC 14.15.7 of the later edition): plant types 1 to 7 "are the rows of the table in 14.15.7, in order"
 unfoldable pub plantOf : (plantType : ℕ) → Plant
 plantOf t =
     cond (eqb t 1) Intermittent

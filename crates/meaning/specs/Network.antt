@@ -1,4 +1,4 @@
--- The network of a grid: nodes and circuits by number, and what a walk along circuits reaches.
+-- The network of a grid (reference node: CUSC 14.15.11): nodes and circuits by number, and what a walk along circuits reaches.
 use mathlib.Core.Path.{_≡_}
 use mathlib.Core.Bool.{Bool, false, _&&_, _||_}
 use mathlib.Core.List.{List}

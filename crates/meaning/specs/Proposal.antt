@@ -1,4 +1,4 @@
--- 01, step 2: a proposed solution, judged once over supply and offset.
+-- 01, step 2 (CUSC 14.15.12, 14.21: the load flow; its form as potentials and misses is 01's own): a proposed solution, judged once over supply and offset.
 use mathlib.Core.Bool.{Bool, cond, not, _&&_, _||_}
 use mathlib.Core.List.{List}
 use Prim.Native.Nat.{ℕ, _+_}

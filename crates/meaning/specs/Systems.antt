@@ -1,4 +1,4 @@
--- 01, steps 1, 3, 4 and 5: supply and offset of the three systems, and the order in which their runs are judged.
+-- 01, steps 1, 3, 4 and 5 (CUSC 14.15.11 to 14, 14.15.16 to 20): supply and offset of the three systems, and the order in which their runs are judged.
 use mathlib.Core.Bool.{Bool, cond, not, _||_}
 use mathlib.Core.List.{List}
 use Prim.Native.Nat.{ℕ}
