@@ -1,0 +1,33 @@
+-- The program reads at most 65,536 bytes: no longer input is a whole file, so what it prints is that of the whole input.
+use Prim.Native.Nat.{ℕ, _<_}
+use mathlib.Core.Path.{_≡_, refl, sym, ap, _∙_}
+use mathlib.Core.Bool.{Bool, true, false}
+use mathlib.Core.List.{List}
+use native.Mathlib.Omega.{arith}
+use native.Mathlib.Decide.{decLt}
+use lib.ListN.{length, take}
+use lib.Seq.{take-all, length-take-le}
+use Rattle.meaning.specs.File.{fileWhole, runsIn}
+use Rattle.meaning.specs.Outcome.{prints}
+use Rattle.meaning.proofs.Starts.{file-length}
+use Rattle.columns.proofs.FileLaws.{whole-file}
+use Rattle.output.proofs.Printing.{not-whole}
+
+-- 256 nodes, 512 circuits and 512 stations make the longest file
+pub long-not-whole : (file : List ℕ) → 63616 < length file → fileWhole file ≡ false
+long-not-whole file h = go (fileWhole file) refl
+  where
+    go : (t : Bool) → fileWhole file ≡ t → fileWhole file ≡ false
+    go true e = let w = whole-file file e in absurd (omega (arith, file-length file (runsIn file) w, w .nodes .most, w .circuits, w .stations))
+    go false e = e
+
+-- 01, The sheet: "The program reads one case from standard input."
+pub input-cut : (input : List ℕ) → prints (take 65536 input) ≡ prints input
+input-cut input = go (decLt 65536 (length input))
+  where
+    go : Dec (65536 < length input) → prints (take 65536 input) ≡ prints input
+    go (yes h) =
+        let l : length (take 65536 input) ≡ 65536 = length-take-le 65536 input (omega arith) in
+        sym (not-whole (take 65536 input) (long-not-whole (take 65536 input) (omega arith)))
+        ∙ not-whole input (long-not-whole input (omega arith))
+    go (no h) = ap prints (take-all 65536 input (omega arith))
