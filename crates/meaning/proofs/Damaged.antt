@@ -43,7 +43,7 @@ spaced : judged (set kiln 89 32) kilnRuns ≡ BadNode 2
 unfolding opened
 spaced = refl
 
--- 3, "Lowest row first": a repeated name in row 2 before a zone 0 in row 3 (byte 124), and the same the other way round
+-- 3, "Lowest row first": a repeated name in row 2 before an empty one in row 3, and an empty one in row 2 before a repeated one in row 3
 repeat-first : withTables (nodeOf "NODA" 0 ∷ nodeOf "NODA" 30000 ∷ nodeOf "" 120000 ∷ []) kilnCircuits kilnStations ≡ BadNode 2
 unfolding opened
 repeat-first = refl
