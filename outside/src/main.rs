@@ -1,0 +1,54 @@
+//! Holds the proved library and program to the independent reference, on inputs by chance. `--help` tells how.
+
+mod compare;
+mod faults;
+mod input;
+mod library;
+mod networks;
+mod program;
+mod tally;
+
+use compare::{Compare, Plan};
+use std::process::exit;
+
+const USAGE: &str = "usage: outside short|long|memory [--seed N] --run WORDS --caller PROGRAM [--tariff PROGRAM --replay PROGRAM]
+Holds the library (through PROGRAM caller) and the programs to the reference. WORDS, which may be empty, run an x86-64 program.
+  short    some 10,000 inputs     long    more than 200,000 inputs     memory    some 2,000 inputs, for a slow memory checker
+Exit status: 0 no difference and no answer or cause too rare; 1 otherwise; 2 it could not be tried.";
+
+fn main() {
+    let mut words = std::env::args().skip(1);
+    let plan = match words.next().as_deref() {
+        Some("short") => Plan::SHORT,
+        Some("long") => Plan::LONG,
+        Some("memory") => Plan::MEMORY,
+        Some("--help") => return println!("{USAGE}"),
+        _ => fail(USAGE),
+    };
+    let (mut seed, mut prefix, mut programs) = (None, Vec::new(), [const { Vec::new() }; 3]);
+    while let Some(word) = words.next() {
+        let value = words.next().unwrap_or_else(|| fail(&format!("{word} needs a value")));
+        match word.as_str() {
+            "--seed" => seed = Some(value.parse().unwrap_or_else(|_| fail("--seed needs a number"))),
+            "--run" => prefix = value.split_whitespace().map(String::from).collect(),
+            "--caller" => programs[0] = vec![value],
+            "--tariff" => programs[1] = vec![value],
+            "--replay" => programs[2] = vec![value],
+            _ => fail(USAGE),
+        }
+    }
+    let seed = seed.unwrap_or_else(|| std::time::UNIX_EPOCH.elapsed().map_or(1, |time| time.as_secs()));
+    let commands =
+        programs.map(|program| if program.is_empty() { program } else { [prefix.clone(), program].concat() });
+    if commands[0].is_empty() {
+        fail(USAGE);
+    }
+    let passed =
+        Compare::start(plan, seed, commands).and_then(Compare::run).unwrap_or_else(|error| fail(&error.to_string()));
+    exit(if passed { 0 } else { 1 });
+}
+
+fn fail(reason: &str) -> ! {
+    eprintln!("outside: {reason}");
+    exit(2)
+}
