@@ -152,7 +152,7 @@ impl Compare {
         let chance = &mut self.chance;
         let nodes = if most == 256 { 256 } else { chance.within(1, most as u64) as usize };
         let (shape, taste) = (
-            if nodes == 256 && number % 2 == 0 { SHAPES[5] } else { chance.of(&SHAPES) },
+            if nodes == 256 && number % 4 != 0 { SHAPES[5] } else { chance.of(&SHAPES) },
             TASTES[number % TASTES.len()],
         );
         let case = network(chance, shape, taste, nodes);

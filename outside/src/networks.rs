@@ -1,6 +1,7 @@
 //! Networks by chance, of every size and shape, solved: what the other inputs are made from.
 
 use reference::file::{padded, Case, CircuitRow, Name, NodeRow, Settings, StationRow};
+use reference::judge_case;
 use reference::random::Chance;
 use reference::solver::solved;
 
@@ -162,25 +163,35 @@ pub fn network(
     }
     set_totals(chance, &mut case, taste);
     add_spur(chance, &mut case);
-    without_doubt(chance, solved(&case).0)
+    mended(chance, solved(&case).0)
 }
 
-/// Mostly, takes the length off each circuit whose direction is in doubt: base flows stay, and the case is accepted.
-fn without_doubt(chance: &mut Chance, mut case: Case) -> Case {
-    let nodes = case.nodes.len();
-    let flows = case.runs[0][nodes..].to_vec();
-    let doubtful = |flow: &i64| (200_000_001..=400_000_000).contains(&flow.unsigned_abs());
-    let mut rows = case
-        .circuits
-        .iter_mut()
-        .zip(&flows)
-        .filter(|(row, flow)| doubtful(flow) && row.overhead + row.cable > 0)
-        .peekable();
-    if rows.peek().is_none() || chance.within(0, 7) == 0 {
-        return case;
+/// Mostly, mends what stops a case that is solved: a direction in doubt by no length, numbers out of range by less x or less length.
+fn mended(chance: &mut Chance, mut case: Case) -> Case {
+    let kept = chance.within(0, 7) == 0;
+    for _ in 0..6 {
+        let runs = [&case.runs[0][..], &case.runs[1], &case.runs[2]];
+        match judge_case(&case.bytes(), runs).err().map(|refusal| (refusal.number, refusal.system)) {
+            Some((11, _)) if !kept => take_doubt_away(&mut case),
+            Some((8, 1)) if !kept => case.circuits.iter_mut().for_each(|row| row.x = (row.x / 10).max(1)),
+            Some((8, _)) if !kept => {
+                case.circuits.iter_mut().for_each(|row| (row.overhead, row.cable) = (row.overhead / 10, row.cable / 10))
+            }
+            _ => break,
+        }
+        case = solved(&case).0;
     }
-    rows.for_each(|(row, _)| (row.overhead, row.cable) = (0, 0));
-    solved(&case).0
+    case
+}
+
+/// No length for a circuit whose base flow is in the band of doubt.
+fn take_doubt_away(case: &mut Case) {
+    let nodes = case.nodes.len();
+    for (row, flow) in case.circuits.iter_mut().zip(&case.runs[0][nodes..]) {
+        if (200_000_001..=400_000_000).contains(&flow.unsigned_abs()) {
+            (row.overhead, row.cable) = (0, 0);
+        }
+    }
 }
 
 fn total_tec(case: &Case) -> u64 {
