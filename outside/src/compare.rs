@@ -47,15 +47,6 @@ impl Plan {
         least_answer: 1_000,
         least_cause: 100,
     };
-    pub const MEMORY: Plan = Plan {
-        sizes: [(12, 60, 8), (60, 4, 8), (255, 1, 4), (256, 2, 2)],
-        random_bytes: 300,
-        replay: false,
-        tariff: u64::MAX,
-        archive: u64::MAX,
-        least_answer: 1,
-        least_cause: 0,
-    };
 }
 
 /// Pairs whose order 01 is asked about most: number and system of each.

@@ -11,9 +11,10 @@ mod tally;
 use compare::{Compare, Plan};
 use std::process::exit;
 
-const USAGE: &str = "usage: outside short|long|memory [--seed N] --run WORDS --caller PROGRAM [--tariff PROGRAM --replay PROGRAM]
+const USAGE: &str = "usage: outside short|long [--seed N] --run WORDS --caller PROGRAM [--tariff PROGRAM --replay PROGRAM]
 Holds the library (through PROGRAM caller) and the programs to the reference. WORDS, which may be empty, run an x86-64 program.
-  short    some 10,000 inputs     long    more than 200,000 inputs     memory    some 2,000 inputs, for a slow memory checker
+  short    some 10,000 inputs     long    more than 200,000 inputs
+outside seeds FOLDER writes the cases of the replay's list up to 8,184 bytes as inputs of the fuzz target.
 Exit status: 0 no difference and no answer or cause too rare; 1 otherwise; 2 it could not be tried.";
 
 fn main() {
@@ -21,7 +22,7 @@ fn main() {
     let plan = match words.next().as_deref() {
         Some("short") => Plan::SHORT,
         Some("long") => Plan::LONG,
-        Some("memory") => Plan::MEMORY,
+        Some("seeds") => return seeds(&words.next().unwrap_or_else(|| fail(USAGE))),
         Some("--help") => return println!("{USAGE}"),
         _ => fail(USAGE),
     };
@@ -46,6 +47,15 @@ fn main() {
     let passed =
         Compare::start(plan, seed, commands).and_then(Compare::run).unwrap_or_else(|error| fail(&error.to_string()));
     exit(if passed { 0 } else { 1 });
+}
+
+/// Inputs of the fuzz target: eight bytes that lend a buffer for any sheet, four numbers and the file's own runs; then a file.
+fn seeds(folder: &str) {
+    for (number, case) in reference::replay::cases().iter().enumerate().filter(|(_, case)| case.file.len() <= 8_184) {
+        let input = [&[0, 128, 4, 0, 0, 0, 0, 0], &case.file[..]].concat();
+        let written = std::fs::write(format!("{folder}/{number:04}"), input);
+        written.unwrap_or_else(|error| fail(&format!("cannot write to {folder}: {error}")));
+    }
 }
 
 fn fail(reason: &str) -> ! {
