@@ -13,7 +13,7 @@ use Rattle.meaning.specs.Proposal.{potential}
 use Rattle.meaning.proofs.Answers.{Passes}
 use Rattle.tables.specs.declared.Opened.{Opened}
 use Rattle.proposal.specs.Judges.{Judges}
-use Rattle.charges.specs.declared.figures.Figures.{Figures}
+use Rattle.meaning.specs.declared.Figures.{Figures}
 use Rattle.charges.specs.declared.sides.MoneySettings.{MoneySettings}
 use Rattle.charges.specs.declared.zones.SideColumns.{SideColumns}
 use Rattle.charges.specs.declared.Charged.{Charged}

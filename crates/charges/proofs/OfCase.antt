@@ -16,10 +16,10 @@ use Rattle.meaning.specs.Grid.{Grid}
 use Rattle.meaning.specs.Proposal.{potential}
 use Rattle.meaning.specs.Figures.{metres, tariff, zones, weight, paying, zoneWeight, zonePaying, totalPaying, overZones, target, zonalMetres, C, afterC, zoneTariff, localMetres, localTariff, localIncome, rest, residual, residualOf, remainder, remainderOf, zoneTotal}
 use Rattle.sizes.specs.Bounds.{KilowattsFit, MetresFit}
-use Rattle.charges.specs.declared.figures.ZoneFigures.{ZoneFigures}
-use Rattle.charges.specs.declared.figures.SideFigures.{SideFigures}
-use Rattle.charges.specs.declared.figures.LocalFigures.{LocalFigures}
-use Rattle.charges.specs.declared.figures.Figures.{Figures}
+use Rattle.meaning.specs.declared.ZoneFigures.{ZoneFigures}
+use Rattle.meaning.specs.declared.SideFigures.{SideFigures}
+use Rattle.meaning.specs.declared.LocalFigures.{LocalFigures}
+use Rattle.meaning.specs.declared.Figures.{Figures}
 use Rattle.charges.specs.declared.sides.MoneySettings.{MoneySettings}
 use Rattle.charges.specs.declared.zones.SideColumns.{SideColumns}
 use Rattle.charges.specs.declared.zones.Zones.{Zones}

@@ -14,8 +14,8 @@ use Rattle.meaning.specs.declared.Metres.{Metres}
 use Rattle.meaning.specs.declared.MicroPerKw.{MicroPerKw}
 use Rattle.meaning.specs.declared.Side.{Side}
 use Rattle.meaning.specs.Figures.{tariff, residualOf, remainderOf}
-use Rattle.charges.specs.declared.figures.ZoneFigures.{ZoneFigures}
-use Rattle.charges.specs.declared.figures.SideFigures.{SideFigures}
+use Rattle.meaning.specs.declared.ZoneFigures.{ZoneFigures}
+use Rattle.meaning.specs.declared.SideFigures.{SideFigures}
 use Rattle.charges.specs.declared.sides.MoneySettings.{MoneySettings}
 use Rattle.charges.specs.declared.zones.Zones.{Zones}
 use Rattle.charges.specs.Columns.{kilowatts, distance, price, kwAt, metresAt, priceAt, column}

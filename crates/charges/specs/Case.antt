@@ -8,10 +8,10 @@ use Rattle.meaning.specs.Study.{Runs}
 use Rattle.meaning.specs.Grid.{Grid, nodeTec}
 use Rattle.meaning.specs.Figures.{zones, zoneOf, weight, paying, zoneWeight, zonalMetres, C, afterC, zoneTariff, localMetres, localTariff, residual, remainder, zoneTotal}
 use Rattle.sizes.specs.Bounds.{KilowattsFit, MetresFit}
-use Rattle.charges.specs.declared.figures.ZoneFigures.{ZoneFigures}
-use Rattle.charges.specs.declared.figures.SideFigures.{SideFigures}
-use Rattle.charges.specs.declared.figures.LocalFigures.{LocalFigures}
-use Rattle.charges.specs.declared.figures.Figures.{Figures}
+use Rattle.meaning.specs.declared.ZoneFigures.{ZoneFigures}
+use Rattle.meaning.specs.declared.SideFigures.{SideFigures}
+use Rattle.meaning.specs.declared.LocalFigures.{LocalFigures}
+use Rattle.meaning.specs.declared.Figures.{Figures}
 use Rattle.charges.specs.declared.sides.MoneySettings.{MoneySettings}
 use Rattle.charges.specs.declared.zones.SideColumns.{SideColumns}
 use Rattle.charges.specs.Columns.{kilowatts, distance, price, numberAt, kwAt, column}

@@ -9,8 +9,8 @@ use Rattle.meaning.specs.File.{studyOf}
 use Rattle.meaning.specs.Grid.{gridOf}
 use Rattle.meaning.specs.Answers.{stops}
 use Rattle.meaning.specs.Outcome.{judged}
-use Rattle.charges.specs.declared.figures.SideFigures.{SideFigures}
-use Rattle.charges.specs.declared.figures.Figures.{Figures}
+use Rattle.meaning.specs.declared.SideFigures.{SideFigures}
+use Rattle.meaning.specs.declared.Figures.{Figures}
 use Rattle.charges.specs.declared.Charged.{Charged}
 use Rattle.charges.specs.Columns.{distance, price}
 use Rattle.charges.specs.Steps.{noLocal}

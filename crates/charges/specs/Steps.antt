@@ -10,7 +10,7 @@ use Rattle.meaning.specs.declared.MicroPerKw.{MicroPerKw}
 use Rattle.meaning.specs.declared.Side.{Side}
 use Rattle.meaning.specs.declared.Side.the-variants.{Generation, Demand}
 use Rattle.meaning.specs.Figures.{metres, tariff}
-use Rattle.charges.specs.declared.figures.LocalFigures.{LocalFigures}
+use Rattle.meaning.specs.declared.LocalFigures.{LocalFigures}
 use Rattle.charges.specs.declared.zones.SideColumns.{SideColumns}
 use Rattle.charges.specs.declared.zones.Zones.{Zones}
 use Rattle.charges.specs.Columns.{kilowatts, distance, price, numberAt, kwAt, metresAt, priceAt, column}

@@ -1,7 +1,7 @@
 use crate::distances::metres_of;
-use crate::figures::LocalFigures;
 use crate::tariffs::tariff_of;
 use meaning::Kw;
+use meaning::LocalFigures;
 use meaning::Metres;
 use meaning::MicroPerKw;
 ghost use mathlib.Core.Path.{_≡_};

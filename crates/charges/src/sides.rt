@@ -1,5 +1,3 @@
-use crate::figures::SideFigures;
-use crate::figures::ZoneFigures;
 use crate::income::zone_income;
 use crate::rests::remainder_of;
 use crate::rests::residual_of;
@@ -12,6 +10,8 @@ use meaning::Kw;
 use meaning::Metres;
 use meaning::MicroPerKw;
 use meaning::Side;
+use meaning::SideFigures;
+use meaning::ZoneFigures;
 ghost use mathlib.Core.Path.{_≡_};
 ghost use Prim.Native.Nat.{ℕ, _≤_, _<_};
 ghost use lib.IntN.{pos, natAbs};

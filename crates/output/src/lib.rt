@@ -31,7 +31,7 @@ fn with_runs(file: &[u8], base: &[i64], wider: &[i64], local: &[i64]) -> Printed
 {
     let mut bytes = [0u8; 16384];
     let answer = sheet::write(file, base, wider, local, &mut bytes);
-    let carried = tables::values(answer);
+    let carried = answers::values(answer);
     if carried.number >= 1 {
         return refused(answer);
     }

@@ -22,7 +22,7 @@ pub fn open(file: &[u8], base: &[i64], wider: &[i64], local: &[i64]) -> Opened
 {
     let read = tables::open(file, base.len(), wider.len(), local.len());
     let refusal = read.answer;
-    if order::is_refusal(refusal) {
+    if answers::is_refusal(refusal) {
         return read;
     }
     let counts = read.counts;

@@ -13,9 +13,9 @@ use Rattle.meaning.specs.declared.Side.{Side}
 use Rattle.meaning.specs.declared.Side.the-variants.{Generation, Demand}
 use Rattle.meaning.specs.declared.Metres.{Metres}
 use Rattle.meaning.specs.declared.MicroPerKw.{MicroPerKw}
-use Rattle.charges.specs.declared.figures.ZoneFigures.{ZoneFigures}
-use Rattle.charges.specs.declared.figures.LocalFigures.{LocalFigures}
-use Rattle.charges.specs.declared.figures.Figures.{Figures}
+use Rattle.meaning.specs.declared.ZoneFigures.{ZoneFigures}
+use Rattle.meaning.specs.declared.LocalFigures.{LocalFigures}
+use Rattle.meaning.specs.declared.Figures.{Figures}
 use Rattle.sheet.specs.SheetText.{zoneText, emptyZone, fullZone, distancesOf, pricesOf, zoneTexts, localText, fullNode, localTexts, constantText, remainderText, sheetText}
 
 module _ (side : Side) (zone : ℕ) (residual : MicroPerKw) (z : ZoneFigures) where

@@ -8,8 +8,8 @@ use Rattle.meaning.specs.Rows.{joined}
 use Rattle.meaning.specs.Name.{unpadded}
 use Rattle.meaning.specs.File.{nameAt}
 use Rattle.meaning.specs.declared.Side.{Side}
-use Rattle.charges.specs.declared.figures.SideFigures.{SideFigures}
-use Rattle.charges.specs.declared.figures.Figures.{Figures}
+use Rattle.meaning.specs.declared.SideFigures.{SideFigures}
+use Rattle.meaning.specs.declared.Figures.{Figures}
 use Rattle.charges.specs.Steps.{noLocal}
 use Rattle.charges.specs.Sides.{noLine}
 use Rattle.sheet.specs.SheetText.{zoneText, zoneTexts, localText, localTexts, nameOf}

@@ -15,7 +15,7 @@ use Rattle.meaning.specs.Grid.{gridOf}
 use Rattle.meaning.specs.Outcome.{judged, sheetOf, Settled, refused, written, settle}
 use Rattle.meaning.specs.Conditions.{Acceptable}
 use Rattle.claims.proofs.Accepted.{judged-pass}
-use Rattle.charges.specs.declared.figures.Figures.{Figures}
+use Rattle.meaning.specs.declared.Figures.{Figures}
 use Rattle.charges.specs.declared.Charged.{Charged}
 use Rattle.charges.specs.Charged.{chargedOf}
 use Rattle.charges.specs.Case.{figuresOf}

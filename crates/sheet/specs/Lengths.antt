@@ -4,8 +4,8 @@ use Prim.Native.Nat.{ℕ, _≤_}
 use lib.ListN.{length}
 use Rattle.meaning.specs.declared.Side.{Side}
 use Rattle.meaning.specs.declared.MicroPerKw.{MicroPerKw}
-use Rattle.charges.specs.declared.figures.ZoneFigures.{ZoneFigures}
-use Rattle.charges.specs.declared.figures.SideFigures.{SideFigures}
+use Rattle.meaning.specs.declared.ZoneFigures.{ZoneFigures}
+use Rattle.meaning.specs.declared.SideFigures.{SideFigures}
 use Rattle.sheet.specs.SheetText.{zoneText, zoneTexts}
 
 -- r is the length of a zone's line

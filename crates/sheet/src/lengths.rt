@@ -2,12 +2,12 @@
 use crate::name::name_len;
 use crate::put::natural_len;
 use crate::put::number_len;
-use charges::figures::Figures;
-use charges::figures::LocalFigures;
-use charges::figures::SideFigures;
-use charges::figures::ZoneFigures;
+use meaning::Figures;
+use meaning::LocalFigures;
 use meaning::Metres;
 use meaning::MicroPerKw;
+use meaning::SideFigures;
+use meaning::ZoneFigures;
 ghost use mathlib.Core.Path.{_≡_};
 ghost use Prim.Native.Nat.{_+_, _*_, _≤_};
 ghost use lib.ListN.{length};

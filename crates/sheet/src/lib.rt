@@ -6,18 +6,10 @@ mod put;
 mod sections;
 
 ghost use mathlib.Core.Path.{_≡_};
-ghost use Rattle.meaning.specs.Answers.{stops};
 ghost use Rattle.meaning.specs.Outcome.{Settled, settle};
 ghost use Rattle.proposal.specs.Judges.{runsOf};
 ghost use Rattle.sheet.specs.Refusing.{Refuses};
 use meaning::Answer;
-
-// Whether an answer is a refusal.
-fn is_refusal(answer: Answer) -> bool
-    ensures { λ r. ⌜ r ≡ stops answer ⌝ }
-{
-    tables::values(answer).number >= 1
-}
 
 // Judges a case and writes its sheet: the answer, and the buffer afterwards, of any bytes, runs and buffer. Nothing is written before all is judged
 // and the sheet's length known.
@@ -26,7 +18,7 @@ pub fn write(file: &[u8], base: &[i64], wider: &[i64], local: &[i64], out: &mut 
 {
     let charged = charges::charge(file, base, wider, local);
     let answer = charged.answer;
-    if is_refusal(answer) {
+    if answers::is_refusal(answer) {
         return answer;
     }
     let figures = charged.figures;
@@ -45,6 +37,6 @@ pub fn refuse(answer: Answer, out: &mut [u8]) -> usize
     if out.len() < 96 {
         return 0;
     }
-    let carried = tables::values(answer);
+    let carried = answers::values(answer);
     lines::put_refused(out, 0, carried.number, carried.system, carried.row)
 }

@@ -4,7 +4,6 @@ use crate::nodes;
 use crate::reach;
 use crate::settings;
 use crate::stations;
-use crate::stops;
 use crate::tests;
 use crate::totals;
 use columns::CapacityColumns;
@@ -40,17 +39,17 @@ pub fn rows_stage(
     ensures { λ r. ⌜ r ≡ rowsStage (studyOf (now (file .entry))) ⌝ }
 {
     let setting = tests::unless(settings::sound(read, rows.nodes), Answer::BadSetting);
-    if stops(setting) {
+    if answers::is_refusal(setting) {
         return setting;
     }
     let node = nodes::stage(file, rows.nodes, read.generation_zones, read.demand_zones);
-    if stops(node) {
+    if answers::is_refusal(node) {
         return node;
     }
     let first = ends.first;
     let second = ends.second;
     let circuit = circuits::stage(file, rows.nodes, rows.circuits, &first, &second);
-    if stops(circuit) {
+    if answers::is_refusal(circuit) {
         return circuit;
     }
     let home = at.node;
@@ -72,7 +71,7 @@ pub fn grid_stage(
     let first = ends.first;
     let second = ends.second;
     let reached = reach::stage(nodes, reference, count, &first, &second);
-    if stops(reached) {
+    if answers::is_refusal(reached) {
         return reached;
     }
     totals::stage(nodes, demand, tec)
@@ -92,7 +91,7 @@ pub fn study_stage(
     ensures { λ r. ⌜ r ≡ (rowsStage (studyOf (now (file .entry))) orElse gridStage (gridOf (studyOf (now (file .entry))))) ⌝ }
 {
     let unsound = rows_stage(file, rows, read, ends, at);
-    if stops(unsound) {
+    if answers::is_refusal(unsound) {
         return unsound;
     }
     grid_stage(

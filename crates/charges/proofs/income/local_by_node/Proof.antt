@@ -8,7 +8,7 @@ use lib.ListN.{getD}
 use Rattle.integers.proofs.Machine.{Back, back}
 use Rattle.meaning.specs.declared.Kw.{Kw}
 use Rattle.meaning.specs.Proposal.{potential}
-use Rattle.charges.specs.declared.figures.LocalFigures.{LocalFigures}
+use Rattle.meaning.specs.declared.LocalFigures.{LocalFigures}
 use Rattle.charges.specs.Columns.{kilowatts, column}
 use Rattle.charges.specs.Steps.{localFrom, noLocal}
 use Rattle.charges.proofs.Columns.{column-none, column-turn}

@@ -9,7 +9,7 @@ use Rattle.meaning.specs.declared.Kw.{Kw}
 use Rattle.meaning.specs.declared.Metres.{Metres}
 use Rattle.meaning.specs.declared.MicroPerKw.{MicroPerKw}
 use Rattle.meaning.specs.declared.Side.{Side}
-use Rattle.charges.specs.declared.figures.ZoneFigures.{ZoneFigures}
+use Rattle.meaning.specs.declared.ZoneFigures.{ZoneFigures}
 use Rattle.charges.specs.Columns.{kilowatts, distance, price, column}
 use Rattle.charges.specs.Sides.{lineFrom, noLine}
 use Rattle.charges.proofs.Columns.{column-none, column-turn}

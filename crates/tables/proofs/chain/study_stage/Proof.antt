@@ -12,14 +12,14 @@ use Rattle.tables.proofs.chain.study_stage.Tie as tie
 rows-stage-requires : tie.Need-rows-stage-requires
 rows-stage-requires c κs = search needs
 
-stops-requires : tie.Need-stops-requires
-stops-requires c κs = search needs
+is-refusal-requires : tie.Need-is-refusal-requires
+is-refusal-requires c κs = search needs
 
 rows-pass : (c : tie.Else1) → stops (rowsStage (studyOf (c .before .before .before .before .args .file .now))) ≡ false
-rows-pass c = ap stops (sym (c .before .before .rows-stage .ensures)) ∙ sym (c .before .stops .ensures) ∙ c .if1 .left
+rows-pass c = ap stops (sym (c .before .before .rows-stage .ensures)) ∙ sym (c .before .is-refusal .ensures) ∙ c .if1 .left
 
 returns : tie.Need-returns
-returns c = stops-first _ (c .before .before .rows-stage .ensures) (sym (c .before .stops .ensures) ∙ c .if1 .taken)
+returns c = stops-first _ (c .before .before .rows-stage .ensures) (sym (c .before .is-refusal .ensures) ∙ c .if1 .taken)
 
 sub-grid-stage : tie.Need-sub-grid-stage
 sub-grid-stage c = let t = c .before .before .before .before .before .pre in reference-one (t .0) (t .1) (rows-pass (c .before))
@@ -34,14 +34,14 @@ returns-2 : tie.Need-returns-2
 returns-2 c =
     let t = c .before .before .before .before .before .before .pre in
     let q = c .before .before in
-    passes-first (q .before .before .rows-stage .ensures) (sym (q .before .stops .ensures) ∙ q .if1 .left) (c .grid-stage .ensures ∙ grid-answer (t .0) (t .1) (rows-pass q))
+    passes-first (q .before .before .rows-stage .ensures) (sym (q .before .is-refusal .ensures) ∙ q .if1 .left) (c .grid-stage .ensures ∙ grid-answer (t .0) (t .1) (rows-pass q))
 
 pub study-stage-spec : {M : Type 1} → statement M
 study-stage-spec =
     tie.close
     (tie.spec
     rows-stage-requires
-    stops-requires
+    is-refusal-requires
     returns
     sub-grid-stage
     grid-stage-requires

@@ -1,8 +1,8 @@
 use mathlib.Core.Path.{sym, ap, _∙_}
 use borrow.Author.Needs.{needs}
 use Rattle.meaning.specs.Answers.{values}
-use Rattle.tables.proofs.values.Statement.{statement}
-use Rattle.tables.proofs.values.Tie as tie
+use Rattle.answers.proofs.values.Statement.{statement}
+use Rattle.answers.proofs.values.Tie as tie
 
 enum-known-answer : tie.Need-enum-known-answer
 enum-known-answer c = search needs
