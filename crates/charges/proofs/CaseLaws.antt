@@ -16,10 +16,10 @@ use Rattle.meaning.specs.declared.Figures.{Figures}
 use Rattle.charges.specs.declared.sides.MoneySettings.{MoneySettings}
 use Rattle.charges.specs.declared.zones.SideColumns.{SideColumns}
 use Rattle.charges.specs.declared.zones.Zones.{Zones}
-use Rattle.charges.specs.Columns.{distance, kwAt, column}
-use Rattle.charges.specs.Steps.{zonesFrom, cFrom, localFrom, noLocal, localPrice, ZonesFit}
+use Rattle.meaning.specs.Columns.{distance, kwAt, column, noLocal}
+use Rattle.charges.specs.Steps.{zonesFrom, cFrom, localFrom, localPrice, ZonesFit}
 use Rattle.charges.specs.Sides.{sideFrom, cOf, localAt, localIncomeFrom, figuresFrom, SideFits, CaseFits}
-use Rattle.charges.proofs.Columns.{column-at}
+use Rattle.meaning.proofs.Columns.{column-at}
 use Rattle.charges.proofs.Laws.{worth-most}
 use Rattle.charges.proofs.SideLaws.{tariff-within}
 

@@ -23,11 +23,11 @@ use Rattle.meaning.specs.declared.Figures.{Figures}
 use Rattle.charges.specs.declared.sides.MoneySettings.{MoneySettings}
 use Rattle.charges.specs.declared.zones.SideColumns.{SideColumns}
 use Rattle.charges.specs.declared.zones.Zones.{Zones}
-use Rattle.charges.specs.Columns.{kilowatts, distance, price, kwAt}
-use Rattle.charges.specs.Steps.{zonesFrom, metresOver, cFrom, shifted, shareOf, restFrom, localFrom, noLocal, ZonesFit}
-use Rattle.charges.specs.Sides.{lineFrom, noLine, tariffFrom, incomeFrom, sideFrom, cOf, localAt, localIncomeFrom, figuresFrom, CaseFits, SettingsFit}
+use Rattle.meaning.specs.Columns.{kilowatts, distance, price, kwAt, noLine, noLocal}
+use Rattle.charges.specs.Steps.{zonesFrom, metresOver, cFrom, shifted, shareOf, restFrom, localFrom, ZonesFit}
+use Rattle.charges.specs.Sides.{lineFrom, tariffFrom, incomeFrom, sideFrom, cOf, localAt, localIncomeFrom, figuresFrom, CaseFits, SettingsFit}
 use Rattle.charges.specs.Case.{zoneFigures, sideFigures, localFigures, figuresOf, SideOf, MoneyOf, CaseOf}
-use Rattle.charges.proofs.Columns.{column-at, column-same}
+use Rattle.meaning.proofs.Columns.{column-at, column-same}
 use Rattle.charges.proofs.OfGrid.{zonesAt, zones-is, columns-fit}
 
 module _ (G : Grid) (runs : Runs) (side : Side) (most : zones G side ≤ 32) where

@@ -29,7 +29,7 @@ use Rattle.columns.proofs.Rows.{readable-whole}
 use Rattle.tables.specs.declared.Opened.{Opened}
 use Rattle.tables.proofs.Sound.{passes-whole}
 use Rattle.proposal.specs.Judges.{Judges}
-use Rattle.charges.specs.Columns.{kilowatts, numberAt, kwAt}
+use Rattle.meaning.specs.Columns.{kilowatts, numberAt, kwAt}
 use Rattle.charges.specs.Inputs.{generationIn, demandIn, moneyIn}
 use Rattle.charges.specs.Case.{SideOf, MoneyOf, CaseOf}
 use Rattle.charges.proofs.OfTables.{case-of}

@@ -23,11 +23,11 @@ use Rattle.meaning.specs.Figures as meaning
 use Rattle.sizes.specs.Bounds.{zoneShare, KilowattsFit, MetresFit}
 use Rattle.charges.specs.declared.zones.SideColumns.{SideColumns}
 use Rattle.charges.specs.declared.zones.Zones.{Zones}
-use Rattle.charges.specs.Columns.{kilowatts, distance, numberAt, kwAt, column}
+use Rattle.meaning.specs.Columns.{kilowatts, distance, numberAt, kwAt, column}
 use Rattle.charges.specs.Sums.{zoneKw, turned, share, zoneSum, SumFits}
 use Rattle.charges.specs.Steps.{zonesFrom, ColumnsFit}
 use Rattle.charges.specs.Case.{SideOf}
-use Rattle.charges.proofs.Columns.{column-same}
+use Rattle.meaning.proofs.Columns.{column-same}
 
 -- step 6, by side
 turned-is : (runs : Runs) (side : Side) (v : ℕ) → turned side (metres (potential (runs .wider) v)) ≡ meaning.distance runs side v

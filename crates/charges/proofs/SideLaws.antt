@@ -18,10 +18,10 @@ use Rattle.meaning.specs.declared.ZoneFigures.{ZoneFigures}
 use Rattle.meaning.specs.declared.SideFigures.{SideFigures}
 use Rattle.charges.specs.declared.sides.MoneySettings.{MoneySettings}
 use Rattle.charges.specs.declared.zones.Zones.{Zones}
-use Rattle.charges.specs.Columns.{kilowatts, distance, price, kwAt, metresAt, priceAt, column}
+use Rattle.meaning.specs.Columns.{kilowatts, distance, price, kwAt, metresAt, priceAt, column, noLine}
 use Rattle.charges.specs.Steps.{shifted, priceTimes, restFrom}
-use Rattle.charges.specs.Sides.{lineFrom, noLine, tariffFrom, incomeFrom, sideFrom, SideFits}
-use Rattle.charges.proofs.Columns.{column-at, column-same}
+use Rattle.charges.specs.Sides.{lineFrom, tariffFrom, incomeFrom, sideFrom, SideFits}
+use Rattle.meaning.proofs.Columns.{column-at, column-same}
 use Rattle.charges.proofs.Laws.{shifted-within, worth-most, rest-most}
 
 -- step 9: metres within b, a constant of up to 10,000 and a factor of up to 5,000

@@ -10,10 +10,10 @@ use Rattle.meaning.specs.declared.Metres.{Metres}
 use Rattle.meaning.specs.declared.Side.{Side}
 use Rattle.charges.specs.declared.zones.SideColumns.{SideColumns}
 use Rattle.charges.specs.declared.zones.Zones.{Zones}
-use Rattle.charges.specs.Columns.{kilowatts, distance, numberAt, kwAt, column}
+use Rattle.meaning.specs.Columns.{kilowatts, distance, numberAt, kwAt, column}
 use Rattle.charges.specs.Sums.{zoneKw, zoneSum}
 use Rattle.charges.specs.Steps.{zonesFrom}
-use Rattle.charges.proofs.Columns.{column-at, column-same}
+use Rattle.meaning.proofs.Columns.{column-at, column-same}
 
 module _ (side : Side) (s : SideColumns) (n : ℕ) (wider : ℕ → ℤ) where
   abbrev zoneWeights : List Kw

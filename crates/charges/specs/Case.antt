@@ -14,9 +14,8 @@ use Rattle.meaning.specs.declared.LocalFigures.{LocalFigures}
 use Rattle.meaning.specs.declared.Figures.{Figures}
 use Rattle.charges.specs.declared.sides.MoneySettings.{MoneySettings}
 use Rattle.charges.specs.declared.zones.SideColumns.{SideColumns}
-use Rattle.charges.specs.Columns.{kilowatts, distance, price, numberAt, kwAt, column}
-use Rattle.charges.specs.Steps.{noLocal}
-use Rattle.charges.specs.Sides.{noLine, SettingsFit}
+use Rattle.meaning.specs.Columns.{kilowatts, distance, price, numberAt, kwAt, column, noLine, noLocal}
+use Rattle.charges.specs.Sides.{SettingsFit}
 
 module _ (G : Grid) (runs : Runs) where
   -- a zone's line

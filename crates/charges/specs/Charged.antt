@@ -12,9 +12,7 @@ use Rattle.meaning.specs.Outcome.{judged}
 use Rattle.meaning.specs.declared.SideFigures.{SideFigures}
 use Rattle.meaning.specs.declared.Figures.{Figures}
 use Rattle.charges.specs.declared.Charged.{Charged}
-use Rattle.charges.specs.Columns.{distance, price}
-use Rattle.charges.specs.Steps.{noLocal}
-use Rattle.charges.specs.Sides.{noLine}
+use Rattle.meaning.specs.Columns.{distance, price, noLine, noLocal}
 use Rattle.charges.specs.Case.{figuresOf}
 
 -- all zero: no zones, no nodes

@@ -16,8 +16,8 @@ use Rattle.meaning.specs.declared.Figures.{Figures}
 use Rattle.charges.specs.declared.sides.MoneySettings.{MoneySettings}
 use Rattle.charges.specs.declared.zones.SideColumns.{SideColumns}
 use Rattle.charges.specs.declared.zones.Zones.{Zones}
-use Rattle.charges.specs.Columns.{kilowatts, distance, price, kwAt, metresAt, column}
-use Rattle.charges.specs.Steps.{zonesFrom, cFrom, shifted, localFrom, noLocal, restFrom, ColumnsFit, ZonesFit}
+use Rattle.meaning.specs.Columns.{kilowatts, distance, price, kwAt, metresAt, column, noLocal}
+use Rattle.charges.specs.Steps.{zonesFrom, cFrom, shifted, localFrom, restFrom, ColumnsFit, ZonesFit}
 
 -- the line of a zone
 unfoldable pub lineFrom : Side → Kw → (metres c : Metres) (tariff residual : MicroPerKw) → ZoneFigures
@@ -28,16 +28,6 @@ lineFrom side weight metres c tariff residual =
       «after_c» = distance (shifted side (metres .0) (c .0));
       tariff = tariff;
       total = price (tariff .0 +ℤ residual .0);
-    }
-
-abbrev pub noLine : ZoneFigures
-noLine =
-    record {
-      weight = kilowatts 0;
-      metres = distance (pos 0);
-      «after_c» = distance (pos 0);
-      tariff = price (pos 0);
-      total = price (pos 0);
     }
 
 module _ (side : Side) (z : Zones) (c : Metres) (s : MoneySettings) where

@@ -13,7 +13,7 @@ use Rattle.meaning.specs.Figures.{metres, tariff}
 use Rattle.meaning.specs.declared.LocalFigures.{LocalFigures}
 use Rattle.charges.specs.declared.zones.SideColumns.{SideColumns}
 use Rattle.charges.specs.declared.zones.Zones.{Zones}
-use Rattle.charges.specs.Columns.{kilowatts, distance, price, numberAt, kwAt, metresAt, priceAt, column}
+use Rattle.meaning.specs.Columns.{kilowatts, distance, price, numberAt, kwAt, metresAt, priceAt, column}
 use Rattle.charges.specs.Sums.{zoneKw, zoneSum, SumFits}
 
 -- step 7
@@ -70,9 +70,6 @@ priceTimes tariff paying k = priceAt tariff k *ℤ pos (kwAt paying k)
 unfoldable pub localFrom : Kw → (nanometres : ℤ) (constant factor : ℕ) → LocalFigures
 localFrom tec nanometres constant factor =
     record { tec = tec; metres = distance (metres nanometres); tariff = price (tariff (metres nanometres) constant factor) }
-
-abbrev pub noLocal : LocalFigures
-noLocal = record { tec = kilowatts 0; metres = distance (pos 0); tariff = price (pos 0) }
 
 -- the local tariff of node v
 abbrev pub localPrice : List LocalFigures → ℕ → ℤ

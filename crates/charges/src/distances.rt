@@ -10,7 +10,7 @@ ghost use lib.ListN.{length};
 ghost use Rattle.meaning.specs.Figures.{metres};
 ghost use Rattle.meaning.specs.Proposal.{potential};
 ghost use Rattle.integers.specs.Numbers.{nearest};
-ghost use Rattle.charges.specs.Columns.{kwAt, numberAt, column, distance};
+ghost use Rattle.meaning.specs.Columns.{kwAt, numberAt, column, distance};
 ghost use Rattle.charges.specs.Sums.{turned, zoneSum, SumFits};
 
 // Step 6: a demand node's distance is the negative of its wider metres.

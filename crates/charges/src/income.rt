@@ -11,8 +11,8 @@ ghost use lib.ListN.{length, getD};
 ghost use Rattle.integers.specs.Numbers.{sum, Σ};
 ghost use Rattle.meaning.specs.Figures.{metres};
 ghost use Rattle.meaning.specs.Proposal.{potential};
-ghost use Rattle.charges.specs.Columns.{kilowatts, kwAt, priceAt, column};
-ghost use Rattle.charges.specs.Steps.{priceTimes, localFrom, noLocal, localPrice};
+ghost use Rattle.meaning.specs.Columns.{kilowatts, kwAt, priceAt, column, noLocal};
+ghost use Rattle.charges.specs.Steps.{priceTimes, localFrom, localPrice};
 
 // A price times kilowatts.
 pub fn worth(price: MicroPerKw, kw: Kw) -> i64

@@ -3,7 +3,7 @@ ghost use mathlib.Core.Path.{_≡_};
 ghost use mathlib.Core.Bool.{cond};
 ghost use Prim.Native.Nat.{ℕ, _+_, _≤_};
 ghost use lib.Dec.{eqb};
-ghost use Rattle.charges.specs.Columns.{kilowatts, kwAt, numberAt, column};
+ghost use Rattle.meaning.specs.Columns.{kilowatts, kwAt, numberAt, column};
 ghost use Rattle.charges.specs.Sums.{zoneKw};
 ghost use Rattle.integers.specs.Numbers.{sum};
 

@@ -16,8 +16,8 @@ ghost use mathlib.Core.Path.{_≡_};
 ghost use Prim.Native.Nat.{ℕ, _≤_, _<_};
 ghost use lib.IntN.{pos, natAbs};
 ghost use lib.ListN.{getD};
-ghost use Rattle.charges.specs.Columns.{kilowatts, distance, price, priceAt, column};
-ghost use Rattle.charges.specs.Sides.{lineFrom, noLine, sideFrom, SideFits};
+ghost use Rattle.meaning.specs.Columns.{kilowatts, distance, price, priceAt, column, noLine};
+ghost use Rattle.charges.specs.Sides.{lineFrom, sideFrom, SideFits};
 ghost use Rattle.charges.specs.Steps.{ZonesFit};
 
 // The money settings: p, expansion constant, security factors, revenue.

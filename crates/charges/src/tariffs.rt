@@ -8,7 +8,7 @@ ghost use mathlib.Core.Path.{_≡_};
 ghost use Prim.Native.Nat.{ℕ, _≤_, _<_};
 ghost use lib.IntN.{pos, natAbs};
 ghost use Rattle.meaning.specs.Figures.{tariff};
-ghost use Rattle.charges.specs.Columns.{price, metresAt, column};
+ghost use Rattle.meaning.specs.Columns.{price, metresAt, column};
 ghost use Rattle.charges.specs.Steps.{cFrom, shifted, ZonesFit};
 
 // Step 8: C.

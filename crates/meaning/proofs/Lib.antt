@@ -1,5 +1,6 @@
 -- laws of the definitions
 pub mod Rows
+pub mod Columns
 pub mod Says
 pub mod Answers
 pub mod Walk

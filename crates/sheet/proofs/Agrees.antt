@@ -26,8 +26,7 @@ use Rattle.meaning.specs.declared.ZoneFigures.{ZoneFigures}
 use Rattle.meaning.specs.declared.SideFigures.{SideFigures}
 use Rattle.meaning.specs.declared.LocalFigures.{LocalFigures}
 use Rattle.meaning.specs.declared.Figures.{Figures}
-use Rattle.charges.specs.Steps.{noLocal}
-use Rattle.charges.specs.Sides.{noLine}
+use Rattle.meaning.specs.Columns.{noLine, noLocal}
 use Rattle.sheet.specs.SheetText.{zoneText, emptyZone, fullZone, zoneTexts, localText, fullNode, localTexts, constantText, remainderText, sheetText, nameOf, refusedText}
 use Rattle.sheet.proofs.Joined.{joined-same}
 use Rattle.sheet.proofs.Lined.{zone-empty, zone-full, node-empty, node-full}

@@ -14,10 +14,9 @@ use Rattle.meaning.specs.Figures.{zones}
 use Rattle.meaning.specs.Sheet.{sheet}
 use Rattle.meaning.specs.Conditions.{WholeFile, SoundSettings}
 use Rattle.meaning.proofs.Starts.{counts, file-length}
-use Rattle.charges.specs.Steps.{noLocal}
-use Rattle.charges.specs.Sides.{noLine}
 use Rattle.charges.specs.Case.{zoneFigures, sideFigures, localFigures, figuresOf}
-use Rattle.charges.proofs.Columns.{column-at}
+use Rattle.meaning.proofs.Columns.{column-at}
+use Rattle.meaning.specs.Columns.{noLine, noLocal}
 use Rattle.sheet.specs.SheetText.{sheetText, nameOf, Sized}
 use Rattle.sheet.proofs.Agrees.{ZoneAgrees, SideAgrees, NodeAgrees, Agrees, sheet-agrees, names-agree}
 

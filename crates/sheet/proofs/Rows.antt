@@ -10,8 +10,7 @@ use Rattle.meaning.specs.File.{nameAt}
 use Rattle.meaning.specs.declared.Side.{Side}
 use Rattle.meaning.specs.declared.SideFigures.{SideFigures}
 use Rattle.meaning.specs.declared.Figures.{Figures}
-use Rattle.charges.specs.Steps.{noLocal}
-use Rattle.charges.specs.Sides.{noLine}
+use Rattle.meaning.specs.Columns.{noLine, noLocal}
 use Rattle.sheet.specs.SheetText.{zoneText, zoneTexts, localText, localTexts, nameOf}
 
 -- zone k + 1

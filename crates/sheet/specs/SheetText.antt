@@ -18,8 +18,7 @@ use Rattle.meaning.specs.declared.ZoneFigures.{ZoneFigures}
 use Rattle.meaning.specs.declared.SideFigures.{SideFigures}
 use Rattle.meaning.specs.declared.LocalFigures.{LocalFigures}
 use Rattle.meaning.specs.declared.Figures.{Figures}
-use Rattle.charges.specs.Steps.{noLocal}
-use Rattle.charges.specs.Sides.{noLine}
+use Rattle.meaning.specs.Columns.{noLine, noLocal}
 
 -- "`G`, zone, zonal metres, metres after C, tariff, residual, total. `D`, the same for demand."
 unfoldable pub fullZone : Side → (zone : ℕ) → (residual : MicroPerKw) → ZoneFigures → List ℕ

@@ -13,9 +13,9 @@ use Rattle.meaning.specs.declared.Kw.{Kw}
 use Rattle.meaning.specs.declared.Metres.{Metres}
 use Rattle.meaning.specs.declared.Side.{Side}
 use Rattle.meaning.specs.Proposal.{potential}
-use Rattle.charges.specs.Columns.{numberAt, kwAt, column, distance}
+use Rattle.meaning.specs.Columns.{numberAt, kwAt, column, distance}
 use Rattle.charges.specs.Sums.{zoneSum}
-use Rattle.charges.proofs.Columns.{column-none, column-turn}
+use Rattle.meaning.proofs.Columns.{column-none, column-turn}
 use Rattle.charges.proofs.distances.metres_by_zone.Statement.{statement}
 use Rattle.charges.proofs.distances.metres_by_zone.Tie as tie
 

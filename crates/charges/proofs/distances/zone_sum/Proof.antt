@@ -15,7 +15,7 @@ use Rattle.meaning.specs.declared.Kw.{Kw}
 use Rattle.meaning.specs.declared.Side.{Side}
 use Rattle.meaning.specs.Figures.{metres}
 use Rattle.meaning.specs.Proposal.{potential}
-use Rattle.charges.specs.Columns.{numberAt, kwAt}
+use Rattle.meaning.specs.Columns.{numberAt, kwAt}
 use Rattle.charges.specs.Sums.{share, zoneSum}
 use Rattle.charges.proofs.Laws.{abs-fits}
 use Rattle.charges.proofs.distances.zone_sum.Statement.{statement}

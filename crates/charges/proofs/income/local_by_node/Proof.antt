@@ -9,9 +9,9 @@ use Rattle.integers.proofs.Machine.{Back, back}
 use Rattle.meaning.specs.declared.Kw.{Kw}
 use Rattle.meaning.specs.Proposal.{potential}
 use Rattle.meaning.specs.declared.LocalFigures.{LocalFigures}
-use Rattle.charges.specs.Columns.{kilowatts, column}
-use Rattle.charges.specs.Steps.{localFrom, noLocal}
-use Rattle.charges.proofs.Columns.{column-none, column-turn}
+use Rattle.meaning.specs.Columns.{kilowatts, column, noLocal}
+use Rattle.charges.specs.Steps.{localFrom}
+use Rattle.meaning.proofs.Columns.{column-none, column-turn}
 use Rattle.charges.proofs.income.local_by_node.Statement.{statement}
 use Rattle.charges.proofs.income.local_by_node.Tie as tie
 

@@ -12,7 +12,7 @@ use Rattle.integers.proofs.Machine.{back}
 use Rattle.integers.proofs.Sum.{Σ-zero, Σ-more}
 use Rattle.meaning.specs.declared.Kw.{Kw}
 use Rattle.meaning.specs.declared.LocalFigures.{LocalFigures}
-use Rattle.charges.specs.Columns.{kwAt}
+use Rattle.meaning.specs.Columns.{kwAt}
 use Rattle.charges.specs.Steps.{localPrice}
 use Rattle.charges.proofs.Laws.{abs-fits, worth-most, one-light}
 use Rattle.charges.proofs.income.local_income.Statement.{statement}

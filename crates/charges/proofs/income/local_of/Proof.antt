@@ -3,7 +3,7 @@ use mathlib.Core.Path.{_≡_, ap}
 use native.Mathlib.Omega.{arith}
 use Rattle.integers.proofs.Machine.{fit-back}
 use Rattle.meaning.specs.Figures.{metres}
-use Rattle.charges.specs.Columns.{distance, price}
+use Rattle.meaning.specs.Columns.{distance, price}
 use Rattle.charges.specs.Steps.{localFrom}
 use borrow.Author.Needs.{needs}
 use Rattle.charges.proofs.income.local_of.Statement.{statement}

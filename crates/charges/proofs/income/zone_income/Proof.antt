@@ -9,7 +9,7 @@ use mir.Val.{SFits, toZ, ofZ}
 use Rattle.integers.specs.Numbers.{Σ}
 use Rattle.integers.proofs.Machine.{back}
 use Rattle.integers.proofs.Sum.{Σ-zero, Σ-more}
-use Rattle.charges.specs.Columns.{kwAt, priceAt}
+use Rattle.meaning.specs.Columns.{kwAt, priceAt}
 use Rattle.charges.specs.Steps.{priceTimes}
 use Rattle.charges.proofs.Laws.{abs-fits, worth-most, one-light}
 use Rattle.charges.proofs.income.zone_income.Statement.{statement}

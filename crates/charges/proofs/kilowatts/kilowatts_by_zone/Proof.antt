@@ -4,9 +4,9 @@ use mathlib.Core.List.{List}
 use Prim.Native.Nat.{ℕ, _+_, _≤_, _-_}
 use native.Mathlib.Omega.{arith}
 use Rattle.meaning.specs.declared.Kw.{Kw}
-use Rattle.charges.specs.Columns.{kilowatts, numberAt, kwAt, column}
+use Rattle.meaning.specs.Columns.{kilowatts, numberAt, kwAt, column}
 use Rattle.charges.specs.Sums.{zoneKw}
-use Rattle.charges.proofs.Columns.{column-none, column-turn}
+use Rattle.meaning.proofs.Columns.{column-none, column-turn}
 use Rattle.charges.proofs.kilowatts.kilowatts_by_zone.Statement.{statement}
 use Rattle.charges.proofs.kilowatts.kilowatts_by_zone.Tie as tie
 

@@ -4,7 +4,7 @@ use Prim.Native.Nat.{_+_, _≤_, _-_}
 use native.Mathlib.Omega.{arith}
 use Rattle.integers.specs.Numbers.{sum}
 use Rattle.integers.proofs.Sum.{sum-zero, sum-more, sum-part}
-use Rattle.charges.specs.Columns.{kwAt}
+use Rattle.meaning.specs.Columns.{kwAt}
 use Rattle.charges.proofs.kilowatts.total_kilowatts.Statement.{statement}
 use Rattle.charges.proofs.kilowatts.total_kilowatts.Tie as tie
 

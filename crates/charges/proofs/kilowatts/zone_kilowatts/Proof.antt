@@ -9,7 +9,7 @@ use lib.Dec.{eqb}
 use Rattle.integers.specs.Numbers.{sum}
 use Rattle.meaning.specs.declared.Kw.{Kw}
 use Rattle.integers.proofs.Sum.{sum-zero, sum-more, sum-part}
-use Rattle.charges.specs.Columns.{numberAt, kwAt}
+use Rattle.meaning.specs.Columns.{numberAt, kwAt}
 use Rattle.charges.specs.Sums.{zoneKw}
 use Rattle.charges.proofs.kilowatts.zone_kilowatts.Statement.{statement}
 use Rattle.charges.proofs.kilowatts.zone_kilowatts.Tie as tie

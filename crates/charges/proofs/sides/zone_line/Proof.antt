@@ -1,6 +1,6 @@
 -- `charges::sides::zone_line` meets its contract.
 use mathlib.Core.Path.{ap}
-use Rattle.charges.specs.Columns.{distance, price}
+use Rattle.meaning.specs.Columns.{distance, price}
 use Rattle.charges.specs.Sides.{lineFrom}
 use borrow.Author.Needs.{needs}
 use Rattle.charges.proofs.sides.zone_line.Statement.{statement}

@@ -10,9 +10,9 @@ use Rattle.meaning.specs.declared.Metres.{Metres}
 use Rattle.meaning.specs.declared.MicroPerKw.{MicroPerKw}
 use Rattle.meaning.specs.declared.Side.{Side}
 use Rattle.meaning.specs.declared.ZoneFigures.{ZoneFigures}
-use Rattle.charges.specs.Columns.{kilowatts, distance, price, column}
-use Rattle.charges.specs.Sides.{lineFrom, noLine}
-use Rattle.charges.proofs.Columns.{column-none, column-turn}
+use Rattle.meaning.specs.Columns.{kilowatts, distance, price, column, noLine}
+use Rattle.charges.specs.Sides.{lineFrom}
+use Rattle.meaning.proofs.Columns.{column-none, column-turn}
 use Rattle.charges.proofs.sides.zone_lines.Statement.{statement}
 use Rattle.charges.proofs.sides.zone_lines.Tie as tie
 

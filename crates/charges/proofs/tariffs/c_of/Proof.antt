@@ -9,7 +9,7 @@ use mir.Syntax.{w64}
 use mir.Val.{SFits, toZ, ofZ}
 use Rattle.integers.proofs.Machine.{Back, fit-back, back, of-nat}
 use Rattle.charges.specs.declared.zones.Zones.{Zones}
-use Rattle.charges.specs.Columns.{metresAt, kwAt}
+use Rattle.meaning.specs.Columns.{metresAt, kwAt}
 use Rattle.charges.specs.Steps.{metresOver, cFrom, ZonesFit}
 use Rattle.charges.proofs.Laws.{worth-most, first-fits, second-fits, mixed-fits}
 use Rattle.charges.proofs.tariffs.c_of.Statement.{statement}

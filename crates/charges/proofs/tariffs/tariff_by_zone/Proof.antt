@@ -8,9 +8,9 @@ use Rattle.meaning.specs.declared.Metres.{Metres}
 use Rattle.meaning.specs.declared.MicroPerKw.{MicroPerKw}
 use Rattle.meaning.specs.declared.Side.{Side}
 use Rattle.meaning.specs.Figures.{tariff}
-use Rattle.charges.specs.Columns.{price, metresAt, column}
+use Rattle.meaning.specs.Columns.{price, metresAt, column}
 use Rattle.charges.specs.Steps.{shifted}
-use Rattle.charges.proofs.Columns.{column-none, column-turn}
+use Rattle.meaning.proofs.Columns.{column-none, column-turn}
 use Rattle.charges.proofs.Laws.{shifted-within}
 use Rattle.charges.proofs.tariffs.tariff_by_zone.Statement.{statement}
 use Rattle.charges.proofs.tariffs.tariff_by_zone.Tie as tie

@@ -5,10 +5,12 @@ use Prim.Native.Nat.{ℕ}
 use lib.Dec.{ltb}
 use lib.IntN.{ℤ, pos}
 use lib.ListN.{getD}
 use Rattle.meaning.specs.Rows.{rows}
 use Rattle.meaning.specs.declared.Kw.{Kw}
 use Rattle.meaning.specs.declared.Metres.{Metres}
 use Rattle.meaning.specs.declared.MicroPerKw.{MicroPerKw}
+use Rattle.meaning.specs.declared.ZoneFigures.{ZoneFigures}
+use Rattle.meaning.specs.declared.LocalFigures.{LocalFigures}
 
 -- 01, Quantities: a number as kilowatts, as metres, as micro-pounds per kilowatt
 abbrev pub kilowatts : ℕ → Kw
@@ -36,3 +38,17 @@ priceAt column i = getD column i (price (pos 0)) .0
 -- an array of that size: f 0, .., f (count − 1), and then nothing
 unfoldable pub column : {A : Type 0} → (nothing : A) (size count : ℕ) → (ℕ → A) → List A
 column nothing size count f = rows size (λ i. cond (ltb i count) (f i) nothing)
+
+-- past the last zone, and past the last node, a sheet has no figures
+abbrev pub noLine : ZoneFigures
+noLine =
+    record {
+      weight = kilowatts 0;
+      metres = distance (pos 0);
+      «after_c» = distance (pos 0);
+      tariff = price (pos 0);
+      total = price (pos 0);
+    }
+
+abbrev pub noLocal : LocalFigures
+noLocal = record { tec = kilowatts 0; metres = distance (pos 0); tariff = price (pos 0) }

@@ -10,8 +10,8 @@ use borrow.Author.Tests.{lt-ltb, le-ltb}
 use lib.Dec.{ltb}
 use lib.ListN.{length, getD, set, length-set, replicate, length-replicate, getD-replicate}
 use lib.Seq.{getD-set-same, getD-set-other, ext-getD}
 use Rattle.meaning.proofs.Rows.{rows-at, rows-same, length-rows}
-use Rattle.charges.specs.Columns.{column}
+use Rattle.meaning.specs.Columns.{column}
 
 module _ {A : Type 0} (nothing : A) (size : ℕ) (f : ℕ → A) where
   pub column-length : (count : ℕ) → length (column nothing size count f) ≡ size
