@@ -1,18 +1,18 @@
--- Damaged forms of KILN, and what stops each: a claim for every number of 01's table.
+-- Damaged forms of KILN, and what stops each, in the order of 01's table; 10 and 11 are in meaning/proofs/Small.antt, 12 in meaning/proofs/Kiln.antt.
 use mathlib.Core.Path.{_≡_, refl}
 use mathlib.Core.List.{List, [], _∷_, _++_}
 use Prim.Native.Nat.{ℕ}
 use lib.IntN.{ℤ, pos, negℤ}
 use lib.ListN.{take, drop, set, replicate}
 use Rattle.meaning.specs.Text.{text}
 use Rattle.meaning.specs.Study.{Settings, Node, Circuit, Station, Study, Runs}
-use Rattle.meaning.specs.declared.System.the-variants.{Base, Wider, Local}
+use Rattle.meaning.specs.declared.System.the-variants.{Base, Local}
 use Rattle.meaning.specs.declared.Answer.{Answer}
-use Rattle.meaning.specs.declared.Answer.the-variants.{Accepted, BadFile, BadSetting, BadNode, BadCircuit, BadStation, Unreached, BadTotal, BadNumber, Unbalanced, ShortBuffer}
-use Rattle.meaning.specs.Outcome.{judged, prints, settle}
+use Rattle.meaning.specs.declared.Answer.the-variants.{BadFile, BadSetting, BadNode, BadCircuit, BadStation, Unreached, BadTotal, BadNumber, Unbalanced}
+use Rattle.meaning.specs.Outcome.{judged, prints}
 use Rattle.meaning.proofs.Write.{name, fileOf}
 use Rattle.meaning.proofs.Opened.{opened}
-use Rattle.meaning.proofs.Kiln.{kiln, kilnSettings, kilnNodes, kilnCircuits, kilnStations, kilnRuns, kilnBase, kilnWider, kilnLocal, kilnSheet, nodeOf, circuitOf, stationOf}
+use Rattle.meaning.proofs.Kiln.{kiln, kilnSettings, kilnNodes, kilnCircuits, kilnStations, kilnRuns, kilnBase, kilnWider, kilnLocal, nodeOf, circuitOf, stationOf}
 
 -- KILN with other tables, and KILN with other runs
 abbrev withTables : List Node → List Circuit → List Station → Answer
@@ -74,11 +74,7 @@ small : withTables kilnNodes kilnCircuits (stationOf "GEN_1" "NODA" 100000 ∷ s
 unfolding opened
 small = refl
 
--- 8: the reference's potential is 1 in the wider run; a flow out of range in the local run
-ground : withRuns kilnBase (set kilnWider 2 (pos 1)) kilnLocal ≡ BadNumber Wider 3
-unfolding opened
-ground = refl
-
+-- 8: a flow out of range in the local run
 wild : withRuns kilnBase kilnWider (set kilnLocal 4 (negℤ (pos 100000000000001))) ≡ BadNumber Local 5
 unfolding opened
 wild = refl
@@ -87,15 +83,6 @@ wild = refl
 leak : withRuns (set kilnBase 3 (pos 45000000001)) kilnWider kilnLocal ≡ Unbalanced Base 1
 unfolding opened
 leak = refl
-
--- 12: a buffer one byte short is refused and stays as it was; an exact fit is written
-shortened : settle kiln kilnRuns (replicate 116 7) ≡ record { answer = ShortBuffer; buffer = replicate 116 7 }
-unfolding opened
-shortened = refl
-
-exact : settle kiln kilnRuns (replicate 117 7) ≡ record { answer = Accepted 117; buffer = kilnSheet }
-unfolding opened
-exact = refl
 
 -- as the program prints it: the local flow of circuit 3 is -1 there (bytes 468 to 475), which breaks NODA's balance
 printed-refusal : prints (take 468 kiln ++ (replicate 8 255 ++ drop 476 kiln)) ≡ text "refused 9 3 1\n"
