@@ -2,14 +2,14 @@
 use mathlib.Core.Path.{_≡_, refl, sym, _∙_}
 use mathlib.Core.Logic.{_⊎_, inl, inr}
 use mathlib.Core.List.{List}
-use mathlib.Core.Bool.{Bool, true, false, true≢false}
+use mathlib.Core.Bool.{Bool, true, false, _&&_}
 use Prim.Native.Nat.{ℕ, zero, suc, _+_, _*_, _-_, _≤_, _<_, _^_}
 use native.Mathlib.Nat.{mul-le-mul}
 use native.Mathlib.Omega.{arith}
 use borrow.Author.Tests.{ltb-true, lt-ltb}
-use lib.Dec.{eqb, ltb}
+use lib.Dec.{eqb, leb, ltb}
 use lib.ListN.{length}
-use Rattle.meaning.specs.Rows.{all, rows}
+use Rattle.meaning.specs.Rows.{_between_and_, all, rows}
 use Rattle.meaning.specs.File.{u32, recordSize, trailer, sectionCount, sectionOffset, sectionStart, counted, chained, fileWhole, runIn, runsIn}
 use Rattle.meaning.specs.Conditions.{InRange, WholeFile}
 use Rattle.meaning.proofs.Rows.{length-rows, below-suc}
@@ -75,6 +75,15 @@ module _ (file : List ℕ) where
         λ r. ((((r .oneSettings, r .nodes), r .circuits), r .stations), three Solution (r .base) (r .wider) (r .local)),
       )
 
+  -- the numbers of the trailer, tested one by one
+  pub counted-is : (one nodes circuits stations base wider local : ℕ) → one ≡ sectionCount file 0 → nodes ≡ sectionCount file 1 → circuits ≡ sectionCount file 2
+      → stations ≡ sectionCount file 3 → base ≡ sectionCount file 4 → wider ≡ sectionCount file 5 → local ≡ sectionCount file 6
+      → (eqb one 1 && (leb 1 nodes && leb nodes 256) && leb circuits 512 && leb stations 512
+      && (eqb base (nodes + circuits) && eqb wider (nodes + circuits) && eqb local (nodes + circuits)))
+      ≡ counted file
+  unfolding counted _between_and_ all
+  counted-is one nodes circuits stations base wider local o n c k b w l = rw (o, n, c, k, b, w, l) refl
+
   pub says-chained : Says (chained file) Chained
   unfolding chained
   says-chained = says-as (says-all 7 (λ k. says-eq) also says-eq) (λ t. record { chain = t .0; end = t .1 }, λ r. (r .chain, r .end))
@@ -101,6 +110,15 @@ module _ (file : List ℕ) where
         },
         λ r. (((((r .long, r .version), r .fileLength), r .counts), r .sections), r .settingsZero),
       )
+
+  -- of a file that is long enough, what is left to test
+  pub whole-rest : (version end word : ℕ) (counts sections : Bool) → 128 ≤ length file → version ≡ trailer file 14 → end ≡ trailer file 15
+      → counts ≡ counted file → sections ≡ chained file → word ≡ u32 file 52
+      → (eqb version 1 && eqb end (length file) && counts && sections && eqb word 0) ≡ fileWhole file
+  unfolding fileWhole
+  whole-rest version end word counts sections h v l c s z =
+      let e : leb 128 (length file) ≡ true = says-le .1 h in
+      rw (v, l, c, s, z, e) refl
 
   -- the conditions ask for runs: those that stand in the file have its lengths
   pub whole-file : fileWhole file ≡ true → WholeFile file (runsIn file)
@@ -150,44 +168,34 @@ pub solution-size : (k : ℕ) → 3 < k → k < 7 → 8 ≡ recordSize k
 unfolding recordSize
 solution-size k h l = rw (four k h) at (three (λ j. 8 ≡ recordSize (4 + j)) refl refl refl (k - 4) (omega arith))
 
--- the first k sections follow one another, and the next begins at start
-pub record ChainedTo (file : List ℕ) (k start : ℕ) : Type 0 where
+-- after k turns: whether the first k sections follow one another, and where the next begins
+pub record ChainedTo (file : List ℕ) (k : ℕ) (follow : Bool) (start : ℕ) : Type 0 where
   pub within : k ≤ 7
   pub here : start ≡ sectionStart file k
   pub low : start ≤ k * 274877906944
-  pub chain : (section : ℕ) → section < k → sectionOffset file section ≡ sectionStart file section
+  pub so-far : follow ≡ all (λ s. eqb (sectionOffset file s) (sectionStart file s)) k
 
 -- a section's size, so that the next start fits 64 bits
 pub size-low : (k : ℕ) {size count : ℕ} → size ≡ recordSize k → count < 2 ^ 32 → size * count ≤ 274877906944
 size-low k e h = mul-le-mul {n₂ = 64} {m₂ = 4294967296} (rw e (record-small k)) (omega arith)
 
 module _ {file : List ℕ} where
-  pub chained-none : ChainedTo file 0 0
-  chained-none = record { within = omega arith; here = sym (start-zero file); low = omega arith; chain = λ s h. absurd (omega arith) }
+  pub chained-none : ChainedTo file 0 true 0
+  unfolding all
+  chained-none = record { within = omega arith; here = sym (start-zero file); low = omega arith; so-far = refl }
 
-  pub chained-on : {k start offset size count : ℕ} → ChainedTo file k start → k < 7 → offset ≡ sectionOffset file k → offset ≡ start
-      → size ≡ recordSize k → count ≡ sectionCount file k → count < 2 ^ 32 → ChainedTo file (k + 1) (start + size * count)
-  chained-on {k} {start} {offset} {size} {count} t h o e s n l =
+  pub chained-on : {k start offset size count : ℕ} {follow : Bool} → ChainedTo file k follow start → k < 7 → offset ≡ sectionOffset file k
+      → size ≡ recordSize k → count ≡ sectionCount file k → count < 2 ^ 32 → ChainedTo file (k + 1) (follow && eqb offset start) (start + size * count)
+  unfolding all
+  chained-on {k} t h o s n l =
+      let e : k + 1 ≡ suc k = omega arith in
       record {
         within = omega arith;
         here = rw (t .here, s, n) (sym (start-more file k));
         low = omega (arith, t .low, size-low k s l);
-        chain = λ j m. one j (below-suc k j (omega arith));
+        so-far = rw (e, o, t .here, t .so-far) refl;
       }
-    where
-      one : (j : ℕ) → (j < k) ⊎ (j ≡ k) → sectionOffset file j ≡ sectionStart file j
-      one j (inl m) = t .chain j m
-      one j (inr m) = rw m (sym o ∙ e ∙ t .here)
 
-  pub chained-broken : {k start offset : ℕ} → ChainedTo file k start → k < 7 → offset ≡ sectionOffset file k → (offset ≡ start → ⊥) → false ≡ chained file
-  chained-broken {k} t h o n = is-false (says-chained file) (λ c. n (o ∙ c .chain k h ∙ sym (t .here)))
-
-  pub chained-ends : {k start : ℕ} → ChainedTo file k start → 7 ≤ k → start ≡ sectionStart file 7
-  chained-ends {k} t h = let e : k ≡ 7 = omega (arith, t .within) in t .here ∙ rw e refl
-
-  pub chained-off : {k start : ℕ} → ChainedTo file k start → 7 ≤ k → (start + 64 ≡ length file → ⊥) → false ≡ chained file
-  chained-off t h n = is-false (says-chained file) (λ c. n (omega (arith, chained-ends t h, c .end)))
-
-  pub chained-done : {k start : ℕ} → ChainedTo file k start → 7 ≤ k → start + 64 ≡ length file → true ≡ chained file
-  chained-done {k} t h e =
-      is-true (says-chained file) (record { chain = λ s l. t .chain s (omega arith); end = omega (arith, chained-ends t h) })
+  pub chained-is : {k start : ℕ} {follow : Bool} → ChainedTo file k follow start → 7 ≤ k → (follow && eqb (start + 64) (length file)) ≡ chained file
+  unfolding chained
+  chained-is {k} t h = let e : k ≡ 7 = omega (arith, t .within) in rw (t .so-far, t .here, e) refl

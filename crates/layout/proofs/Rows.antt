@@ -7,12 +7,12 @@ use native.Mathlib.Omega.{arith}
 use lib.ListN.{length}
 use Rattle.meaning.specs.Rows.{rows}
 use Rattle.meaning.specs.Study.{Settings, Study, Node, Circuit, Station, node, circuit, station}
-use Rattle.meaning.specs.File.{sectionCount, sectionStart, settingsAt, nodeAt, circuitAt, stationAt, fileWhole, studyOf, runsIn}
+use Rattle.meaning.specs.File.{u32, u64, sectionCount, sectionStart, settingsAt, nodeAt, circuitAt, stationAt, fileWhole, studyOf, runsIn}
 use Rattle.meaning.proofs.Rows.{length-rows}
 use Rattle.meaning.proofs.Starts as starts
 use Rattle.layout.proofs.FileLaws.{whole-file, start-zero}
 use Rattle.layout.specs.Readable.{noStudy, readable}
-use Rattle.layout.specs.Frame.{countsOf}
+use Rattle.layout.specs.Frame.{countsOf, settingsIn}
 use Rattle.layout.specs.declared.RowCounts.{RowCounts}
 
 -- counts in their ranges
@@ -48,6 +48,29 @@ module _ (file : List ℕ) where
   counts-are e = rw e (refl, refl, refl)
 
   -- ---- settings
+  pub settings-read : (g d p k w l a b e f i j r : ℕ) (v : ℕ) → g ≡ u32 file 0 → d ≡ u32 file 4 → p ≡ u32 file 8 → k ≡ u32 file 12 → w ≡ u32 file 16
+      → l ≡ u32 file 20 → a ≡ u32 file 24 → b ≡ u32 file 28 → e ≡ u32 file 32 → f ≡ u32 file 36 → i ≡ u32 file 40 → j ≡ u32 file 44 → r ≡ u32 file 48
+      → v ≡ u64 file 56
+      → settingsIn (record {
+        «generation_zones» = g;
+        «demand_zones» = d;
+        p = p;
+        constant = k;
+        «wider_factor» = w;
+        «local_factor» = l;
+        overhead400 = a;
+        cable400 = b;
+        overhead275 = e;
+        cable275 = f;
+        overhead132 = i;
+        cable132 = j;
+        reference = r;
+        revenue = v;
+      }) ≡ settingsAt file 0
+  unfolding settingsIn settingsAt
+  settings-read g d p k w l a b e f i j r v x0 x1 x2 x3 x4 x5 x6 x7 x8 x9 x10 x11 x12 x13 =
+      rw (x0, x1, x2, x3, x4, x5, x6, x7, x8, x9, x10, x11, x12, x13) refl
+
   pub settings-whole : {s : Settings} → s ≡ settingsAt file 0 → fileWhole file ≡ true → s ≡ readable file .settings
   unfolding studyOf
   settings-whole e h = rw (readable-whole h, start-zero file) e

@@ -39,22 +39,11 @@ pub fn whole(file: &[u8]) -> bool
     if file.len() < 128 {
         return false;
     }
-    if trailer::word(file, 14) != 1 {
-        return false;
-    }
-    if trailer::word(file, 15) != file.len() {
-        return false;
-    }
-    if trailer::counted(file) {
-        if trailer::chained(file) {
-            if fields::u32_at(file, 52) != 0 {
-                return false;
-            }
-            return true;
-        }
-        return false;
-    }
-    false
+    (trailer::word(file, 14) == 1)
+        & (trailer::word(file, 15) == file.len())
+        & trailer::counted(file)
+        & trailer::chained(file)
+        & (fields::u32_at(file, 52) == 0)
 }
 
 // The counts of the tables, from the trailer.

@@ -34,34 +34,14 @@ pub fn counted(file: &[u8]) -> bool
     requires { ⌜ 64 ≤ length (now file) ⌝ }
     ensures { λ r. ⌜ r ≡ counted (now (file .entry)) ⌝ }
 {
-    if word(file, 1) != 1 {
-        return false;
-    }
     let nodes = word(file, 3);
-    if nodes < 1 {
-        return false;
-    }
-    if nodes > 256 {
-        return false;
-    }
     let circuits = word(file, 5);
-    if circuits > 512 {
-        return false;
-    }
-    if word(file, 7) > 512 {
-        return false;
-    }
     let numbers = nodes + circuits;
-    if word(file, 9) != numbers {
-        return false;
-    }
-    if word(file, 11) != numbers {
-        return false;
-    }
-    if word(file, 13) != numbers {
-        return false;
-    }
-    true
+    (word(file, 1) == 1)
+        & ((1 <= nodes) & (nodes <= 256))
+        & (circuits <= 512)
+        & (word(file, 7) <= 512)
+        & ((word(file, 9) == numbers) & (word(file, 11) == numbers) & (word(file, 13) == numbers))
 }
 
 // Whether the sections follow one another exactly and end at the trailer.
@@ -69,19 +49,15 @@ pub fn chained(file: &[u8]) -> bool
     requires { ⌜ 64 ≤ length (now file) ⌝ }
     ensures { λ r. ⌜ r ≡ chained (now (file .entry)) ⌝ }
 {
+    let mut follow = true;
     let mut start = 0;
     let mut section = 0;
     while section < 7 {
-        if word(file, 2 * section) != start {
-            return false;
-        }
+        follow = follow & (word(file, 2 * section) == start);
         start += record_size(section) * word(file, 2 * section + 1);
         section += 1;
     }
-    if start + 64 != file.len() {
-        return false;
-    }
-    true
+    follow & (start + 64 == file.len())
 }
 
 // The rows of each table of a file that is whole.

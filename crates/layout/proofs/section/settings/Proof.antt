@@ -1,5 +1,4 @@
-use Rattle.layout.specs.Frame.{settingsIn}
-use Rattle.meaning.specs.File.{settingsAt}
+use Rattle.layout.proofs.Rows.{settings-read}
 use borrow.Author.Needs.{needs}
 use Rattle.layout.proofs.section.settings.Statement.{statement}
 use Rattle.layout.proofs.section.settings.Tie as tie
@@ -47,24 +46,22 @@ u64-at-requires : tie.Need-u64-at-requires
 u64-at-requires c κs = search needs
 
 returns : tie.Need-returns
-unfolding settingsIn settingsAt
 returns c =
-    rw (
-      c .before .before .before .before .before .before .before .before .before .before .before .before .before .u32-at .ensures .value,
-      c .before .before .before .before .before .before .before .before .before .before .before .before .u32-at2 .ensures .value,
-      c .before .before .before .before .before .before .before .before .before .before .before .u32-at3 .ensures .value,
-      c .before .before .before .before .before .before .before .before .before .before .u32-at4 .ensures .value,
-      c .before .before .before .before .before .before .before .before .before .u32-at5 .ensures .value,
-      c .before .before .before .before .before .before .before .before .u32-at6 .ensures .value,
-      c .before .before .before .before .before .before .before .u32-at7 .ensures .value,
-      c .before .before .before .before .before .before .u32-at8 .ensures .value,
-      c .before .before .before .before .before .u32-at9 .ensures .value,
-      c .before .before .before .before .u32-at10 .ensures .value,
-      c .before .before .before .u32-at11 .ensures .value,
-      c .before .before .u32-at12 .ensures .value,
-      c .before .u32-at13 .ensures .value,
-      c .u64-at .ensures,
-    )
+    settings-read _ _ _ _ _ _ _ _ _ _ _ _ _ _ _
+    (c .before .before .before .before .before .before .before .before .before .before .before .before .before .u32-at .ensures .value)
+    (c .before .before .before .before .before .before .before .before .before .before .before .before .u32-at2 .ensures .value)
+    (c .before .before .before .before .before .before .before .before .before .before .before .u32-at3 .ensures .value)
+    (c .before .before .before .before .before .before .before .before .before .before .u32-at4 .ensures .value)
+    (c .before .before .before .before .before .before .before .before .before .u32-at5 .ensures .value)
+    (c .before .before .before .before .before .before .before .before .u32-at6 .ensures .value)
+    (c .before .before .before .before .before .before .before .u32-at7 .ensures .value)
+    (c .before .before .before .before .before .before .u32-at8 .ensures .value)
+    (c .before .before .before .before .before .u32-at9 .ensures .value)
+    (c .before .before .before .before .u32-at10 .ensures .value)
+    (c .before .before .before .u32-at11 .ensures .value)
+    (c .before .before .u32-at12 .ensures .value)
+    (c .before .u32-at13 .ensures .value)
+    (c .u64-at .ensures)
 
 pub settings-spec : {M : Type 1} → statement M
 settings-spec =
