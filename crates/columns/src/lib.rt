@@ -53,9 +53,9 @@ pub fn nodes(file: &[u8]) -> NodeColumns
 {
     let rows = layout::counts(file);
     let count = rows.nodes;
-    let generation_zone = fill::numbers_256(file, 76, 24, count);
-    let demand_zone = fill::numbers_256(file, 80, 24, count);
-    let demand = fill::kilowatts_256(file, 84, 24, count);
+    let generation_zone = fill::of_nodes(file, 76, count);
+    let demand_zone = fill::of_nodes(file, 80, count);
+    let demand = fill::demands(file, count);
     NodeColumns {
         generation_zone,
         demand_zone,
@@ -72,11 +72,11 @@ pub fn circuits(file: &[u8]) -> CircuitColumns
     let count = rows.circuits;
     let factors = layout::settings(file);
     let start = 64 + 24 * nodes;
-    let first = fill::places_512(file, start, 44, count, nodes);
-    let second = fill::places_512(file, start + 12, 44, count, nodes);
-    let x = fill::words_512(file, start + 28, 44, count);
-    let length = fill::lengths_512(file, start, count, factors);
-    let mark = fill::words_512(file, start + 40, 44, count);
+    let first = fill::places(file, start, 44, count, nodes);
+    let second = fill::places(file, start + 12, 44, count, nodes);
+    let x = fill::of_circuits(file, start + 28, count);
+    let length = fill::lengths(file, start, count, factors);
+    let mark = fill::of_circuits(file, start + 40, count);
     CircuitColumns {
         first,
         second,
@@ -94,9 +94,9 @@ pub fn stations(file: &[u8]) -> StationColumns
     let nodes = rows.nodes;
     let count = rows.stations;
     let start = 64 + 24 * nodes + 44 * rows.circuits;
-    let node = fill::places_512(file, start + 12, 32, count, nodes);
-    let plant = fill::numbers_512(file, start + 24, 32, count);
-    let tec = fill::kilowatts_512(file, start + 28, 32, count);
+    let node = fill::places(file, start + 12, 32, count, nodes);
+    let plant = fill::plants(file, start + 24, count);
+    let tec = fill::tecs(file, start + 28, count);
     StationColumns { node, plant, tec }
 }
 

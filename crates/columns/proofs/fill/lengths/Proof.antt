@@ -7,8 +7,8 @@ use Rattle.meaning.specs.File.{circuitAt}
 use Rattle.layout.specs.Frame.{settingsIn}
 use Rattle.columns.specs.Lengths.{lengthIfInRange}
 use native.Mathlib.Omega.{arith}
-use Rattle.columns.proofs.fill.lengths_512.Statement.{statement}
-use Rattle.columns.proofs.fill.lengths_512.Tie as tie
+use Rattle.columns.proofs.fill.lengths.Statement.{statement}
+use Rattle.columns.proofs.fill.lengths.Tie as tie
 
 abbrev Inv-loop : tie.InvT-loop
 Inv-loop file start count factors all₀ i₀ all i = (i ≤ count) × (all ≡ column 0 512 i (λ j. lengthIfInRange (settingsIn factors) (circuitAt file (start + 44 * j))))
@@ -46,8 +46,8 @@ loop-again c =
 returns : tie.Need-returns Inv-loop μ-loop
 returns c = column-done _ _ _ _ _ (c .before .loop .inv .1) (omega arith) (omega arith)
 
-pub lengths-512-spec : {M : Type 1} → statement M
-lengths-512-spec =
+pub lengths-spec : {M : Type 1} → statement M
+lengths-spec =
     tie.close
     (tie.spec
     Inv-loop
