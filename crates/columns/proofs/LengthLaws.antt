@@ -11,8 +11,8 @@ use Rattle.meaning.specs.File.{u32, circuitAt}
 use Rattle.meaning.specs.Direction.{overheadFactor, cableFactor, expandedLength}
 use Rattle.meaning.specs.Conditions.{InRange, SoundSettings, SoundCircuit}
 use Rattle.meaning.proofs.Says.{Says, says-as, _also_, says-le}
-use Rattle.columns.specs.Lengths.{lengthInRange, lengthIfInRange}
-use Rattle.columns.proofs.FileLaws.{is-true, is-false}
+use Rattle.columns.specs.Lengths.{lengthInRange, lengthIfInRange, sized}
+use Rattle.layout.proofs.FileLaws.{is-true}
 
 -- two lengths and their factors up to the ends of their ranges
 pub record Low (overhead over cable under : ℕ) : Type 0 where
@@ -25,9 +25,6 @@ module _ (overhead over cable under : ℕ) where
   abbrev low : Bool
   low = leb overhead 500000 && leb cable 500000 && leb over 30000 && leb under 30000
 
-  abbrev pub sized : ℕ
-  sized = cond low (overhead * over + cable * under) 0
-
   says-low : Says low (Low overhead over cable under)
   says-low =
       says-as (says-le also says-le also says-le also says-le) (
@@ -35,15 +32,18 @@ module _ (overhead over cable under : ℕ) where
         λ r. (((r .overhead-low, r .cable-low), r .over-low), r .under-low),
       )
 
-  pub sized-out : (Low overhead over cable under → ⊥) → 0 ≡ sized
-  sized-out n = rw (sym (is-false says-low n)) refl
-
-  pub sized-in : Low overhead over cable under → overhead * over + cable * under ≡ sized
+  pub sized-in : Low overhead over cable under → overhead * over + cable * under ≡ sized overhead over cable under
   sized-in l = rw (sym (is-true says-low l)) refl
 
 -- what the two products come to
-pub part-low : {length factor : ℕ} → length ≤ 500000 → factor ≤ 30000 → length * factor ≤ 15000000000
+part-low : {length factor : ℕ} → length ≤ 500000 → factor ≤ 30000 → length * factor ≤ 15000000000
 part-low h l = mul-le-mul {n₂ = 500000} {m₂ = 30000} h l
+
+pub parts-low : (overhead over cable under : ℕ) → (leb overhead 500000 && leb cable 500000 && leb over 30000 && leb under 30000) ≡ true
+    → (overhead * over ≤ 15000000000) × (cable * under ≤ 15000000000)
+parts-low overhead over cable under e =
+    let l = says-low overhead over cable under .0 e in
+    (part-low (l .overhead-low) (l .over-low), part-low (l .cable-low) (l .under-low))
 
 -- the length of the circuit at a place
 pub length-read : (file : List ℕ) (at : ℕ) (s : Settings) (voltage overhead cable over under : ℕ)

@@ -7,7 +7,7 @@ use Prim.Native.Nat.{ℕ, suc, _+_, _*_, _-_, _/_, _%_, _^_, _≤_, _<_, min}
 use native.Mathlib.Decide.{decLt}
 use native.Mathlib.Omega.{arith}
 use borrow.Author.Tests.{eq-eqb, ne-eqb}
-use lib.Dec.{eqb, ltb}
+use lib.Dec.{eqb, leb, ltb}
 use lib.ListN.{length, getD, set, replicate, List·getD-eq-default}
 use Rattle.integers.specs.Numbers.{sum}
 use Rattle.integers.proofs.Sum.{sum-zero, sum-suc, sum-more, sum-same, sum-bound, sum-none}
@@ -17,18 +17,17 @@ use Rattle.meaning.specs.File.{u32, nodeAt, stationAt}
 use Rattle.meaning.specs.Grid.{Grid, plantOf, scales, pays, place, tecAt, capacityOf, gridOf, nodeTec, payingTec, tecOf as tecOfTest}
 use Rattle.meaning.specs.declared.Kw.{Kw}
 use Rattle.meaning.specs.declared.Plant.{Plant}
-use Rattle.meaning.proofs.Rows.{rows-at, rows-past, rows-same}
+use Rattle.meaning.proofs.Rows.{rows-at, rows-past, rows-same, rows-set, rows-none}
 use Rattle.meaning.proofs.Says.{Says, says-as, _also_, says-eq, says-between}
-use Rattle.columns.specs.Readable.{readable}
-use Rattle.columns.specs.Column.{kilowatts}
+use Rattle.layout.specs.Readable.{readable}
+use Rattle.meaning.specs.Columns.{kilowatts, numberAt, kwAt}
 use Rattle.columns.specs.Columns.{stationsOf}
-use Rattle.columns.specs.Tec.{numberAt, kwAt, cellOf, cellTec, typesTec, tecIn, tecOf}
+use Rattle.columns.specs.Tec.{cellOf, cellTec, typesTec, tecIn, tecOf}
 use Rattle.columns.specs.declared.StationColumns.{StationColumns}
 use Rattle.columns.specs.declared.TecColumns.{TecColumns}
-use Rattle.columns.proofs.FileLaws.{is-true, is-false, says-lt}
-use Rattle.columns.proofs.ColumnLaws.{rows-set, rows-none}
+use Rattle.layout.proofs.FileLaws.{is-true, says-lt}
 use Rattle.columns.proofs.ColumnAt.{station-node-at, plant-at, tec-at, by-type-at}
-use Rattle.columns.proofs.Rows.{stations-few, node-row, station-row}
+use Rattle.layout.proofs.Rows.{stations-few, node-row, station-row}
 
 -- tests that say the same are the same
 same : {a b : Bool} {P : Type 0} → Says a P → Says b P → a ≡ b
@@ -50,11 +49,11 @@ says-cell nodes v t =
     says-as (says-lt also says-between)
     (λ p. record { known = p .0; least = p .1 .least; most = p .1 .most }, λ c. (c .known, record { least = c .least; most = c .most }))
 
-pub cell-none : (nodes v plantType : ℕ) → (Cell nodes v plantType → ⊥) → 1792 ≡ cellOf nodes v plantType
-unfolding cellOf
-cell-none nodes v t n = rw (sym (is-false (says-cell nodes v t) n)) refl
+pub cell-known : (nodes v plantType : ℕ) → (ltb v nodes && (leb 1 plantType && leb plantType 7)) ≡ true → Cell nodes v plantType
+unfolding _between_and_
+cell-known nodes v t = says-cell nodes v t .0
 
-pub cell-some : (nodes v plantType : ℕ) → Cell nodes v plantType → 7 * v + plantType - 1 ≡ cellOf nodes v plantType
+cell-some : (nodes v plantType : ℕ) → Cell nodes v plantType → 7 * v + plantType - 1 ≡ cellOf nodes v plantType
 unfolding cellOf
 cell-some nodes v t c = rw (sym (is-true (says-cell nodes v t) c)) refl
 
@@ -172,15 +171,15 @@ module _ (test : Plant → Bool) (by : List Kw) where
         → kwAt sums (c / 7) + w < 2 ^ 64
     types-fit l w q = omega (arith, types-here, types-low l (c % 7) (c / 7), part-low (test (plantOf (c % 7 + 1))) (kwAt by c) (l c))
 
-  types-done : {sums : List Kw} → sums ≡ typeSums 1792 → sums ≡ rows 256 (λ v. kilowatts (typesTec test by 7 v))
-  types-done e = e ∙ rows-same 256 _ _ (λ v l. let m : min 7 (1792 - 7 * v) ≡ 7 = omega arith in rw m refl)
+  pub types-done : {sums : List Kw} (c : ℕ) → sums ≡ typeSums c → c ≤ 1792 → 1792 ≤ c → sums ≡ rows 256 (λ v. kilowatts (typesTec test by 7 v))
+  types-done c e h l =
+      let q : c ≡ 1792 = omega arith in
+      (rw q at e) ∙ rows-same 256 _ _ (λ v l. let m : min 7 (1792 - 7 * v) ≡ 7 = omega arith in rw m refl)
 
-pub types-are : (by s p : List Kw) (c : ℕ) → s ≡ typeSums scales by c → p ≡ typeSums pays by c → c ≤ 1792 → 1792 ≤ c
+pub types-are : (by s p : List Kw) → s ≡ rows 256 (λ v. kilowatts (typesTec scales by 7 v)) → p ≡ rows 256 (λ v. kilowatts (typesTec pays by 7 v))
     → record { «by_type» = by; scaling = s; paying = p } ≡ tecIn by
 unfolding tecIn
-types-are by s p c e f h l =
-    let q : c ≡ 1792 = omega arith in
-    rw (types-done scales by (rw q at e), types-done pays by (rw q at f)) refl
+types-are by s p e f = rw (e, f) refl
 
 -- ---- of a study
 module _ (S : Study) where

@@ -11,7 +11,7 @@ use Rattle.meaning.specs.Study.{circuit}
 use Rattle.meaning.specs.File.{circuitAt, studyOf, runsIn}
 use Rattle.meaning.specs.Tables.{soundCircuit, circuitsStage}
 use Rattle.meaning.proofs.Starts.{circuit-row, counts}
-use Rattle.columns.proofs.FileLaws.{whole-file}
+use Rattle.layout.proofs.FileLaws.{whole-file}
 use Rattle.tables.specs.First.{IsFirst}
 use Rattle.tables.specs.Told.{ToldEnds, ToldCircuits, unsoundCircuit}
 use Rattle.tables.proofs.FirstLaws.{first-as, at-first, at-none}

@@ -11,7 +11,7 @@ use Rattle.meaning.specs.Study.{node}
 use Rattle.meaning.specs.File.{nameAt, nodeAt, studyOf, runsIn}
 use Rattle.meaning.specs.Tables.{seenEarlier, soundNodeRow, soundNode, nodesStage}
 use Rattle.meaning.proofs.Starts.{node-row, counts}
-use Rattle.columns.proofs.FileLaws.{whole-file}
+use Rattle.layout.proofs.FileLaws.{whole-file}
 use Rattle.tables.specs.First.{IsFirst}
 use Rattle.tables.specs.Told.{ToldNodes, unsoundNode}
 use Rattle.tables.proofs.FirstLaws.{first-as, lower-first, lower-second, not-and, at-first, at-none, seen-same}

@@ -12,7 +12,7 @@ use Rattle.meaning.specs.Study.{station}
 use Rattle.meaning.specs.File.{nameAt, stationAt, studyOf, runsIn}
 use Rattle.meaning.specs.Tables.{seenEarlier, soundStationRow, soundStation, stationsStage}
 use Rattle.meaning.proofs.Starts.{station-row, counts}
-use Rattle.columns.proofs.FileLaws.{whole-file}
+use Rattle.layout.proofs.FileLaws.{whole-file}
 use Rattle.tables.specs.First.{IsFirst}
 use Rattle.tables.specs.Told.{ToldNode, ToldStations, unsoundStation}
 use Rattle.tables.proofs.FirstLaws.{first-as, lower-first, lower-second, not-and, at-first, at-none, seen-same}

@@ -1,0 +1,56 @@
+use mathlib.Core.Path.{_≡_, sym}
+use Prim.Native.Nat.{_+_, _*_, _-_, _≤_}
+use Rattle.meaning.proofs.Columns.{column-none, column-turn, column-done}
+use Rattle.meaning.specs.File.{u32}
+use Rattle.meaning.specs.Columns.{kilowatts, column}
+use Rattle.columns.specs.Column.{Table}
+use native.Mathlib.Omega.{arith}
+use Rattle.columns.proofs.fill.tecs.Statement.{statement}
+use Rattle.columns.proofs.fill.tecs.Tie as tie
+
+abbrev Inv-loop : tie.InvT-loop
+Inv-loop file start count all₀ i₀ all i = (i ≤ count) × (all ≡ column (kilowatts 0) 512 i (λ j. kilowatts (u32 file (start + 32 * j))))
+
+abbrev μ-loop : tie.MeasureT-loop
+μ-loop file start count all₀ i₀ all i = count - i
+
+loop-holds : tie.Need-loop-holds Inv-loop μ-loop
+loop-holds c = (omega arith, sym (column-none _ _ _))
+
+kilowatts-at-requires : tie.Need-kilowatts-at-requires Inv-loop μ-loop
+kilowatts-at-requires c κs = omega arith
+
+mul-all : tie.Need-mul-all Inv-loop μ-loop
+mul-all c = omega arith
+
+array-set-from-all : tie.Need-array-set-from-all Inv-loop μ-loop
+array-set-from-all c = omega arith
+
+add-i : tie.Need-add-i Inv-loop μ-loop
+add-i c = omega arith
+
+loop-less : tie.Need-loop-less Inv-loop μ-loop
+loop-less c = omega arith
+
+loop-again : tie.Need-loop-again Inv-loop μ-loop
+loop-again c =
+    let l = c .before .before in
+    (omega arith, column-turn (kilowatts 0) 512 _ (l .loop .i) (omega arith) (l .loop .inv .1) (c .kilowatts-at .ensures))
+
+returns : tie.Need-returns Inv-loop μ-loop
+returns c = column-done _ _ _ _ _ (c .before .loop .inv .1) (omega arith) (omega arith)
+
+pub tecs-spec : {M : Type 1} → statement M
+tecs-spec =
+    tie.close
+    (tie.spec
+    Inv-loop
+    μ-loop
+    loop-holds
+    kilowatts-at-requires
+    mul-all
+    array-set-from-all
+    add-i
+    loop-less
+    loop-again
+    returns)
