@@ -1,5 +1,5 @@
 -- What steps 6 to 10 take of the columns of a case file.
-use Rattle.columns.specs.declared.StudySettings.{StudySettings}
+use Rattle.layout.specs.declared.StudySettings.{StudySettings}
 use Rattle.columns.specs.declared.NodeColumns.{NodeColumns}
 use Rattle.columns.specs.declared.TecColumns.{TecColumns}
 use Rattle.charges.specs.declared.sides.MoneySettings.{MoneySettings}

@@ -2,8 +2,8 @@
 use crate::sides::MoneySettings;
 use crate::zones::SideColumns;
 use columns::NodeColumns;
-use columns::StudySettings;
 use columns::TecColumns;
+use layout::StudySettings;
 ghost use mathlib.Core.Path.{_≡_};
 ghost use Rattle.charges.specs.Inputs.{generationIn, demandIn, moneyIn};
 

@@ -6,10 +6,10 @@ use lib.ListN.{getD}
 use Rattle.meaning.specs.Study.{Study, node, circuit, station}
 use Rattle.meaning.specs.Grid.{place, gridOf, nodeTec, payingTec}
 use Rattle.meaning.proofs.Rows.{rows-at}
-use Rattle.columns.specs.Column.{kilowatts}
+use Rattle.meaning.specs.Columns.{kilowatts, numberAt, kwAt}
 use Rattle.columns.specs.Lengths.{lengthIfInRange}
 use Rattle.columns.specs.Columns.{nodesOf, circuitsOf, stationsOf}
-use Rattle.columns.specs.Tec.{numberAt, kwAt, tecOf}
+use Rattle.columns.specs.Tec.{tecOf}
 
 module _ (S : Study) where
   module _ (v : ℕ) (h : v < 256) where

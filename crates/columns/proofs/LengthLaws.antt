@@ -12,7 +12,7 @@ use Rattle.meaning.specs.Direction.{overheadFactor, cableFactor, expandedLength
 use Rattle.meaning.specs.Conditions.{InRange, SoundSettings, SoundCircuit}
 use Rattle.meaning.proofs.Says.{Says, says-as, _also_, says-le}
 use Rattle.columns.specs.Lengths.{lengthInRange, lengthIfInRange}
-use Rattle.columns.proofs.FileLaws.{is-true, is-false}
+use Rattle.layout.proofs.FileLaws.{is-true, is-false}
 
 -- two lengths and their factors up to the ends of their ranges
 pub record Low (overhead over cable under : ℕ) : Type 0 where

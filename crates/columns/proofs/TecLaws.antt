@@ -17,18 +17,17 @@ use Rattle.meaning.specs.File.{u32, nodeAt, stationAt}
 use Rattle.meaning.specs.Grid.{Grid, plantOf, scales, pays, place, tecAt, capacityOf, gridOf, nodeTec, payingTec, tecOf as tecOfTest}
 use Rattle.meaning.specs.declared.Kw.{Kw}
 use Rattle.meaning.specs.declared.Plant.{Plant}
-use Rattle.meaning.proofs.Rows.{rows-at, rows-past, rows-same}
+use Rattle.meaning.proofs.Rows.{rows-at, rows-past, rows-same, rows-set, rows-none}
 use Rattle.meaning.proofs.Says.{Says, says-as, _also_, says-eq, says-between}
-use Rattle.columns.specs.Readable.{readable}
-use Rattle.columns.specs.Column.{kilowatts}
+use Rattle.layout.specs.Readable.{readable}
+use Rattle.meaning.specs.Columns.{kilowatts, numberAt, kwAt}
 use Rattle.columns.specs.Columns.{stationsOf}
-use Rattle.columns.specs.Tec.{numberAt, kwAt, cellOf, cellTec, typesTec, tecIn, tecOf}
+use Rattle.columns.specs.Tec.{cellOf, cellTec, typesTec, tecIn, tecOf}
 use Rattle.columns.specs.declared.StationColumns.{StationColumns}
 use Rattle.columns.specs.declared.TecColumns.{TecColumns}
-use Rattle.columns.proofs.FileLaws.{is-true, is-false, says-lt}
-use Rattle.columns.proofs.ColumnLaws.{rows-set, rows-none}
+use Rattle.layout.proofs.FileLaws.{is-true, is-false, says-lt}
 use Rattle.columns.proofs.ColumnAt.{station-node-at, plant-at, tec-at, by-type-at}
-use Rattle.columns.proofs.Rows.{stations-few, node-row, station-row}
+use Rattle.layout.proofs.Rows.{stations-few, node-row, station-row}
 
 -- tests that say the same are the same
 same : {a b : Bool} {P : Type 0} → Says a P → Says b P → a ≡ b

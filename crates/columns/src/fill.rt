@@ -1,14 +1,15 @@
 // Arrays filled from the rows of a table: a field of each row, and nothing past the last.
-use crate::StudySettings;
 use crate::lengths;
+use layout::StudySettings;
 use meaning::Kw;
 ghost use mathlib.Core.Path.{_≡_};
 ghost use Prim.Native.Nat.{_+_, _*_, _≤_};
 ghost use Rattle.meaning.specs.File.{u32, circuitAt};
 ghost use Rattle.fields.specs.Search.{firstNamed};
-ghost use Rattle.columns.specs.Column.{kilowatts, column, Table};
+ghost use Rattle.meaning.specs.Columns.{kilowatts, column};
+ghost use Rattle.columns.specs.Column.{Table};
 ghost use Rattle.columns.specs.Lengths.{lengthIfInRange};
-ghost use Rattle.columns.specs.Columns.{settingsIn};
+ghost use Rattle.layout.specs.Frame.{settingsIn};
 
 // Where a field of a row stands.
 pub fn row_at(start: usize, stride: usize, row: usize) -> usize

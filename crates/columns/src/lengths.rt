@@ -1,11 +1,11 @@
 // 01, step 4: the expanded length of a circuit, by voltage.
-use crate::StudySettings;
+use layout::StudySettings;
 ghost use mathlib.Core.Path.{_≡_};
 ghost use Prim.Native.Nat.{_≤_};
 ghost use Rattle.meaning.specs.File.{circuitAt};
 ghost use Rattle.meaning.specs.Direction.{overheadFactor, cableFactor};
 ghost use Rattle.columns.specs.Lengths.{lengthIfInRange};
-ghost use Rattle.columns.specs.Columns.{settingsIn};
+ghost use Rattle.layout.specs.Frame.{settingsIn};
 
 // The factor of overhead line; a voltage that no sound row has takes that of 132 kV.
 pub fn overhead_factor(factors: StudySettings, voltage: usize) -> usize

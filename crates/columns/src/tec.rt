@@ -8,8 +8,8 @@ ghost use mathlib.Core.Bool.{cond};
 ghost use Prim.Native.Nat.{ℕ, _≤_, _<_, _^_};
 ghost use Rattle.meaning.specs.Rows.{rows};
 ghost use Rattle.meaning.specs.Grid.{scales, pays};
-ghost use Rattle.columns.specs.Column.{kilowatts};
-ghost use Rattle.columns.specs.Tec.{kwAt, cellOf, cellTec, tecIn};
+ghost use Rattle.meaning.specs.Columns.{kilowatts, kwAt};
+ghost use Rattle.columns.specs.Tec.{cellOf, cellTec, tecIn};
 
 // The cell of a node and a plant type.
 pub fn cell_of(nodes: usize, node: usize, plant: usize) -> usize

@@ -57,7 +57,7 @@ fn of_whole_file(file: &[u8]) -> Printed
 pub fn print(input: &[u8]) -> Printed
     ensures { λ r. ⌜ Prints (prints (now (input .entry))) r ⌝ }
 {
-    if columns::whole(input) {
+    if layout::whole(input) {
         return of_whole_file(input);
     }
     refused(Answer::BadFile)

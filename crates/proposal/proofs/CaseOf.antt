@@ -13,12 +13,13 @@ use Rattle.meaning.specs.Grid.{gridOf, nodeTec, nodeDemand, totalTec, totalDema
 use Rattle.meaning.specs.Direction.{expandedLength}
 use Rattle.meaning.specs.Conditions.{SoundSettings, SoundTables}
 use Rattle.meaning.proofs.Says.{says-le, _also_}
-use Rattle.columns.specs.declared.RowCounts.{RowCounts}
-use Rattle.columns.specs.declared.StudySettings.{StudySettings}
+use Rattle.layout.specs.declared.RowCounts.{RowCounts}
+use Rattle.layout.specs.declared.StudySettings.{StudySettings}
 use Rattle.columns.specs.declared.NodeColumns.{NodeColumns}
 use Rattle.columns.specs.declared.CircuitColumns.{CircuitColumns}
 use Rattle.columns.specs.Lengths.{lengthInRange, lengthIfInRange}
-use Rattle.columns.specs.Columns.{countsOf, settingsIn, nodesOf, circuitsOf}
+use Rattle.layout.specs.Frame.{countsOf, settingsIn}
+use Rattle.columns.specs.Columns.{nodesOf, circuitsOf}
 use Rattle.proposal.specs.Columns.{Filled}
 use Rattle.proposal.specs.Supplies.{kilowatts, kwAt}
 use Rattle.proposal.specs.Case.{caseOf, Countable}

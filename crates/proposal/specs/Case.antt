@@ -4,8 +4,8 @@ use Prim.Native.Nat.{ℕ, _-_, _≤_, _<_}
 use lib.IntN.{ℤ}
 use lib.ListN.{length, getD}
 use Rattle.integers.specs.Numbers.{sum}
-use Rattle.columns.specs.declared.RowCounts.{RowCounts}
-use Rattle.columns.specs.declared.StudySettings.{StudySettings}
+use Rattle.layout.specs.declared.RowCounts.{RowCounts}
+use Rattle.layout.specs.declared.StudySettings.{StudySettings}
 use Rattle.columns.specs.declared.NodeColumns.{NodeColumns}
 use Rattle.columns.specs.declared.CircuitColumns.{CircuitColumns}
 use Rattle.meaning.specs.declared.Kw.{Kw}

@@ -12,11 +12,12 @@ use Rattle.meaning.specs.File.{circuitAt}
 use Rattle.meaning.specs.Tables.{soundCircuit, circuitsStage}
 use Rattle.meaning.specs.Grid.{place}
 use Rattle.meaning.proofs.Rows.{rows-at}
-use Rattle.columns.specs.declared.RowCounts.{RowCounts}
+use Rattle.layout.specs.declared.RowCounts.{RowCounts}
 use Rattle.columns.specs.declared.CircuitColumns.{CircuitColumns}
-use Rattle.columns.specs.Readable.{readable}
-use Rattle.columns.specs.Columns.{countsOf, circuitsOf}
-use Rattle.columns.proofs.Rows.{counts-are, few, circuit-row}
+use Rattle.layout.specs.Readable.{readable}
+use Rattle.layout.specs.Frame.{countsOf}
+use Rattle.columns.specs.Columns.{circuitsOf}
+use Rattle.layout.proofs.Rows.{counts-are, few, circuit-row}
 use Rattle.rows.specs.First.{IsFirst}
 use Rattle.rows.specs.Told.{ToldEnds, ToldCircuits, unsoundCircuit}
 use Rattle.rows.proofs.FirstLaws.{first-as, at-first, at-none}

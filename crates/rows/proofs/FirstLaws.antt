@@ -11,6 +11,7 @@ use Rattle.meaning.specs.Rows.{lowest, found}
 use Rattle.meaning.specs.Name.{Name, sameName}
 use Rattle.meaning.specs.Tables.{seenEarlier}
 use Rattle.meaning.proofs.Rows.{Lowest, nothing, first, lowest-is, lowest-stops, lowest-none, Passed}
+use Rattle.columns.proofs.PlaceLaws.{lowest-same}
 use Rattle.rows.specs.First.{IsFirst}
 
 module _ {test : ℕ → Bool} {n : ℕ} where
@@ -68,14 +69,6 @@ pub not-and : (a b : Bool) → (not a || b) ≡ not (a && not b)
 not-and true true = refl
 not-and true false = refl
 not-and false b = refl
-
--- a search answers the same for tests that say the same of every row
-pub lowest-same : (f g : ℕ → Bool) (n : ℕ) → ((i : ℕ) → i < n → f i ≡ g i) → lowest f n ≡ lowest g n
-lowest-same f g n e = go (lowest-is f n)
-  where
-    go : {o : Option ℕ} → Lowest f n o → o ≡ lowest g n
-    go (nothing h) = sym (lowest-none g n (λ j k. sym (e j k) ∙ h j k))
-    go (first i h t l) = sym (lowest-stops g n i h (sym (e i h) ∙ t) (λ j k. sym (e j (omega arith)) ∙ l j k))
 
 -- whether a name is seen earlier is said by the names up to its row
 pub seen-same : (a b : ℕ → Name) (i : ℕ) → ((j : ℕ) → j ≤ i → a j ≡ b j) → seenEarlier a i ≡ seenEarlier b i

@@ -10,11 +10,11 @@ use Rattle.meaning.specs.Name.{Name}
 use Rattle.meaning.specs.Study.{node}
 use Rattle.meaning.specs.File.{nameAt, nodeAt}
 use Rattle.meaning.specs.Tables.{seenEarlier, soundNodeRow, soundNode, nodesStage}
-use Rattle.columns.specs.declared.RowCounts.{RowCounts}
-use Rattle.columns.specs.declared.StudySettings.{StudySettings}
-use Rattle.columns.specs.Readable.{readable}
-use Rattle.columns.specs.Columns.{countsOf, settingsIn}
-use Rattle.columns.proofs.Rows.{counts-are, few, node-row}
+use Rattle.layout.specs.declared.RowCounts.{RowCounts}
+use Rattle.layout.specs.declared.StudySettings.{StudySettings}
+use Rattle.layout.specs.Readable.{readable}
+use Rattle.layout.specs.Frame.{countsOf, settingsIn}
+use Rattle.layout.proofs.Rows.{counts-are, few, node-row}
 use Rattle.rows.specs.First.{IsFirst}
 use Rattle.rows.specs.Told.{ToldZones, ToldNodes, unsoundNode}
 use Rattle.rows.proofs.FirstLaws.{first-as, lower-first, lower-second, not-and, at-first, at-none, seen-same}

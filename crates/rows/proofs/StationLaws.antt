@@ -13,11 +13,12 @@ use Rattle.meaning.specs.File.{nameAt, stationAt}
 use Rattle.meaning.specs.Tables.{seenEarlier, soundStationRow, soundStation, stationsStage}
 use Rattle.meaning.specs.Grid.{place}
 use Rattle.meaning.proofs.Rows.{rows-at}
-use Rattle.columns.specs.declared.RowCounts.{RowCounts}
+use Rattle.layout.specs.declared.RowCounts.{RowCounts}
 use Rattle.columns.specs.declared.StationColumns.{StationColumns}
-use Rattle.columns.specs.Readable.{readable}
-use Rattle.columns.specs.Columns.{countsOf, stationsOf}
-use Rattle.columns.proofs.Rows.{counts-are, few, station-row}
+use Rattle.layout.specs.Readable.{readable}
+use Rattle.layout.specs.Frame.{countsOf}
+use Rattle.columns.specs.Columns.{stationsOf}
+use Rattle.layout.proofs.Rows.{counts-are, few, station-row}
 use Rattle.rows.specs.First.{IsFirst}
 use Rattle.rows.specs.Told.{ToldNode, ToldStations, unsoundStation}
 use Rattle.rows.proofs.FirstLaws.{first-as, lower-first, lower-second, not-and, at-first, at-none, seen-same}

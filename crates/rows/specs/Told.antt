@@ -9,11 +9,12 @@ use Rattle.meaning.specs.Study.{Node, Circuit}
 use Rattle.meaning.specs.File.{nameAt, nodeAt, circuitAt, stationAt}
 use Rattle.meaning.specs.Tables.{known, soundNodeRow, soundCircuitRow, soundStationRow}
 use Rattle.meaning.specs.Grid.{place}
-use Rattle.columns.specs.declared.RowCounts.{RowCounts}
+use Rattle.layout.specs.declared.RowCounts.{RowCounts}
 use Rattle.columns.specs.declared.CircuitColumns.{CircuitColumns}
 use Rattle.columns.specs.declared.StationColumns.{StationColumns}
-use Rattle.columns.specs.Readable.{readable}
-use Rattle.columns.specs.Columns.{countsOf, circuitsOf, stationsOf}
+use Rattle.layout.specs.Readable.{readable}
+use Rattle.layout.specs.Frame.{countsOf}
+use Rattle.columns.specs.Columns.{circuitsOf, stationsOf}
 
 -- how many zones there are
 pub record ToldZones (file : List ℕ) (g d : ℕ) : Type 0 where

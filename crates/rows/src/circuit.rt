@@ -5,11 +5,11 @@ ghost use mathlib.Core.Bool.{_||_};
 ghost use lib.Dec.{eqb};
 ghost use Rattle.meaning.specs.File.{u32, circuitAt};
 ghost use Rattle.meaning.specs.Tables.{soundCircuitRow, circuitsStage};
-ghost use Rattle.columns.specs.Readable.{readable};
+ghost use Rattle.layout.specs.Readable.{readable};
 ghost use Rattle.rows.specs.First.{IsFirst};
 ghost use Rattle.rows.specs.Told.{soundEnds, ToldEnds, ToldCircuits, unsoundCircuit};
 use columns::CircuitColumns;
-use columns::RowCounts;
+use layout::RowCounts;
 use meaning::Answer;
 
 // Whether there are circuits of the voltage at a place.

@@ -6,7 +6,7 @@ mod tests;
 
 ghost use mathlib.Core.Path.{_≡_};
 ghost use Rattle.meaning.specs.Tables.{nodesStage, circuitsStage, stationsStage};
-ghost use Rattle.columns.specs.Readable.{readable};
+ghost use Rattle.layout.specs.Readable.{readable};
 ghost use Rattle.columns.specs.Columns.{circuitsOf};
 ghost use Rattle.columns.specs.Tec.{tecOf};
 use columns::CircuitColumns;
@@ -29,8 +29,8 @@ pub struct JudgedStations {
 pub fn nodes(file: &[u8]) -> Answer
     ensures { λ r. ⌜ r ≡ nodesStage (readable (now (file .entry))) ⌝ }
 {
-    let rows = columns::counts(file);
-    let zones = columns::settings(file);
+    let rows = layout::counts(file);
+    let zones = layout::settings(file);
     node::stage(
         file,
         rows.nodes,
@@ -43,7 +43,7 @@ pub fn nodes(file: &[u8]) -> Answer
 pub fn circuits(file: &[u8]) -> JudgedCircuits
     ensures { λ r. ⌜ (r .answer ≡ circuitsStage (readable (now (file .entry)))) × (r .columns ≡ circuitsOf (readable (now (file .entry)))) ⌝ }
 {
-    let rows = columns::counts(file);
+    let rows = layout::counts(file);
     let columns = columns::circuits(file);
     let answer = circuit::stage(file, rows, 64 + 24 * rows.nodes, columns);
     JudgedCircuits { answer, columns }
@@ -53,7 +53,7 @@ pub fn circuits(file: &[u8]) -> JudgedCircuits
 pub fn stations(file: &[u8]) -> JudgedStations
     ensures { λ r. ⌜ (r .answer ≡ stationsStage (readable (now (file .entry)))) × (r .tec ≡ tecOf (readable (now (file .entry)))) ⌝ }
 {
-    let rows = columns::counts(file);
+    let rows = layout::counts(file);
     let capacity = columns::capacity(file);
     let columns = capacity.stations;
     let start = 64 + 24 * rows.nodes + 44 * rows.circuits;

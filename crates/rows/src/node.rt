@@ -4,7 +4,7 @@ ghost use mathlib.Core.Path.{_≡_};
 ghost use Prim.Native.Nat.{_≤_, _^_};
 ghost use Rattle.meaning.specs.File.{nodeAt};
 ghost use Rattle.meaning.specs.Tables.{soundNodeRow, nodesStage};
-ghost use Rattle.columns.specs.Readable.{readable};
+ghost use Rattle.layout.specs.Readable.{readable};
 ghost use Rattle.rows.specs.First.{IsFirst};
 ghost use Rattle.rows.specs.Told.{ToldZones, ToldNodes, unsoundNode};
 use meaning::Answer;

@@ -3,10 +3,10 @@ use crate::tests;
 ghost use mathlib.Core.Path.{_≡_};
 ghost use Rattle.meaning.specs.File.{stationAt};
 ghost use Rattle.meaning.specs.Tables.{soundStationRow, stationsStage};
-ghost use Rattle.columns.specs.Readable.{readable};
+ghost use Rattle.layout.specs.Readable.{readable};
 ghost use Rattle.rows.specs.First.{IsFirst};
 ghost use Rattle.rows.specs.Told.{ToldNode, ToldStations, unsoundStation};
-use columns::RowCounts;
+use layout::RowCounts;
 use columns::StationColumns;
 use meaning::Answer;
 

@@ -15,15 +15,15 @@ use Rattle.meaning.specs.Outcome.{fileStage, runsStage, rowsStage, gridStage, t
 use Rattle.meaning.specs.Conditions.{InRange}
 use Rattle.meaning.proofs.Answers.{passed-passes, orElse-stops, orElse-passes}
 use Rattle.meaning.proofs.Starts.{counts}
-use Rattle.columns.specs.declared.RowCounts.{RowCounts}
-use Rattle.columns.specs.declared.StudySettings.{StudySettings}
+use Rattle.layout.specs.declared.RowCounts.{RowCounts}
+use Rattle.layout.specs.declared.StudySettings.{StudySettings}
 use Rattle.columns.specs.declared.NodeColumns.{NodeColumns}
 use Rattle.columns.specs.declared.CircuitColumns.{CircuitColumns}
 use Rattle.columns.specs.declared.CapacityColumns.{CapacityColumns}
 use Rattle.columns.specs.Columns.{nodesOf}
 use Rattle.columns.specs.Tec.{tecOf}
-use Rattle.columns.proofs.FileLaws.{whole-file}
-use Rattle.columns.proofs.Rows.{readable-whole}
+use Rattle.layout.proofs.FileLaws.{whole-file}
+use Rattle.layout.proofs.Rows.{readable-whole}
 use Rattle.tables.specs.Told.{ToldTables, ToldKilowatts, ToldColumns}
 use Rattle.tables.proofs.ToldLaws.{told-nodes, told-circuits}
 

@@ -14,12 +14,12 @@ use Rattle.meaning.specs.Outcome.{rowsStage, gridStage}
 use Rattle.meaning.proofs.Answers.{Passes}
 use Rattle.meaning.proofs.Rows.{rows-at}
 use Rattle.meaning.proofs.Tables.{Rowwise, rows-pass}
-use Rattle.columns.specs.declared.RowCounts.{RowCounts}
-use Rattle.columns.specs.declared.StudySettings.{StudySettings}
+use Rattle.layout.specs.declared.RowCounts.{RowCounts}
+use Rattle.layout.specs.declared.StudySettings.{StudySettings}
 use Rattle.columns.specs.declared.CircuitColumns.{CircuitColumns}
 use Rattle.columns.specs.declared.StationColumns.{StationColumns}
-use Rattle.columns.specs.Column.{kilowatts}
-use Rattle.columns.specs.Columns.{settingsIn}
+use Rattle.meaning.specs.Columns.{kilowatts}
+use Rattle.layout.specs.Frame.{settingsIn}
 use Rattle.tables.specs.Told.{ToldTables, ToldKilowatts}
 use Rattle.tables.specs.Totals.{inColumn, Small, totalsOf}
 use Rattle.tables.specs.Walk.{endsNetwork, Walks}

@@ -14,12 +14,13 @@ use Rattle.meaning.specs.Tables.{soundSettings, settingsStage}
 use Rattle.meaning.specs.Conditions.{WholeFile}
 use Rattle.meaning.proofs.Rows.{rows-at, length-rows}
 use Rattle.meaning.proofs.Starts.{counts}
-use Rattle.columns.specs.declared.RowCounts.{RowCounts}
-use Rattle.columns.specs.declared.StudySettings.{StudySettings}
+use Rattle.layout.specs.declared.RowCounts.{RowCounts}
+use Rattle.layout.specs.declared.StudySettings.{StudySettings}
 use Rattle.columns.specs.declared.CircuitColumns.{CircuitColumns}
 use Rattle.columns.specs.declared.StationColumns.{StationColumns}
-use Rattle.columns.specs.Columns.{countsOf, settingsIn, circuitsOf, stationsOf}
-use Rattle.columns.proofs.FileLaws.{whole-file}
+use Rattle.layout.specs.Frame.{countsOf, settingsIn}
+use Rattle.columns.specs.Columns.{circuitsOf, stationsOf}
+use Rattle.layout.proofs.FileLaws.{whole-file}
 use Rattle.tables.specs.Told.{ToldNodes, ToldZones, ToldCircuits, ToldStations, ToldTables}
 
 module _ {file : List ℕ} {n : RowCounts} {s : StudySettings} {c : CircuitColumns} {k : StationColumns} (t : ToldTables file n s c k) where

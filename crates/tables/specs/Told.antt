@@ -10,15 +10,16 @@ use Rattle.meaning.specs.Study.{circuit, station}
 use Rattle.meaning.specs.declared.Kw.{Kw}
 use Rattle.meaning.specs.Rows.{rows}
 use Rattle.meaning.specs.Grid.{place, gridOf, nodeDemand, nodeTec}
-use Rattle.columns.specs.declared.RowCounts.{RowCounts}
-use Rattle.columns.specs.declared.StudySettings.{StudySettings}
+use Rattle.layout.specs.declared.RowCounts.{RowCounts}
+use Rattle.layout.specs.declared.StudySettings.{StudySettings}
 use Rattle.columns.specs.declared.CircuitColumns.{CircuitColumns}
 use Rattle.columns.specs.declared.StationColumns.{StationColumns}
-use Rattle.columns.specs.Column.{kilowatts}
+use Rattle.meaning.specs.Columns.{kilowatts}
 use Rattle.columns.specs.declared.NodeColumns.{NodeColumns}
 use Rattle.columns.specs.declared.CapacityColumns.{CapacityColumns}
-use Rattle.columns.specs.Readable.{readable}
-use Rattle.columns.specs.Columns.{countsOf, settingsIn, nodesOf, circuitsOf, stationsOf}
+use Rattle.layout.specs.Readable.{readable}
+use Rattle.layout.specs.Frame.{countsOf, settingsIn}
+use Rattle.columns.specs.Columns.{nodesOf, circuitsOf, stationsOf}
 use Rattle.columns.specs.Tec.{tecOf}
 
 -- a whole file, and the rows of its nodes' table

@@ -9,7 +9,7 @@ use Rattle.meaning.specs.declared.Answer.{Answer}
 use Rattle.meaning.specs.declared.Answer.the-variants.{BadTotal}
 use Rattle.meaning.specs.Answers.{unless}
 use Rattle.meaning.specs.declared.Kw.{Kw}
-use Rattle.columns.specs.Column.{kilowatts}
+use Rattle.meaning.specs.Columns.{kilowatts}
 
 -- the kilowatts of row v of a column
 abbrev pub inColumn : List Kw → ℕ → ℕ

@@ -9,9 +9,9 @@ use crate::totals;
 use columns::CapacityColumns;
 use columns::CircuitColumns;
 use columns::NodeColumns;
-use columns::RowCounts;
 use columns::StationColumns;
-use columns::StudySettings;
+use layout::RowCounts;
+use layout::StudySettings;
 use meaning::Answer;
 use meaning::Kw;
 ghost use mathlib.Core.Path.{_≡_};
@@ -126,7 +126,7 @@ pub fn tables_stage(
     requires { ⌜ ToldColumns (now file) rows read nodes ends capacity ⌝ }
     ensures { λ r. ⌜ r ≡ tablesStage (now (file .entry)) base wider local ⌝ }
 {
-    if columns::whole(file) {
+    if layout::whole(file) {
         if same_lengths(base, wider, local, rows.nodes + rows.circuits) {
             let at = capacity.stations;
             let demand = nodes.demand;

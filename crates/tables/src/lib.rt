@@ -13,9 +13,9 @@ ghost use Rattle.meaning.specs.Outcome.{tablesStage};
 ghost use Rattle.tables.specs.Opens.{Opens};
 use columns::CircuitColumns;
 use columns::NodeColumns;
-use columns::RowCounts;
-use columns::StudySettings;
 use columns::TecColumns;
+use layout::RowCounts;
+use layout::StudySettings;
 use meaning::Answer;
 
 // A case file opened: what stops it first among 1 to 7, and its columns.
@@ -32,8 +32,8 @@ pub struct Opened {
 pub fn open(file: &[u8], base: usize, wider: usize, local: usize) -> Opened
     ensures { λ r. ⌜ Opens (now (file .entry)) base wider local r ⌝ }
 {
-    let counts = columns::counts(file);
-    let settings = columns::settings(file);
+    let counts = layout::counts(file);
+    let settings = layout::settings(file);
     let nodes = columns::nodes(file);
     let circuits = columns::circuits(file);
     let capacity = columns::capacity(file);

@@ -2,8 +2,8 @@
 use crate::tests;
 ghost use mathlib.Core.Path.{_≡_};
 ghost use Rattle.meaning.specs.Tables.{soundSettings};
-ghost use Rattle.columns.specs.Columns.{settingsIn};
-use columns::StudySettings;
+ghost use Rattle.layout.specs.Frame.{settingsIn};
+use layout::StudySettings;
 
 // Whether each setting is in its range; the reference is a row of the nodes' table.
 pub fn sound(settings: StudySettings, nodes: usize) -> bool

@@ -5,7 +5,7 @@ ghost use Prim.Native.Nat.{_≤_};
 ghost use lib.Dec.{leb};
 ghost use Rattle.integers.specs.Numbers.{sum};
 ghost use Rattle.meaning.specs.Rows.{_between_and_};
-ghost use Rattle.columns.specs.Column.{kilowatts};
+ghost use Rattle.meaning.specs.Columns.{kilowatts};
 ghost use Rattle.tables.specs.Totals.{inColumn, Small, totalsOf};
 use meaning::Answer;
 use meaning::Kw;

@@ -1,6 +1,6 @@
 use native.Mathlib.Omega.{arith}
 use Rattle.columns.specs.Column.{Table}
-use Rattle.columns.proofs.Rows.{Few, few, counts-are}
+use Rattle.layout.proofs.Rows.{Few, few, counts-are}
 use Rattle.columns.proofs.TableColumns.{nodes-are}
 use borrow.Author.Needs.{needs}
 use Rattle.columns.proofs.nodes.Statement.{statement}

@@ -1,5 +1,5 @@
 use Rattle.columns.specs.Column.{Table}
-use Rattle.columns.proofs.Rows.{Few, few, counts-are}
+use Rattle.layout.proofs.Rows.{Few, few, counts-are}
 use Rattle.columns.proofs.TableColumns.{stations-are}
 use native.Mathlib.Omega.{arith}
 use borrow.Author.Needs.{needs}

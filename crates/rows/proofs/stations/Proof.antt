@@ -1,5 +1,5 @@
 use native.Mathlib.Omega.{arith}
-use Rattle.columns.proofs.Rows.{few}
+use Rattle.layout.proofs.Rows.{few}
 use Rattle.rows.proofs.StationLaws.{told-stations}
 use borrow.Author.Needs.{needs}
 use Rattle.rows.proofs.stations.Statement.{statement}

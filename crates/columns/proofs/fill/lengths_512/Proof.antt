@@ -1,9 +1,10 @@
-use mathlib.Core.Path.{_≡_, _∙_, ap}
+use mathlib.Core.Path.{_≡_, sym, _∙_, ap}
 use Prim.Native.Nat.{_+_, _*_, _-_, _≤_}
-use Rattle.columns.proofs.ColumnLaws.{column-none, column-turn, column-done}
-use Rattle.columns.specs.Column.{column, Table}
+use Rattle.meaning.proofs.Columns.{column-none, column-turn, column-done}
+use Rattle.meaning.specs.Columns.{column}
+use Rattle.columns.specs.Column.{Table}
 use Rattle.meaning.specs.File.{circuitAt}
-use Rattle.columns.specs.Columns.{settingsIn}
+use Rattle.layout.specs.Frame.{settingsIn}
 use Rattle.columns.specs.Lengths.{lengthIfInRange}
 use native.Mathlib.Omega.{arith}
 use Rattle.columns.proofs.fill.lengths_512.Statement.{statement}
@@ -16,7 +17,7 @@ abbrev μ-loop : tie.MeasureT-loop
 μ-loop file start count factors all₀ i₀ all i = count - i
 
 loop-holds : tie.Need-loop-holds Inv-loop μ-loop
-loop-holds c = (omega arith, column-none _ _ _)
+loop-holds c = (omega arith, sym (column-none _ _ _))
 
 row-at-requires : tie.Need-row-at-requires Inv-loop μ-loop
 row-at-requires c κs = omega arith

@@ -1,7 +1,8 @@
-use mathlib.Core.Path.{_≡_, _∙_, ap}
+use mathlib.Core.Path.{_≡_, sym, _∙_, ap}
 use Prim.Native.Nat.{_+_, _*_, _-_, _≤_}
-use Rattle.columns.proofs.ColumnLaws.{column-none, column-turn, column-done}
-use Rattle.columns.specs.Column.{column, Table}
+use Rattle.meaning.proofs.Columns.{column-none, column-turn, column-done}
+use Rattle.meaning.specs.Columns.{column}
+use Rattle.columns.specs.Column.{Table}
 use Rattle.fields.specs.Search.{firstNamed}
 use borrow.Author.Needs.{needs}
 use native.Mathlib.Omega.{arith}
@@ -18,7 +19,7 @@ cast-rows : tie.Need-cast-rows Inv-loop μ-loop
 cast-rows c = omega arith
 
 loop-holds : tie.Need-loop-holds Inv-loop μ-loop
-loop-holds c = (omega arith, column-none _ _ _)
+loop-holds c = (omega arith, sym (column-none _ _ _))
 
 row-at-requires : tie.Need-row-at-requires Inv-loop μ-loop
 row-at-requires c κs = omega arith

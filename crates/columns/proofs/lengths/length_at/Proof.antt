@@ -1,7 +1,7 @@
 use Prim.Native.Nat.{ℕ, _+_, _*_, _≤_}
 use native.Mathlib.Omega.{arith}
 use mathlib.Core.Path.{_≡_, _∙_}
-use Rattle.columns.specs.Columns.{settingsIn}
+use Rattle.layout.specs.Frame.{settingsIn}
 use Rattle.columns.specs.Lengths.{lengthIfInRange}
 use Rattle.meaning.specs.File.{circuitAt}
 use Rattle.columns.proofs.LengthLaws.{Low, sized, sized-out, sized-in, part-low, length-read}

@@ -1,5 +1,5 @@
 use Rattle.meaning.specs.Tables.{soundSettings}
-use Rattle.columns.specs.Columns.{settingsIn}
+use Rattle.layout.specs.Frame.{settingsIn}
 use borrow.Author.Needs.{needs}
 use Rattle.tables.proofs.settings.sound.Statement.{statement}
 use Rattle.tables.proofs.settings.sound.Tie as tie

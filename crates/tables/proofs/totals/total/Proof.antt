@@ -4,7 +4,7 @@ use native.Mathlib.Omega.{arith}
 use borrow.Author.Needs.{needs}
 use Rattle.integers.specs.Numbers.{sum}
 use Rattle.integers.proofs.Sum.{sum-zero, sum-more}
-use Rattle.columns.specs.Column.{kilowatts}
+use Rattle.meaning.specs.Columns.{kilowatts}
 use Rattle.tables.specs.Totals.{inColumn}
 use Rattle.tables.proofs.totals.total.Statement.{statement}
 use Rattle.tables.proofs.totals.total.Tie as tie

@@ -1,8 +1,8 @@
 use mathlib.Core.Path.{sym, _∙_}
-use Rattle.columns.proofs.Rows.{settings-whole, settings-none}
+use Rattle.layout.proofs.Rows.{settings-whole, settings-none}
 use borrow.Author.Needs.{needs}
-use Rattle.columns.proofs.settings.Statement.{statement}
-use Rattle.columns.proofs.settings.Tie as tie
+use Rattle.layout.proofs.settings.Statement.{statement}
+use Rattle.layout.proofs.settings.Tie as tie
 
 whole-requires : tie.Need-whole-requires
 whole-requires c κs = search needs

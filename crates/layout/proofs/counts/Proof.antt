@@ -1,10 +1,10 @@
 use mathlib.Core.Path.{sym, _∙_}
-use Rattle.columns.proofs.FileLaws.{FileParts, says-file}
-use Rattle.columns.proofs.Rows.{counts-whole, counts-none}
+use Rattle.layout.proofs.FileLaws.{FileParts, says-file}
+use Rattle.layout.proofs.Rows.{counts-whole, counts-none}
 use native.Mathlib.Omega.{arith}
 use borrow.Author.Needs.{needs}
-use Rattle.columns.proofs.counts.Statement.{statement}
-use Rattle.columns.proofs.counts.Tie as tie
+use Rattle.layout.proofs.counts.Statement.{statement}
+use Rattle.layout.proofs.counts.Tie as tie
 
 whole-requires : tie.Need-whole-requires
 whole-requires c κs = search needs

@@ -2,10 +2,10 @@ use native.Mathlib.Omega.{arith}
 use native.Mathlib.Omega.{arith}
 use mathlib.Core.Path.{_≡_, sym, _∙_}
 use Prim.Native.Nat.{_-_}
-use Rattle.columns.proofs.FileLaws.{ChainedTo, size-low, chained-none, chained-on, chained-broken, chained-off, chained-done}
+use Rattle.layout.proofs.FileLaws.{ChainedTo, size-low, chained-none, chained-on, chained-broken, chained-off, chained-done}
 use borrow.Author.Needs.{needs}
-use Rattle.columns.proofs.trailer.chained.Statement.{statement}
-use Rattle.columns.proofs.trailer.chained.Tie as tie
+use Rattle.layout.proofs.trailer.chained.Statement.{statement}
+use Rattle.layout.proofs.trailer.chained.Tie as tie
 
 abbrev Inv-loop : tie.InvT-loop
 Inv-loop file start₀ section₀ start section = ChainedTo file section start

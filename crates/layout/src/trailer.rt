@@ -4,8 +4,8 @@ ghost use mathlib.Core.Path.{_≡_};
 ghost use Prim.Native.Nat.{_≤_, _<_};
 ghost use lib.ListN.{length};
 ghost use Rattle.meaning.specs.File.{recordSize, counted, chained, studyOf};
-ghost use Rattle.columns.specs.Readable.{Word};
-ghost use Rattle.columns.specs.Columns.{countsOf};
+ghost use Rattle.layout.specs.Readable.{Word};
+ghost use Rattle.layout.specs.Frame.{countsOf};
 
 // A number of the trailer.
 pub fn word(file: &[u8], field: usize) -> usize

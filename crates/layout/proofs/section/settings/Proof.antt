@@ -1,8 +1,8 @@
-use Rattle.columns.specs.Columns.{settingsIn}
+use Rattle.layout.specs.Frame.{settingsIn}
 use Rattle.meaning.specs.File.{settingsAt}
 use borrow.Author.Needs.{needs}
-use Rattle.columns.proofs.section.settings.Statement.{statement}
-use Rattle.columns.proofs.section.settings.Tie as tie
+use Rattle.layout.proofs.section.settings.Statement.{statement}
+use Rattle.layout.proofs.section.settings.Tie as tie
 
 u32-at-requires : tie.Need-u32-at-requires
 u32-at-requires c κs = search needs

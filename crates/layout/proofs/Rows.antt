@@ -10,10 +10,10 @@ use Rattle.meaning.specs.Study.{Settings, Study, Node, Circuit, Station, node, 
 use Rattle.meaning.specs.File.{sectionCount, sectionStart, settingsAt, nodeAt, circuitAt, stationAt, fileWhole, studyOf, runsIn}
 use Rattle.meaning.proofs.Rows.{length-rows}
 use Rattle.meaning.proofs.Starts as starts
-use Rattle.columns.proofs.FileLaws.{whole-file, start-zero}
-use Rattle.columns.specs.Readable.{noStudy, readable}
-use Rattle.columns.specs.Columns.{countsOf}
-use Rattle.columns.specs.declared.RowCounts.{RowCounts}
+use Rattle.layout.proofs.FileLaws.{whole-file, start-zero}
+use Rattle.layout.specs.Readable.{noStudy, readable}
+use Rattle.layout.specs.Frame.{countsOf}
+use Rattle.layout.specs.declared.RowCounts.{RowCounts}
 
 -- counts in their ranges
 pub record Few (r : RowCounts) : Type 0 where

@@ -2,8 +2,8 @@
 use crate::StudySettings;
 ghost use mathlib.Core.Path.{_≡_};
 ghost use Rattle.meaning.specs.File.{settingsAt};
-ghost use Rattle.columns.specs.Readable.{noStudy};
-ghost use Rattle.columns.specs.Columns.{settingsIn};
+ghost use Rattle.layout.specs.Readable.{noStudy};
+ghost use Rattle.layout.specs.Frame.{settingsIn};
 
 // What stands there.
 pub fn settings(file: &[u8]) -> StudySettings

@@ -1,9 +1,9 @@
 use mathlib.Core.Path.{_≡_}
-use Rattle.columns.proofs.FileLaws.{Counted, says-counted, is-true, is-false}
+use Rattle.layout.proofs.FileLaws.{Counted, says-counted, is-true, is-false}
 use native.Mathlib.Omega.{arith}
 use borrow.Author.Needs.{needs}
-use Rattle.columns.proofs.trailer.counted.Statement.{statement}
-use Rattle.columns.proofs.trailer.counted.Tie as tie
+use Rattle.layout.proofs.trailer.counted.Statement.{statement}
+use Rattle.layout.proofs.trailer.counted.Tie as tie
 
 word-requires : tie.Need-word-requires
 word-requires c κs = search needs

@@ -1,10 +1,10 @@
 use mathlib.Core.Path.{_≡_, sym, _∙_}
 use mathlib.Core.Bool.{true, false, true≢false}
-use Rattle.columns.proofs.FileLaws.{FileParts, says-counted, says-chained, says-file, is-true, is-false}
+use Rattle.layout.proofs.FileLaws.{FileParts, says-counted, says-chained, says-file, is-true, is-false}
 use native.Mathlib.Omega.{arith}
 use borrow.Author.Needs.{needs}
-use Rattle.columns.proofs.whole.Statement.{statement}
-use Rattle.columns.proofs.whole.Tie as tie
+use Rattle.layout.proofs.whole.Statement.{statement}
+use Rattle.layout.proofs.whole.Tie as tie
 
 returns : tie.Need-returns
 returns c = is-false (says-file _) (λ w. omega (arith, w .long))

@@ -1,9 +1,9 @@
 use mathlib.Core.Path.{sym, ap}
 use Rattle.meaning.specs.File.{recordSize}
-use Rattle.columns.proofs.FileLaws.{solution-size}
+use Rattle.layout.proofs.FileLaws.{solution-size}
 use native.Mathlib.Omega.{arith}
-use Rattle.columns.proofs.trailer.record_size.Statement.{statement}
-use Rattle.columns.proofs.trailer.record_size.Tie as tie
+use Rattle.layout.proofs.trailer.record_size.Statement.{statement}
+use Rattle.layout.proofs.trailer.record_size.Tie as tie
 
 returns : tie.Need-returns
 unfolding recordSize

@@ -1,7 +1,7 @@
-use Rattle.columns.proofs.Rows.{counts-study}
+use Rattle.layout.proofs.Rows.{counts-study}
 use borrow.Author.Needs.{needs}
-use Rattle.columns.proofs.trailer.row_counts.Statement.{statement}
-use Rattle.columns.proofs.trailer.row_counts.Tie as tie
+use Rattle.layout.proofs.trailer.row_counts.Statement.{statement}
+use Rattle.layout.proofs.trailer.row_counts.Tie as tie
 
 word-requires : tie.Need-word-requires
 word-requires c κs = search needs

@@ -1,7 +1,7 @@
 use Rattle.meaning.specs.File.{trailer}
 use borrow.Author.Needs.{needs}
-use Rattle.columns.proofs.trailer.word.Statement.{statement}
-use Rattle.columns.proofs.trailer.word.Tie as tie
+use Rattle.layout.proofs.trailer.word.Statement.{statement}
+use Rattle.layout.proofs.trailer.word.Tie as tie
 
 sub-u32-at : tie.Need-sub-u32-at
 sub-u32-at c = search needs
