@@ -52,7 +52,13 @@ pub fn first_unsound(file: &[u8], rows: RowCounts, start: usize, columns: Circui
 {
     let mut i = 0;
     while i < rows.circuits {
-        if sound_row(file, start + 44 * i, rows.nodes, columns.first[i], columns.second[i]) {
+        if sound_row(
+            file,
+            start + 44 * i,
+            rows.nodes,
+            columns.first[i],
+            columns.second[i],
+        ) {
             i += 1;
         } else {
             return i;

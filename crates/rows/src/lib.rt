@@ -31,12 +31,7 @@ pub fn nodes(file: &[u8]) -> Answer
 {
     let rows = layout::counts(file);
     let zones = layout::settings(file);
-    node::stage(
-        file,
-        rows.nodes,
-        zones.generation_zones,
-        zones.demand_zones,
-    )
+    node::stage(file, rows.nodes, zones.generation_zones, zones.demand_zones)
 }
 
 // 4: the lowest circuit that is not sound.

@@ -6,8 +6,8 @@ ghost use Rattle.meaning.specs.Tables.{soundStationRow, stationsStage};
 ghost use Rattle.layout.specs.Readable.{readable};
 ghost use Rattle.rows.specs.First.{IsFirst};
 ghost use Rattle.rows.specs.Told.{ToldNode, ToldStations, unsoundStation};
-use layout::RowCounts;
 use columns::StationColumns;
+use layout::RowCounts;
 use meaning::Answer;
 
 // Whether the row at a place, with the node that its name has, is sound by itself.
