@@ -19,8 +19,8 @@ use Rattle.meaning.specs.declared.Figures.{Figures}
 use Rattle.charges.specs.declared.Charged.{Charged}
 use Rattle.charges.specs.Charged.{chargedOf}
 use Rattle.charges.specs.Case.{figuresOf}
-use Rattle.sheet.specs.SheetText.{sheetText, nameOf, Sized}
-use Rattle.sheet.specs.Writing.{Written}
+use Rattle.text.specs.SheetText.{sheetText, nameOf, Sized}
+use Rattle.text.specs.Writing.{Written}
 use Rattle.sheet.proofs.OfCase.{case-sheet, case-sized}
 
 module _ (file : List ℕ) (runs : Runs) (buffer : List ℕ) where
