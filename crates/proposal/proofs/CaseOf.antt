@@ -20,7 +20,7 @@ use Rattle.columns.specs.declared.CircuitColumns.{CircuitColumns}
 use Rattle.columns.specs.Lengths.{lengthInRange, lengthIfInRange}
 use Rattle.columns.specs.Columns.{countsOf, settingsIn, nodesOf, circuitsOf}
 use Rattle.proposal.specs.Columns.{Filled}
-use Rattle.proposal.specs.Supplies.{kilowatts, kwAt}
+use Rattle.meaning.specs.Columns.{kilowatts, kwAt}
 use Rattle.proposal.specs.Case.{caseOf, Countable}
 use Rattle.proposal.proofs.Filled.{filled-as}
 use Rattle.proposal.proofs.Told.{Told, kw-at, filled-rows, overhead-in, cable-in}
