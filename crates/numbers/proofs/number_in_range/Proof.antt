@@ -1,19 +1,18 @@
 use mathlib.Core.Path.{sym, _∙_}
-use mathlib.Core.List.{[]}
 use native.Mathlib.Omega.{arith}
 use borrow.Author.Needs.{needs}
 use lib.IntN.{pos}
 use lib.ListN.{getD}
 use Rattle.integers.proofs.Machine.{Back, back}
 use Rattle.meaning.specs.Network.{Network}
-use Rattle.proposal.specs.Columns.{netOf}
-use Rattle.proposal.proofs.Numbers.{flow-in-range, reference-in-range, potential-in-range}
-use Rattle.proposal.proofs.range.number_in_range.Statement.{statement}
-use Rattle.proposal.proofs.range.number_in_range.Tie as tie
+use Rattle.numbers.specs.Numbers.{pinned}
+use Rattle.numbers.proofs.Range.{flow-in-range, reference-in-range, potential-in-range}
+use Rattle.numbers.proofs.number_in_range.Statement.{statement}
+use Rattle.numbers.proofs.number_in_range.Tie as tie
 
 module _ (c : tie.After-z) where
   abbrev net : Network
-  net = netOf (c .before .args .n) 0 (c .before .args .reference) [] [] []
+  net = pinned (c .before .args .n) (c .before .args .reference)
 
   bz : Back (getD (c .before .args .run .now) (c .before .args .i) (pos 0))
   bz = back _ (c .z .given)

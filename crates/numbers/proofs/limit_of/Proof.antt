@@ -1,8 +1,8 @@
 use mathlib.Core.Path.{sym, ap}
 use Rattle.meaning.specs.Systems.{limitOf}
 use borrow.Author.Needs.{needs}
-use Rattle.proposal.proofs.offsets.limit_of.Statement.{statement}
-use Rattle.proposal.proofs.offsets.limit_of.Tie as tie
+use Rattle.numbers.proofs.limit_of.Statement.{statement}
+use Rattle.numbers.proofs.limit_of.Tie as tie
 
 enum-told : tie.Need-enum-told
 enum-told c = search needs

@@ -1,19 +1,19 @@
 use mathlib.Core.Path.{_≡_, sym, _∙_}
 use mathlib.Core.Bool.{Bool}
-use mathlib.Core.List.{List, []}
+use mathlib.Core.List.{List}
 use Prim.Native.Nat.{ℕ, _-_, _≤_}
 use native.Mathlib.Omega.{arith}
 use lib.IntN.{ℤ}
 use lib.ListN.{length}
 use Rattle.meaning.specs.Proposal.{numberInRange}
-use Rattle.proposal.specs.Columns.{netOf}
-use Rattle.proposal.proofs.Found.{AllPass, pass-none, pass-more, row-here, row-none}
-use Rattle.proposal.proofs.range.first_out_of_range.Statement.{statement}
-use Rattle.proposal.proofs.range.first_out_of_range.Tie as tie
+use Rattle.numbers.specs.Numbers.{pinned}
+use Rattle.numbers.proofs.Found.{AllPass, pass-none, pass-more, row-here, row-none}
+use Rattle.numbers.proofs.first_out_of_range.Statement.{statement}
+use Rattle.numbers.proofs.first_out_of_range.Tie as tie
 
 -- the test that a row of the run is put to
 abbrev test : (n reference limit : ℕ) → List ℤ → ℕ → Bool
-test n reference limit run = numberInRange (netOf n 0 reference [] [] []) limit run
+test n reference limit run = numberInRange (pinned n reference) limit run
 
 abbrev Inv-loop : tie.InvT-loop
 Inv-loop n reference limit run i₀ i = (i ≤ length run) × AllPass (test n reference limit run) i
@@ -25,7 +25,7 @@ loop-holds : tie.Need-loop-holds Inv-loop μ-loop
 loop-holds c = (omega arith, pass-none _)
 
 number-in-range-requires : tie.Need-number-in-range-requires Inv-loop μ-loop
-number-in-range-requires c κs = (c .before .before .pre, omega arith)
+number-in-range-requires c κs = omega arith
 
 add-i : tie.Need-add-i Inv-loop μ-loop
 add-i c = omega arith

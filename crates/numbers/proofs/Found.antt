@@ -10,7 +10,7 @@ use Rattle.meaning.specs.declared.Answer.{Answer}
 use Rattle.meaning.specs.Answers.{passed, at}
 use Rattle.meaning.specs.Rows.{failing}
 use Rattle.meaning.proofs.Rows.{Lowest, nothing, first, lowest-is, lowest-stops, lowest-none, below-suc}
-use Rattle.proposal.specs.Columns.{rowOf}
+use Rattle.numbers.specs.Numbers.{rowOf}
 
 -- the rows below i pass the test
 pub record AllPass (test : ℕ → Bool) (i : ℕ) : Type 0 where

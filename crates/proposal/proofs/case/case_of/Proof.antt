@@ -1,8 +1,8 @@
 use mathlib.Core.Path.{refl}
 use Rattle.proposal.specs.Case.{caseOf}
 use borrow.Author.Needs.{needs}
-use Rattle.proposal.proofs.solution.case_of.Statement.{statement}
-use Rattle.proposal.proofs.solution.case_of.Tie as tie
+use Rattle.proposal.proofs.case.case_of.Statement.{statement}
+use Rattle.proposal.proofs.case.case_of.Tie as tie
 
 sub-t13 : tie.Need-sub-t13
 sub-t13 c = search needs

@@ -2,8 +2,8 @@ use mathlib.Core.Path.{_≡_, sym, _∙_, ap}
 use borrow.Author.Needs.{needs}
 use Rattle.integers.proofs.Machine.{Back, fit-back}
 use Rattle.meaning.specs.Direction.{direction, inDoubt}
-use Rattle.proposal.proofs.direction.doubtful.Statement.{statement}
-use Rattle.proposal.proofs.direction.doubtful.Tie as tie
+use Rattle.numbers.proofs.doubtful.Statement.{statement}
+use Rattle.numbers.proofs.doubtful.Tie as tie
 
 bf : (s : tie.Start) → Back (s .args .flow)
 bf s = fit-back (s .fits .flow)

@@ -3,9 +3,9 @@ use borrow.Author.Needs.{needs}
 use lib.Dec.{leb}
 use lib.IntN.{natAbs}
 use Rattle.integers.proofs.Machine.{Back, fit-back, lt-true, lt-false}
-use Rattle.proposal.proofs.Directions.{idle, in-doubt, backward, forward}
-use Rattle.proposal.proofs.direction.direction_of.Statement.{statement}
-use Rattle.proposal.proofs.direction.direction_of.Tie as tie
+use Rattle.numbers.proofs.Directions.{idle, in-doubt, backward, forward}
+use Rattle.numbers.proofs.direction_of.Statement.{statement}
+use Rattle.numbers.proofs.direction_of.Tie as tie
 
 bf : (s : tie.Start) → Back (s .args .flow)
 bf s = fit-back (s .fits .flow)
