@@ -1,4 +1,4 @@
-use mathlib.Core.Path.{_≡_, sym, _∙_, ap}
+use mathlib.Core.Path.{_≡_, sym}
 use Prim.Native.Nat.{_+_, _*_, _-_, _≤_}
 use Rattle.meaning.proofs.Columns.{column-none, column-turn, column-done}
 use Rattle.meaning.specs.Columns.{column}
@@ -42,8 +42,7 @@ loop-less c = omega arith
 loop-again : tie.Need-loop-again Inv-loop μ-loop
 loop-again c =
     let l = c .before .before .before in
-    let a = l .before .before .args in
-    (omega arith, column-turn _ 512 _ (l .loop .i) (omega arith) (l .loop .inv .1) (c .place .ensures ∙ ap (firstNamed (a .file .now) 64 24 (a .nodes)) (c .before .row-at .ensures)))
+    (omega arith, column-turn _ 512 _ (l .loop .i) (omega arith) (l .loop .inv .1) (rw (c .before .row-at .ensures) at (c .place .ensures)))
 
 returns : tie.Need-returns Inv-loop μ-loop
 returns c = column-done _ _ _ _ _ (c .before .loop .inv .1) (omega arith) (omega arith)
