@@ -20,7 +20,7 @@ fn refused(answer: Answer) -> Printed
     ensures { λ r. ⌜ Prints (refusedLine answer) r ⌝ }
 {
     let mut bytes = [0u8; 16384];
-    let length = sheet::refuse(answer, &mut bytes);
+    let length = text::refuse(answer, &mut bytes);
     Printed { length, bytes }
 }
 

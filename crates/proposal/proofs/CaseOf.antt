@@ -21,7 +21,7 @@ use Rattle.columns.specs.Lengths.{lengthInRange, lengthIfInRange}
 use Rattle.layout.specs.Frame.{countsOf, settingsIn}
 use Rattle.columns.specs.Columns.{nodesOf, circuitsOf}
 use Rattle.proposal.specs.Columns.{Filled}
-use Rattle.proposal.specs.Supplies.{kilowatts, kwAt}
+use Rattle.meaning.specs.Columns.{kilowatts, kwAt}
 use Rattle.proposal.specs.Case.{caseOf, Countable}
 use Rattle.proposal.proofs.Filled.{filled-as}
 use Rattle.proposal.proofs.Told.{Told, kw-at, filled-rows, overhead-in, cable-in}
