@@ -12,9 +12,9 @@ use lib.ListN.{length, getD, set, replicate, List·getD-eq-default}
 use Rattle.integers.specs.Numbers.{sum}
 use Rattle.integers.proofs.Sum.{sum-zero, sum-suc, sum-more, sum-same, sum-bound, sum-none}
 use Rattle.meaning.specs.Rows.{_between_and_, rows}
-use Rattle.meaning.specs.Study.{Study, Station, node, station, noNode, noStation}
-use Rattle.meaning.specs.File.{u32, nodeAt, stationAt}
-use Rattle.meaning.specs.Grid.{Grid, plantOf, scales, pays, place, tecAt, capacityOf, gridOf, nodeTec, payingTec, tecOf as tecOfTest}
+use Rattle.meaning.specs.Study.{Study, Station, station, noStation}
+use Rattle.meaning.specs.File.{u32, stationAt}
+use Rattle.meaning.specs.Grid.{Grid, plantOf, scales, pays, place, tecAt, capacityOf, gridOf, tecOf as tecOfTest}
 use Rattle.meaning.specs.declared.Kw.{Kw}
 use Rattle.meaning.specs.declared.Plant.{Plant}
 use Rattle.meaning.proofs.Rows.{rows-at, rows-past, rows-same, rows-set, rows-none}
@@ -27,7 +27,7 @@ use Rattle.columns.specs.declared.StationColumns.{StationColumns}
 use Rattle.columns.specs.declared.TecColumns.{TecColumns}
 use Rattle.layout.proofs.FileLaws.{is-true, says-lt}
 use Rattle.columns.proofs.ColumnAt.{station-node-at, plant-at, tec-at, by-type-at}
-use Rattle.layout.proofs.Rows.{stations-few, node-row, station-row}
+use Rattle.layout.proofs.Rows.{station-row}
 
 -- tests that say the same are the same
 same : {a b : Bool} {P : Type 0} → Says a P → Says b P → a ≡ b
@@ -242,37 +242,13 @@ module _ (S : Study) where
   tec-is by e =
       rw (rows-same 256 _ _ (λ v l. ap kilowatts (types-is scales by e v l)), rows-same 256 _ _ (λ v l. ap kilowatts (types-is pays by e v l)), e) refl
 
-  -- a node's TEC is the sum of at most 512 u32 a plant type, whatever the test
-  module _ (few : length (S .stations) ≤ 512) (below : (k : ℕ) → station (S .stations) k .tec < 2 ^ 32) where
-    capacity-low : (v t : ℕ) → t < 7 → capacity v t ≤ 2199023255040
-    unfolding capacityOf tecAt
-    capacity-low v t h = go (decLt v (length (S .nodes)))
-      where
-        at-most : (b : Bool) (x : ℕ) → x < 2 ^ 32 → cond b x 0 ≤ 4294967295
-        at-most true x l = omega arith
-        at-most false x l = omega arith
-
-        go : Dec (v < length (S .nodes)) → capacity v t ≤ 2199023255040
-        go (yes l) =
-            omega (
-              arith,
-              capacity-at v t l h,
-              sum-bound 4294967295 (length (S .stations)) (λ k. tecAt (S .nodes) (station (S .stations) k) v (suc t))
-                  (λ k m. at-most (eqb (place (S .nodes) (station (S .stations) k .node)) v && eqb (station (S .stations) k .plantType) (suc t)) _ (below k)),
-            )
-        go (no l) = omega (arith, capacity-past v t (omega arith))
-
-    pub node-tec-low : (test : Plant → Bool) (v : ℕ) → tecOfTest test (gridOf S) v ≤ 15393162785280
-    unfolding tecOfTest
-    node-tec-low test v = sum-bound 2199023255040 7 _ (λ t l. part-low (test (plantOf (suc t))) (capacity v t) (capacity-low v t l))
-
--- ---- of a file: a demand and a station's TEC are u32
+-- ---- of a file: a station's TEC is a u32
 u32-below : (file : List ℕ) (at : ℕ) → ((i : ℕ) → getD file i 0 < 256) → u32 file at < 2 ^ 32
 unfolding u32
 u32-below file at h = omega (arith, h at, h (at + 1), h (at + 2), h (at + 3))
 
 module _ (file : List ℕ) (bytes : (i : ℕ) → getD file i 0 < 256) where
-  pub station-below : (k : ℕ) → station (readable file .stations) k .tec < 2 ^ 32
+  station-below : (k : ℕ) → station (readable file .stations) k .tec < 2 ^ 32
   unfolding stationAt
   station-below k = go (decLt k (length (readable file .stations)))
     where
@@ -281,20 +257,6 @@ module _ (file : List ℕ) (bytes : (i : ℕ) → getD file i 0 < 256) where
       go (no h) =
           let l : length (readable file .stations) ≤ k = omega arith in
           rw (List·getD-eq-default (readable file .stations) noStation l) (omega arith)
-
-  pub demand-below : (v : ℕ) → node (readable file .nodes) v .demand < 2 ^ 32
-  unfolding nodeAt
-  demand-below v = go (decLt v (length (readable file .nodes)))
-    where
-      go : Dec (v < length (readable file .nodes)) → node (readable file .nodes) v .demand < 2 ^ 32
-      go (yes h) = rw (node-row file v h) (u32-below file _ bytes)
-      go (no h) =
-          let l : length (readable file .nodes) ≤ v = omega arith in
-          rw (List·getD-eq-default (readable file .nodes) noNode l) (omega arith)
-
-  -- what scales or pays at a node, so that 256 of them fit 64 bits
-  pub node-tec-below : (test : Plant → Bool) (v : ℕ) → tecOfTest test (gridOf (readable file)) v ≤ 15393162785280
-  node-tec-below = node-tec-low (readable file) (stations-few file) station-below
 
   pub tec-below : {columns : StationColumns} → columns ≡ stationsOf (readable file) → (k : ℕ) → kwAt (columns .tec) k < 2 ^ 32
   unfolding stationsOf

@@ -5,7 +5,6 @@ use meaning::Kw;
 ghost use mathlib.Core.Path.{_≡_};
 ghost use Prim.Native.Nat.{_+_, _*_, _≤_};
 ghost use Rattle.meaning.specs.File.{u32, circuitAt};
-ghost use Rattle.fields.specs.Field.{Field};
 ghost use Rattle.fields.specs.Search.{firstNamed};
 ghost use Rattle.meaning.specs.Columns.{kilowatts, column};
 ghost use Rattle.columns.specs.Column.{Table};
@@ -20,30 +19,6 @@ pub fn row_at(start: usize, stride: usize, row: usize) -> usize
     start + stride * row
 }
 
-// The number in a field of a row.
-pub fn number_at(file: &[u8], start: usize, stride: usize, row: usize) -> usize
-    requires { ⌜ Table start stride (row + 1) 512 ⌝ }
-    ensures { λ r. ⌜ Field (now (file .entry)) (start + stride * row) r ⌝ }
-{
-    fields::u32_at(file, row_at(start, stride, row))
-}
-
-// The same, as kilowatts.
-pub fn kilowatts_at(file: &[u8], start: usize, stride: usize, row: usize) -> Kw
-    requires { ⌜ Table start stride (row + 1) 512 ⌝ }
-    ensures { λ r. ⌜ r ≡ kilowatts (u32 (now (file .entry)) (start + stride * row)) ⌝ }
-{
-    Kw(number_at(file, start, stride, row) as u64)
-}
-
-// The number of the node that a row names; the count of nodes where there is none.
-pub fn place_at(file: &[u8], nodes: usize, at: usize) -> usize
-    requires { ⌜ nodes ≤ 256 ⌝ }
-    ensures { λ r. ⌜ r ≡ firstNamed (now (file .entry)) 64 24 nodes at ⌝ }
-{
-    fields::place(file, 64, 24, nodes as u32, at)
-}
-
 // A number of each node.
 pub fn of_nodes(file: &[u8], start: usize, count: usize) -> [usize; 256]
     requires { ⌜ Table start 24 count 256 ⌝ }
@@ -52,7 +27,7 @@ pub fn of_nodes(file: &[u8], start: usize, count: usize) -> [usize; 256]
     let mut all = [0usize; 256];
     let mut i = 0;
     while i < count {
-        all[i] = number_at(file, start, 24, i);
+        all[i] = fields::u32_at(file, row_at(start, 24, i));
         i += 1;
     }
     all
@@ -66,7 +41,7 @@ pub fn demands(file: &[u8], count: usize) -> [Kw; 256]
     let mut all = [Kw(0); 256];
     let mut i = 0;
     while i < count {
-        all[i] = kilowatts_at(file, 84, 24, i);
+        all[i].0 = fields::u32_at(file, row_at(84, 24, i)) as u64;
         i += 1;
     }
     all
@@ -80,7 +55,7 @@ pub fn of_circuits(file: &[u8], start: usize, count: usize) -> [u64; 512]
     let mut all = [0u64; 512];
     let mut i = 0;
     while i < count {
-        all[i] = number_at(file, start, 44, i) as u64;
+        all[i] = fields::u32_at(file, row_at(start, 44, i)) as u64;
         i += 1;
     }
     all
@@ -108,7 +83,7 @@ pub fn plants(file: &[u8], start: usize, count: usize) -> [usize; 512]
     let mut all = [0usize; 512];
     let mut i = 0;
     while i < count {
-        all[i] = number_at(file, start, 32, i);
+        all[i] = fields::u32_at(file, row_at(start, 32, i));
         i += 1;
     }
     all
@@ -122,7 +97,7 @@ pub fn tecs(file: &[u8], start: usize, count: usize) -> [Kw; 512]
     let mut all = [Kw(0); 512];
     let mut i = 0;
     while i < count {
-        all[i] = kilowatts_at(file, start, 32, i);
+        all[i].0 = fields::u32_at(file, row_at(start, 32, i)) as u64;
         i += 1;
     }
     all
@@ -133,10 +108,11 @@ pub fn places(file: &[u8], start: usize, stride: usize, count: usize, nodes: usi
     requires { ⌜ Table start stride count 512 × (nodes ≤ 256) ⌝ }
     ensures { λ r. ⌜ r ≡ column nodes 512 count (λ i. firstNamed (now (file .entry)) 64 24 nodes (start + stride * i)) ⌝ }
 {
+    let rows = nodes as u32;
     let mut all = [nodes; 512];
     let mut i = 0;
     while i < count {
-        all[i] = place_at(file, nodes, row_at(start, stride, i));
+        all[i] = fields::place(file, 64, 24, rows, row_at(start, stride, i));
         i += 1;
     }
     all
