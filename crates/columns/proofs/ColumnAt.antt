@@ -8,7 +8,7 @@ use Rattle.meaning.specs.Grid.{place, gridOf}
 use Rattle.meaning.proofs.Rows.{rows-at}
 use Rattle.meaning.specs.Columns.{kilowatts, numberAt, kwAt}
 use Rattle.columns.specs.Columns.{stationsOf}
-use Rattle.columns.specs.Tec.{tecOf}
+use Rattle.columns.specs.Tec.{typesOf}
 
 module _ (S : Study) where
   module _ (k : ℕ) (h : k < 512) where
@@ -25,6 +25,6 @@ module _ (S : Study) where
     tec-at = ap (λ w. w .0) (rows-at (kilowatts 0) 512 (λ k. kilowatts (station (S .stations) k .tec)) k h)
 
   -- the cell of a node and a plant type
-  pub by-type-at : (c : ℕ) → c < 1792 → kwAt (tecOf S .«by_type») c ≡ getD (getD (gridOf S .capacity) (c / 7) []) (c % 7) 0
-  unfolding tecOf
+  pub by-type-at : (c : ℕ) → c < 1792 → kwAt (typesOf S) c ≡ getD (getD (gridOf S .capacity) (c / 7) []) (c % 7) 0
+  unfolding typesOf
   by-type-at c h = ap (λ w. w .0) (rows-at (kilowatts 0) 1792 (λ c. kilowatts (getD (getD (gridOf S .capacity) (c / 7) []) (c % 7) 0)) c h)

@@ -22,7 +22,7 @@ use Rattle.meaning.proofs.Says.{Says, says-as, _also_, says-eq, says-between}
 use Rattle.layout.specs.Readable.{readable}
 use Rattle.meaning.specs.Columns.{kilowatts, numberAt, kwAt}
 use Rattle.columns.specs.Columns.{stationsOf}
-use Rattle.columns.specs.Tec.{cellOf, cellTec, typesTec, tecIn, tecOf}
+use Rattle.columns.specs.Tec.{cellOf, cellTec, typesTec, tecIn, tecOf, typesOf}
 use Rattle.columns.specs.declared.StationColumns.{StationColumns}
 use Rattle.columns.specs.declared.TecColumns.{TecColumns}
 use Rattle.layout.proofs.FileLaws.{is-true, says-lt}
@@ -177,7 +177,7 @@ module _ (test : Plant → Bool) (by : List Kw) where
       (rw q at e) ∙ rows-same 256 _ _ (λ v l. let m : min 7 (1792 - 7 * v) ≡ 7 = omega arith in rw m refl)
 
 pub types-are : (by s p : List Kw) → s ≡ rows 256 (λ v. kilowatts (typesTec scales by 7 v)) → p ≡ rows 256 (λ v. kilowatts (typesTec pays by 7 v))
-    → record { «by_type» = by; scaling = s; paying = p } ≡ tecIn by
+    → record { scaling = s; paying = p } ≡ tecIn by
 unfolding tecIn
 types-are by s p e f = rw (e, f) refl
 
@@ -221,14 +221,14 @@ module _ (S : Study) where
           ∙ sym (capacity-past (c / 7) (c % 7) (omega arith))
 
   pub by-type-is : (nodes count : ℕ) (columns : StationColumns) (by : List Kw) → nodes ≡ length (S .nodes) → count ≡ length (S .stations) → columns ≡ C
-      → count ≤ 512 → by ≡ cells nodes (columns .node) (columns .plant) (columns .tec) count → by ≡ tecOf S .«by_type»
-  unfolding tecOf
+      → count ≤ 512 → by ≡ cells nodes (columns .node) (columns .plant) (columns .tec) count → by ≡ typesOf S
+  unfolding typesOf
   by-type-is nodes count columns by n k e few q =
       q ∙ rw (n, k, e) (rows-same 1792 _ _ (λ c l. ap kilowatts (cell-is c (omega arith) l)))
 
   -- the TEC of a node through its types
-  types-is : (test : Plant → Bool) (by : List Kw) → by ≡ tecOf S .«by_type» → (v : ℕ) → v < 256 → typesTec test by 7 v ≡ tecOfTest test (gridOf S) v
-  unfolding typesTec tecOf tecOfTest
+  types-is : (test : Plant → Bool) (by : List Kw) → by ≡ typesOf S → (v : ℕ) → v < 256 → typesTec test by 7 v ≡ tecOfTest test (gridOf S) v
+  unfolding typesTec tecOfTest
   types-is test by e v l = sum-same 7 _ _ (λ t m. ap (λ x. cond (test (plantOf (suc t))) x 0) (here t m))
     where
       here : (t : ℕ) → t < 7 → kwAt by (7 * v + t) ≡ capacity v t
@@ -237,10 +237,10 @@ module _ (S : Study) where
           let r : (7 * v + t) % 7 ≡ t = omega arith in
           rw e (by-type-at S (7 * v + t) (omega arith) ∙ rw (q, r) refl)
 
-  pub tec-is : (by : List Kw) → by ≡ tecOf S .«by_type» → tecIn by ≡ tecOf S
+  pub tec-is : (by : List Kw) → by ≡ typesOf S → tecIn by ≡ tecOf S
   unfolding tecIn tecOf
   tec-is by e =
-      rw (rows-same 256 _ _ (λ v l. ap kilowatts (types-is scales by e v l)), rows-same 256 _ _ (λ v l. ap kilowatts (types-is pays by e v l)), e) refl
+      rw (rows-same 256 _ _ (λ v l. ap kilowatts (types-is scales by e v l)), rows-same 256 _ _ (λ v l. ap kilowatts (types-is pays by e v l))) refl
 
 -- ---- of a file: a station's TEC is a u32
 u32-below : (file : List ℕ) (at : ℕ) → ((i : ℕ) → getD file i 0 < 256) → u32 file at < 2 ^ 32

@@ -34,16 +34,18 @@ added paying plant = cond paying (pays plant) (scales plant)
 unfoldable pub tecIn : (byType : List Kw) → TecColumns
 tecIn byType =
     record {
-      «by_type» = byType;
       scaling = rows 256 (λ v. kilowatts (typesTec scales byType 7 v));
       paying = rows 256 (λ v. kilowatts (typesTec pays byType 7 v));
     }
 
--- by node and plant type at 7 v + type − 1; what scales and what pays by node; 0 past the last node
+-- TEC by node and plant type at 7 v + type − 1; 0 past the last node
+unfoldable pub typesOf : Study → List Kw
+typesOf S = rows 1792 (λ c. kilowatts (getD (getD (gridOf S .capacity) (c / 7) []) (c % 7) 0))
+
+-- what scales and what pays by node; 0 past the last node
 unfoldable pub tecOf : Study → TecColumns
 tecOf S =
     record {
-      «by_type» = rows 1792 (λ c. kilowatts (getD (getD (gridOf S .capacity) (c / 7) []) (c % 7) 0));
       scaling = rows 256 (λ v. kilowatts (nodeTec (gridOf S) v));
       paying = rows 256 (λ v. kilowatts (payingTec (gridOf S) v));
     }

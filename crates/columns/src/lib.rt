@@ -34,9 +34,8 @@ pub struct StationColumns {
     pub tec: [Kw; 512],
 }
 
-// TEC by node v and plant type t at 7 v + t - 1; by node, what scales and weighs and what pays.
+// TEC by node: what scales and weighs, and what pays.
 pub struct TecColumns {
-    pub by_type: [Kw; 1792],
     pub scaling: [Kw; 256],
     pub paying: [Kw; 256],
 }

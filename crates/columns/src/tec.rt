@@ -76,16 +76,12 @@ pub fn sums_of(by_type: [Kw; 1792], paying: bool) -> [Kw; 256]
     sums
 }
 
-// Both, beside the TEC by node and plant type.
+// Both.
 pub fn by_node(by_type: [Kw; 1792]) -> TecColumns
     requires { ⌜ ((c : ℕ) → kwAt «by_type» c ≤ 2199023255040) ⌝ }
     ensures { λ r. ⌜ r ≡ tecIn «by_type» ⌝ }
 {
     let scaling = sums_of(by_type, false);
     let paying = sums_of(by_type, true);
-    TecColumns {
-        by_type,
-        scaling,
-        paying,
-    }
+    TecColumns { scaling, paying }
 }
