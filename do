@@ -9,11 +9,14 @@ kiln)                                                   # build the program and 
     log=$(mktemp)
     rt check tariff >"$log" 2>&1 || { cat "$log"; rm -f "$log"; exit 1; }
     rm -f "$log"
-    exec target/bin/tariff <crates/tariff/stdin
+    exec clients/x86 run target/bin/tariff <crates/tariff/stdin
     ;;
 check) shift && exec rt check "$@" ;;                   # prove these crates and what they depend on
 dev) shift && exec rt dev "$@" ;;                       # the edit loop on one crate, in seconds
 edits) shift && exec rt must-fail "$@" ;;               # try the must-fail edits of these crates
+library) exec clients/run ;;                            # the static library; build and run the C and Rust clients
+fuzz) exec outside/fuzz/run ;;                           # coverage-guided fuzzing of the library, FUZZ_SECONDS long
+compare) shift && exec outside/run "$@" ;;              # library and program against the reference: short, or `compare long`; `--seed N`
 fmt) exec rt fmt ;;                                     # lay every file out
 *) sed -n 's/^\([a-z]*\)).*# \(.*\)$/.\/do \1: \2/p' "$0" ;;
 esac

@@ -1,0 +1,81 @@
+/* Wirepulley: one study case for GB transmission charges in, a tariff sheet or a refusal out.
+ *
+ * Link with target/staticlib/libwirepulley.a, which `./do library` makes (x86-64 Linux). It needs memcpy and memset and nothing else:
+ * no heap, no files, no locks, no state, so any number of threads may call it.
+ *
+ * Every call has one answer, whatever the bytes and numbers are. What the checker cannot see is kept by the caller:
+ *   - each pointer leads to as many elements as its count says; where a count is 0, nothing is read, but the pointer is not NULL;
+ *   - int64_t and uint64_t are aligned as C aligns them;
+ *   - `sheet` and `answer` overlap neither each other nor anything else that the call is given.
+ *
+ * An answer is four numbers. Rows count from 1.
+ *
+ *   number                          system     row                           length
+ *   0  accepted                     0          0                             bytes of the sheet (wirepulley_judge: 0)
+ *   1  the file is not whole        0          0                             0
+ *      (length, trailer, version, counts, chain of sections, the settings' zero), or a run has another length than nodes plus circuits
+ *   2  a setting out of its range   0          0                             0
+ *   3  a node row malformed, out    0          the node                      0
+ *      of range, or its name seen earlier
+ *   4  a circuit row malformed,     0          the circuit                   0
+ *      out of range, an end unknown, or both ends the same
+ *   5  a station row malformed,     0          the station                   0
+ *      out of range, its node unknown, or its identifier seen earlier
+ *   6  a node out of reach of the   0          the lowest such node          0
+ *      reference
+ *   7  a total out of its range, or 0          0                             0
+ *      total TEC below total demand
+ *   8  a proposed number out of     the system the number's place in its     0
+ *      range, or the reference's               run, circuits after nodes
+ *      potential not 0
+ *   9  balance broken at a node     the system the lowest such node          0
+ *   10 the misses' sum too high     the system 0                             0
+ *   11 a direction in doubt         1          the lowest such circuit       0
+ *   12 `sheet` shorter than the     0          0                             0
+ *      sheet (never of wirepulley_judge)
+ *
+ * Systems: 1 base, 2 wider, 3 local. The first that holds is answered, in this order: 1 to 7; 8, 9, 10 of the base solution; 11;
+ * 8, 9, 10 of the wider one, then of the local one; 12.
+ */
+#ifndef WIREPULLEY_H
+#define WIREPULLEY_H
+
+#include <stddef.h>
+#include <stdint.h>
+
+#ifdef __cplusplus
+extern "C" {
+#endif
+
+/* No sheet is longer: a buffer of this many bytes is never refused as 12. */
+#define WIREPULLEY_LONGEST_SHEET 14240
+
+/* How many numbers an answer has. */
+#define WIREPULLEY_ANSWER 4
+
+/* Judges a case and writes its sheet.
+ *
+ *   file, file_len            the bytes of a case file; the solutions in it are counted and not looked at
+ *   base, base_len            base solution: a potential for each node, then a flow for each circuit, in table order
+ *   wider, wider_len          wider solution, the same
+ *   local, local_len          local solution, the same
+ *   sheet, sheet_len          accepted: the sheet is at the front, and the bytes behind it are as they were.
+ *                             Refused: every byte is as it was.
+ *   answer, answer_len        number, system, row and length, where answer_len is 4 or more; numbers behind the fourth are as they
+ *                             were. Where it is less, all of them are as they were.
+ *
+ * Returns the answer's number. */
+uint64_t wirepulley_write(const uint8_t *file, size_t file_len, const int64_t *base, size_t base_len, const int64_t *wider,
+                          size_t wider_len, const int64_t *local, size_t local_len, uint8_t *sheet, size_t sheet_len,
+                          uint64_t *answer, size_t answer_len);
+
+/* Judges a case without its sheet: the same answer as wirepulley_write gives with room enough, but that length is always 0.
+ * The arguments are those of wirepulley_write. Returns the answer's number, 0 to 11. */
+uint64_t wirepulley_judge(const uint8_t *file, size_t file_len, const int64_t *base, size_t base_len, const int64_t *wider,
+                          size_t wider_len, const int64_t *local, size_t local_len, uint64_t *answer, size_t answer_len);
+
+#ifdef __cplusplus
+}
+#endif
+
+#endif

@@ -1,0 +1,145 @@
+//! One study case for GB transmission charges in, a tariff sheet or a refusal out: safe Rust over the proved library.
+//!
+//! ```no_run
+//! let file = std::fs::read("my.case").unwrap();
+//! let solutions = wirepulley::Solutions::of_file(&file);
+//! let mut sheet = [0; wirepulley::LONGEST_SHEET];
+//! match solutions.with(&file).write(&mut sheet) {
+//!     Ok(length) => print!("{}", String::from_utf8_lossy(&sheet[..length])),
+//!     Err(refusal) => println!("{refusal}"),
+//! }
+//! ```
+
+mod refusal;
+mod solutions;
+
+pub use refusal::{Refusal, System};
+pub use solutions::Solutions;
+
+/// No sheet is longer: a buffer of this many bytes is never refused as too short.
+pub const LONGEST_SHEET: usize = 14_240;
+
+extern "C" {
+    fn wirepulley_write(
+        file: *const u8,
+        file_len: usize,
+        base: *const i64,
+        base_len: usize,
+        wider: *const i64,
+        wider_len: usize,
+        local: *const i64,
+        local_len: usize,
+        sheet: *mut u8,
+        sheet_len: usize,
+        answer: *mut u64,
+        answer_len: usize,
+    ) -> u64;
+    fn wirepulley_judge(
+        file: *const u8,
+        file_len: usize,
+        base: *const i64,
+        base_len: usize,
+        wider: *const i64,
+        wider_len: usize,
+        local: *const i64,
+        local_len: usize,
+        answer: *mut u64,
+        answer_len: usize,
+    ) -> u64;
+}
+
+/// What the library answers, as document 01 numbers it.
+#[derive(Clone, Copy, Debug, PartialEq, Eq)]
+pub struct Answer {
+    /// 0 where the case is accepted, else 1 to 12.
+    pub number: u64,
+    /// 1 base, 2 wider, 3 local; 0 where the answer is about none of them.
+    pub system: u64,
+    /// Counted from 1; 0 where the answer is about no row.
+    pub row: u64,
+    /// The sheet's length; 0 in a refusal.
+    pub length: u64,
+}
+
+impl Answer {
+    fn of([number, system, row, length]: [u64; 4]) -> Answer {
+        Answer { number, system, row, length }
+    }
+
+    /// The sheet's length, or what stopped the case.
+    pub fn result(self) -> Result<usize, Refusal> {
+        match Refusal::of(self) {
+            None => Ok(self.length as usize),
+            Some(refusal) => Err(refusal),
+        }
+    }
+}
+
+/// A case in memory: the bytes of its file, and the three solutions that are judged in place of those in the file.
+/// A solution is a potential for each node, then a flow for each circuit, in table order.
+#[derive(Clone, Copy, Debug)]
+pub struct Case<'a> {
+    pub file: &'a [u8],
+    pub base: &'a [i64],
+    pub wider: &'a [i64],
+    pub local: &'a [i64],
+}
+
+impl Case<'_> {
+    /// Judges the case and writes its sheet at the front of the buffer: its length. The bytes behind it are as they were; after a
+    /// refusal all of them are.
+    pub fn write(&self, sheet: &mut [u8]) -> Result<usize, Refusal> {
+        self.answer(sheet).result()
+    }
+
+    /// The same with the answer as numbers.
+    pub fn answer(&self, sheet: &mut [u8]) -> Answer {
+        let Case { file, base, wider, local } = self;
+        let mut answer = [0; 4];
+        // SAFETY: each pointer and count are those of a slice that outlives the call. The two that are written to are lent alone.
+        unsafe {
+            wirepulley_write(
+                file.as_ptr(),
+                file.len(),
+                base.as_ptr(),
+                base.len(),
+                wider.as_ptr(),
+                wider.len(),
+                local.as_ptr(),
+                local.len(),
+                sheet.as_mut_ptr(),
+                sheet.len(),
+                answer.as_mut_ptr(),
+                answer.len(),
+            )
+        };
+        Answer::of(answer)
+    }
+
+    /// Judges the case without its sheet: what stops it first among 1 to 11.
+    pub fn judge(&self) -> Result<(), Refusal> {
+        self.judgement().result().map(|_| ())
+    }
+
+    /// The same with the answer as numbers; its length is 0.
+    pub fn judgement(&self) -> Answer {
+        let Case { file, base, wider, local } = self;
+        let mut answer = [0; 4];
+        // SAFETY: each pointer and count are those of a slice that outlives the call. The one that is written to is lent alone.
+        unsafe {
+            wirepulley_judge(
+                file.as_ptr(),
+                file.len(),
+                base.as_ptr(),
+                base.len(),
+                wider.as_ptr(),
+                wider.len(),
+                local.as_ptr(),
+                local.len(),
+                answer.as_mut_ptr(),
+                answer.len(),
+            )
+        };
+        Answer::of(answer)
+    }
+}

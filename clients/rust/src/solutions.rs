@@ -1,0 +1,38 @@
+//! The solutions that stand in a case file, copied out.
+
+use crate::Case;
+
+/// The trailer: for each of seven sections its offset and its count, then version and length.
+const TRAILER: usize = 64;
+
+/// Three solutions: a potential for each node, then a flow for each circuit.
+#[derive(Clone, Debug, Default, PartialEq, Eq)]
+pub struct Solutions {
+    pub base: Vec<i64>,
+    pub wider: Vec<i64>,
+    pub local: Vec<i64>,
+}
+
+impl Solutions {
+    /// The solutions in a file, from where its trailer says that they stand. A solution that cannot stand there is empty: the
+    /// library refuses such a file as not whole in any case.
+    pub fn of_file(file: &[u8]) -> Solutions {
+        let solution = |section| section_of(file, section).unwrap_or_default();
+        Solutions { base: solution(4), wider: solution(5), local: solution(6) }
+    }
+
+    /// A case of a file with these solutions.
+    pub fn with<'a>(&'a self, file: &'a [u8]) -> Case<'a> {
+        Case { file, base: &self.base, wider: &self.wider, local: &self.local }
+    }
+}
+
+/// The numbers of a section, by its place among the seven.
+fn section_of(file: &[u8], section: usize) -> Option<Vec<i64>> {
+    let trailer = file.get(file.len().checked_sub(TRAILER)?..)?;
+    let field =
+        |at: usize| u32::from_le_bytes([trailer[at], trailer[at + 1], trailer[at + 2], trailer[at + 3]]) as usize;
+    let (offset, count) = (field(8 * section), field(8 * section + 4));
+    let bytes = file.get(offset..offset.checked_add(count.checked_mul(8)?)?)?;
+    Some(bytes.chunks_exact(8).map(|number| i64::from_le_bytes(number.try_into().expect("eight bytes"))).collect())
+}

@@ -1,0 +1,2 @@
+-- What the proofs of `wirepulley` share.
+pub mod Telling

@@ -1,0 +1,22 @@
+-- `wirepulley::wirepulley_judge` meets its contract: the judgement, told.
+use Rattle.wirepulley.proofs.Telling.{tells-same}
+use borrow.Author.Needs.{needs}
+use Rattle.wirepulley.proofs.wirepulley_judge.Statement.{statement}
+use Rattle.wirepulley.proofs.wirepulley_judge.Tie as tie
+
+judge-requires : tie.Need-judge-requires
+judge-requires c κs = search needs
+
+tell-requires : tie.Need-tell-requires
+tell-requires c κs = search needs
+
+same-length : tie.Need-same-length
+same-length c = search needs
+
+returns : tie.Need-returns
+returns c =
+    let t = c .before .before in
+    tells-same _ _ (t .before .before .judge .ensures) (t .tell .ensures)
+
+pub wirepulley-judge-spec : {M : Type 1} → statement M
+wirepulley-judge-spec = tie.close (tie.spec judge-requires tell-requires same-length returns)

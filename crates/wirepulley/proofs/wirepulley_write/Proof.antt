@@ -1,0 +1,29 @@
+-- `wirepulley::wirepulley_write` meets its contract: what the entry settles, told.
+use mathlib.Core.Path.{ap}
+use Rattle.meaning.specs.Outcome.{Settled}
+use Rattle.wirepulley.proofs.Telling.{tells-same}
+use borrow.Author.Needs.{needs}
+use Rattle.wirepulley.proofs.wirepulley_write.Statement.{statement}
+use Rattle.wirepulley.proofs.wirepulley_write.Tie as tie
+
+write-requires : tie.Need-write-requires
+write-requires c κs = search needs
+
+tell-requires : tie.Need-tell-requires
+tell-requires c κs = search needs
+
+same-length : tie.Need-same-length
+same-length c = search needs
+
+same-length-2 : tie.Need-same-length-2
+same-length-2 c = search needs
+
+returns : tie.Need-returns
+returns c =
+    let t = c .before .before in
+    let e = t .before .before .before .before .write .ensures in
+    (tells-same _ _ (ap (λ (s : Settled). s .answer) e) (t .tell .ensures), ap (λ (s : Settled). s .buffer) e)
+
+pub wirepulley-write-spec : {M : Type 1} → statement M
+wirepulley-write-spec =
+    tie.close (tie.spec write-requires tell-requires same-length same-length-2 returns)

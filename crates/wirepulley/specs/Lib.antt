@@ -1,0 +1,2 @@
+-- What the contracts of `wirepulley` cite beside `meaning`.
+pub mod Tells

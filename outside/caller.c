@@ -1,0 +1,117 @@
+/* Calls the library for another program, one request after another, each in memory where nothing beside what is lent can be touched.
+ *
+ * A request: eight u32 (where the blocks stand; what the buffers are filled from; the counts of file, base, wider, local, sheet and
+ * answer), the file's bytes, the three runs. What comes back: the result of wirepulley_judge and its numbers, the result of
+ * wirepulley_write and its numbers, and the sheet's buffer whole. All little-endian.
+ *
+ * Each block ends where a page begins that may not be touched (where = 0), or starts where one ends (where = 1). What is only read is
+ * lent through a view that may not be written. A call that touches more ends this program by a signal. */
+#define _GNU_SOURCE
+#include <stdio.h>
+#include <stdlib.h>
+#include <string.h>
+#include <sys/mman.h>
+#include <unistd.h>
+
+#include "../clients/c/wirepulley.h"
+
+enum { PAGE = 4096 };
+enum { CASE, BASE, WIDER, LOCAL, SHEET, ANSWER, BLOCKS };
+
+/* A block's memory: what the library is lent, and where this program writes to it and reads from it. */
+struct block {
+    uint8_t *lent, *ours;
+    size_t most, size;
+};
+
+static struct block blocks[BLOCKS];
+static const size_t MOST[BLOCKS] = {262144, 65536, 65536, 65536, 65536, PAGE};
+static const size_t WIDTH[BLOCKS] = {1, 8, 8, 8, 1, 8};
+
+static void fail(const char *what) {
+    perror(what);
+    exit(2);
+}
+
+/* Two views of one memory: ours, and the lent one between two pages that may not be touched. */
+static void make(struct block *block, size_t most, int protection) {
+    int memory = memfd_create("block", 0);
+    if (memory < 0 || ftruncate(memory, (off_t)most) != 0)
+        fail("caller: memory");
+    uint8_t *room = mmap(NULL, most + 2 * PAGE, PROT_NONE, MAP_PRIVATE | MAP_ANONYMOUS, -1, 0);
+    uint8_t *ours = mmap(NULL, most, PROT_READ | PROT_WRITE, MAP_SHARED, memory, 0);
+    if (room == MAP_FAILED || ours == MAP_FAILED ||
+        mmap(room + PAGE, most, protection, MAP_SHARED | MAP_FIXED, memory, 0) == MAP_FAILED)
+        fail("caller: memory");
+    *block = (struct block){.lent = room + PAGE, .ours = ours, .most = most};
+}
+
+/* Exactly so many bytes; false where the input ended before the first. */
+static int take(void *to, size_t size) {
+    size_t got = fread(to, 1, size, stdin);
+    if (got == 0 && feof(stdin))
+        return 0;
+    if (got != size)
+        fail("caller: the request is cut short");
+    return 1;
+}
+
+static void give(const void *from, size_t size) {
+    if (fwrite(from, 1, size, stdout) != size)
+        fail("caller: the answer cannot be written");
+}
+
+static size_t offset(const struct block *block, uint32_t where) { return where == 0 ? block->most - block->size : 0; }
+static uint8_t *lent(unsigned k, uint32_t where) { return blocks[k].lent + offset(&blocks[k], where); }
+static uint8_t *ours(unsigned k, uint32_t where) { return blocks[k].ours + offset(&blocks[k], where); }
+
+/* What stands in the lent buffers before a call: byte i of the sheet is fill + i, number i of the answer is fill + i. */
+static void fill_buffers(uint32_t where, uint32_t fill, size_t numbers) {
+    uint8_t *sheet = ours(SHEET, where);
+    for (size_t i = 0; i < blocks[SHEET].size; i++)
+        sheet[i] = (uint8_t)(fill + i);
+    uint64_t *answer = (uint64_t *)ours(ANSWER, where);
+    for (size_t i = 0; i < numbers; i++)
+        answer[i] = fill + i;
+}
+
+/* Reads what is lent; false where a count is too great or the request is cut short. */
+static int take_blocks(const uint32_t *count, uint32_t where) {
+    for (unsigned k = 0; k < BLOCKS; k++) {
+        blocks[k].size = WIDTH[k] * count[k];
+        if (blocks[k].size > MOST[k] || (k < SHEET && blocks[k].size > 0 && !take(ours(k, where), blocks[k].size)))
+            return 0;
+    }
+    return 1;
+}
+
+/* Both entries on what is lent. */
+static void call(const uint32_t *n, uint32_t where, uint32_t fill) {
+    const uint8_t *file = lent(CASE, where);
+    const int64_t *base = (int64_t *)lent(BASE, where), *wider = (int64_t *)lent(WIDER, where), *local = (int64_t *)lent(LOCAL, where);
+    uint64_t *answer = (uint64_t *)lent(ANSWER, where);
+    fill_buffers(where, fill, n[ANSWER]);
+    uint64_t result = wirepulley_judge(file, n[CASE], base, n[BASE], wider, n[WIDER], local, n[LOCAL], answer, n[ANSWER]);
+    give(&result, sizeof result);
+    give(ours(ANSWER, where), blocks[ANSWER].size);
+    fill_buffers(where, fill, n[ANSWER]);
+    result = wirepulley_write(file, n[CASE], base, n[BASE], wider, n[WIDER], local, n[LOCAL], lent(SHEET, where), n[SHEET], answer, n[ANSWER]);
+    give(&result, sizeof result);
+    give(ours(ANSWER, where), blocks[ANSWER].size);
+    give(ours(SHEET, where), blocks[SHEET].size);
+    fflush(stdout);
+}
+
+int main(void) {
+    for (unsigned k = 0; k < BLOCKS; k++)
+        make(&blocks[k], MOST[k], k >= SHEET ? PROT_READ | PROT_WRITE : PROT_READ);
+    uint32_t head[2 + BLOCKS];
+    while (take(head, sizeof head)) {
+        if (!take_blocks(head + 2, head[0])) {
+            fputs("caller: a request is too long or cut short\n", stderr);
+            return 2;
+        }
+        call(head + 2, head[0], head[1]);
+    }
+    return 0;
+}

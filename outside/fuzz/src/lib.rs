@@ -1,0 +1,41 @@
+//! The reference as C calls it: the entry with a lent buffer, and the solver for the mutator.
+
+use reference::file::whole_case;
+use reference::solver::solved;
+use reference::{judge_into, Answer};
+use std::slice::{from_raw_parts, from_raw_parts_mut};
+
+/// What `wirepulley_write` has to answer and to leave in the buffer.
+///
+/// # Safety
+/// Each pointer leads to as many elements as its count says, four for `answer`.
+#[no_mangle]
+pub unsafe extern "C" fn reference_write(
+    file: *const u8,
+    file_len: usize,
+    runs: *const *const i64,
+    run_lens: *const usize,
+    sheet: *mut u8,
+    sheet_len: usize,
+    answer: *mut u64,
+) {
+    let run = |system: usize| from_raw_parts(*runs.add(system), *run_lens.add(system));
+    let buffer = from_raw_parts_mut(sheet, sheet_len);
+    let numbers = match judge_into(from_raw_parts(file, file_len), [run(0), run(1), run(2)], buffer) {
+        Answer::Accepted(length) => [0, 0, 0, length as u64],
+        Answer::Refused(refusal) => [refusal.number as u64, refusal.system as u64, refusal.row as u64, 0],
+    };
+    from_raw_parts_mut(answer, 4).copy_from_slice(&numbers);
+}
+
+/// Puts solutions of a whole file's tables in place of its own. Another file stays as it is.
+///
+/// # Safety
+/// The pointer leads to as many bytes as the count says.
+#[no_mangle]
+pub unsafe extern "C" fn reference_solve(file: *mut u8, file_len: usize) {
+    let file = from_raw_parts_mut(file, file_len);
+    if let Some(case) = whole_case(file).filter(|case| case.nodes.len() <= 40) {
+        file.copy_from_slice(&solved(&case).0.bytes());
+    }
+}

@@ -1,0 +1,75 @@
+//! 01, 6 and 7: nodes out of reach, totals.
+
+use super::{any, Faults};
+use crate::networks::{spread_tec, total_demand};
+use reference::file::{Case, Name};
+
+pub fn add(list: &mut Faults) {
+    list.case(6, 0, "a node without circuits", |case, chance| {
+        let place = any(chance, case.nodes.len()).filter(|place| *place != reference(case))?;
+        (case.nodes.len() > 2 && !case.circuits.is_empty()).then(|| move_circuits(case, place, reference(case)))?;
+        Some(place as u64 + 1)
+    });
+    list.case(6, 0, "the reference without circuits", |case, _| {
+        let other = first_other(case)?;
+        (case.nodes.len() > 2 && !case.circuits.is_empty()).then(|| move_circuits(case, reference(case), other))?;
+        Some(other as u64 + 1)
+    });
+    list.case(6, 0, "no circuits at all", |case, _| {
+        let nodes = case.nodes.len();
+        case.circuits.clear();
+        case.runs.iter_mut().for_each(|run| run.truncate(nodes));
+        Some(first_other(case)? as u64 + 1)
+    });
+    list.case(7, 0, "total demand 0", |case, _| {
+        case.nodes.iter_mut().for_each(|row| row.demand = 0);
+        Some(0)
+    });
+    list.case(7, 0, "total demand above 100,000,000", |case, chance| {
+        let most = chance.of(&[1, 20_000_000]);
+        let rows = case.nodes.iter_mut().enumerate();
+        rows.for_each(|(place, row)| row.demand = [20_000_000, most, 0][(place > 4) as usize + (place > 5) as usize]);
+        (case.nodes.len() > 5).then_some(0)
+    });
+    list.case(7, 0, "total TEC 0", |case, _| {
+        case.stations.iter_mut().for_each(|row| row.tec = 0);
+        Some(0)
+    });
+    list.case(7, 0, "no stations", |case, _| {
+        case.stations.clear();
+        Some(0)
+    });
+    list.case(7, 0, "total TEC above 100,000,000", |case, _| {
+        let rows = case.stations.iter_mut().enumerate();
+        rows.for_each(|(place, row)| row.tec = [20_000_000, 1, 0][(place > 4) as usize + (place > 5) as usize]);
+        (case.stations.len() > 5).then_some(0)
+    });
+    list.case(7, 0, "total TEC one below total demand", |case, _| {
+        let total = total_demand(case);
+        (total > 1 && spread_tec(case, total - 1)).then_some(0)
+    });
+}
+
+/// The reference's place, from 0.
+fn reference(case: &Case) -> usize {
+    case.settings.reference as usize - 1
+}
+
+/// The lowest node beside the reference.
+fn first_other(case: &Case) -> Option<usize> {
+    (0..case.nodes.len()).find(|place| *place != reference(case))
+}
+
+/// Moves every circuit of a node to another one; a circuit between the two goes to a third. So all others still reach one another.
+fn move_circuits(case: &mut Case, from: usize, to: usize) {
+    let third = (0..case.nodes.len()).find(|place| *place != from && *place != to).expect("three nodes");
+    let [from, to, third] = [from, to, third].map(|place| case.nodes[place].name);
+    for row in &mut case.circuits {
+        let other = |end: Name| if end == to { third } else { to };
+        if row.first == from {
+            row.first = other(row.second);
+        } else if row.second == from {
+            row.second = other(row.first);
+        }
+    }
+}

@@ -1,0 +1,67 @@
+//! The library, called through the program `caller` that links it.
+
+use crate::input::{Input, Outcome};
+use std::io::{BufReader, BufWriter, Read, Result, Write};
+use std::process::{Child, ChildStdin, ChildStdout, Command, Stdio};
+
+/// A running caller.
+pub struct Library {
+    command: Vec<String>,
+    child: Child,
+    to: BufWriter<ChildStdin>,
+    from: BufReader<ChildStdout>,
+}
+
+/// A program with its words, its input and output piped.
+pub fn piped(command: &[String]) -> Result<Child> {
+    Command::new(&command[0]).args(&command[1..]).stdin(Stdio::piped()).stdout(Stdio::piped()).spawn()
+}
+
+impl Library {
+    /// Starts the caller.
+    pub fn start(command: &[String]) -> Result<Library> {
+        let mut child = piped(command)?;
+        let to = BufWriter::new(child.stdin.take().expect("piped"));
+        let from = BufReader::new(child.stdout.take().expect("piped"));
+        Ok(Library { command: command.to_vec(), child, to, from })
+    }
+
+    /// One call. An error is the end of the caller, by a signal where the library touched what it was not lent.
+    pub fn call(&mut self, input: &Input) -> Result<Outcome> {
+        let counts = [input.file.len(), input.runs[0].len(), input.runs[1].len(), input.runs[2].len(), input.sheet_len];
+        let head = [input.place, input.fill]
+            .into_iter()
+            .chain(counts.map(|count| count as u32))
+            .chain([input.answer_len as u32]);
+        for number in head {
+            self.to.write_all(&number.to_le_bytes())?;
+        }
+        self.to.write_all(&input.file)?;
+        for number in input.runs.iter().flatten() {
+            self.to.write_all(&number.to_le_bytes())?;
+        }
+        self.to.flush()?;
+        let judged = (self.number()?, self.numbers(input.answer_len)?);
+        let written = (self.number()?, self.numbers(input.answer_len)?);
+        let mut sheet = vec![0; input.sheet_len];
+        self.from.read_exact(&mut sheet)?;
+        Ok(Outcome { judged, written, sheet })
+    }
+
+    fn number(&mut self) -> Result<u64> {
+        let mut bytes = [0; 8];
+        self.from.read_exact(&mut bytes)?;
+        Ok(u64::from_le_bytes(bytes))
+    }
+
+    fn numbers(&mut self, count: usize) -> Result<Vec<u64>> {
+        (0..count).map(|_| self.number()).collect()
+    }
+
+    /// How the caller ended, and a new one in its place.
+    pub fn again(&mut self) -> Result<String> {
+        let status = self.child.wait()?;
+        *self = Library::start(&self.command.clone())?;
+        Ok(status.to_string())
+    }
+}

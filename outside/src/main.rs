@@ -1,0 +1,64 @@
+//! Holds the proved library and program to the independent reference, on inputs by chance. `--help` tells how.
+
+mod compare;
+mod faults;
+mod input;
+mod library;
+mod networks;
+mod program;
+mod tally;
+
+use compare::{Compare, Plan};
+use std::process::exit;
+
+const USAGE: &str = "usage: outside short|long [--seed N] --run WORDS --caller PROGRAM [--tariff PROGRAM --replay PROGRAM]
+Holds the library (through PROGRAM caller) and the programs to the reference. WORDS, which may be empty, run an x86-64 program.
+  short    some 10,000 inputs     long    more than 200,000 inputs
+outside seeds FOLDER writes the cases of the replay's list up to 8,184 bytes as inputs of the fuzz target.
+Exit status: 0 no difference and no answer or cause too rare; 1 otherwise; 2 it could not be tried.";
+
+fn main() {
+    let mut words = std::env::args().skip(1);
+    let plan = match words.next().as_deref() {
+        Some("short") => Plan::SHORT,
+        Some("long") => Plan::LONG,
+        Some("seeds") => return seeds(&words.next().unwrap_or_else(|| fail(USAGE))),
+        Some("--help") => return println!("{USAGE}"),
+        _ => fail(USAGE),
+    };
+    let (mut seed, mut prefix, mut programs) = (None, Vec::new(), [const { Vec::new() }; 3]);
+    while let Some(word) = words.next() {
+        let value = words.next().unwrap_or_else(|| fail(&format!("{word} needs a value")));
+        match word.as_str() {
+            "--seed" => seed = Some(value.parse().unwrap_or_else(|_| fail("--seed needs a number"))),
+            "--run" => prefix = value.split_whitespace().map(String::from).collect(),
+            "--caller" => programs[0] = vec![value],
+            "--tariff" => programs[1] = vec![value],
+            "--replay" => programs[2] = vec![value],
+            _ => fail(USAGE),
+        }
+    }
+    let seed = seed.unwrap_or_else(|| std::time::UNIX_EPOCH.elapsed().map_or(1, |time| time.as_secs()));
+    let commands =
+        programs.map(|program| if program.is_empty() { program } else { [prefix.clone(), program].concat() });
+    if commands[0].is_empty() {
+        fail(USAGE);
+    }
+    let passed =
+        Compare::start(plan, seed, commands).and_then(Compare::run).unwrap_or_else(|error| fail(&error.to_string()));
+    exit(if passed { 0 } else { 1 });
+}
+
+/// Inputs of the fuzz target: eight bytes that lend a buffer for any sheet, four numbers and the file's own runs; then a file.
+fn seeds(folder: &str) {
+    for (number, case) in reference::replay::cases().iter().enumerate().filter(|(_, case)| case.file.len() <= 8_184) {
+        let input = [&[0, 128, 4, 0, 0, 0, 0, 0], &case.file[..]].concat();
+        let written = std::fs::write(format!("{folder}/{number:04}"), input);
+        written.unwrap_or_else(|error| fail(&format!("cannot write to {folder}: {error}")));
+    }
+}
+
+fn fail(reason: &str) -> ! {
+    eprintln!("outside: {reason}");
+    exit(2)
+}

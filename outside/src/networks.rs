@@ -1,0 +1,284 @@
+//! Networks by chance, of every size and shape, solved: what the other inputs are made from.
+
+use reference::file::{padded, Case, CircuitRow, Name, NodeRow, Settings, StationRow};
+use reference::judge_case;
+use reference::random::Chance;
+use reference::solver::solved;
+
+/// How the circuits lie.
+pub const SHAPES: [(&str, fn(&mut Chance, usize) -> Vec<(usize, usize)>); 6] = [
+    ("chain", |_, nodes| (1..nodes).map(|node| (node - 1, node)).collect()),
+    ("star", |_, nodes| (1..nodes).map(|node| (0, node)).collect()),
+    ("tree", tree),
+    ("ring", ring),
+    ("parallel circuits", doubled),
+    ("mesh", mesh),
+];
+
+/// What the figures are like.
+pub const TASTES: [&str; 7] = [
+    "ordinary",
+    "at the ends of ranges",
+    "idle circuits",
+    "marked circuits",
+    "TEC equal to demand",
+    "least totals",
+    "greatest totals",
+];
+
+/// Each node on an earlier one.
+fn tree(chance: &mut Chance, nodes: usize) -> Vec<(usize, usize)> {
+    (1..nodes).map(|node| (chance.within(0, node as u64 - 1) as usize, node)).collect()
+}
+
+/// A chain whose ends meet.
+fn ring(_: &mut Chance, nodes: usize) -> Vec<(usize, usize)> {
+    let back = if nodes > 2 { vec![(nodes - 1, 0)] } else { Vec::new() };
+    (1..nodes).map(|node| (node - 1, node)).chain(back).collect()
+}
+
+/// A tree of which any circuit may have one or two more beside it.
+fn doubled(chance: &mut Chance, nodes: usize) -> Vec<(usize, usize)> {
+    let tree = tree(chance, nodes);
+    let more: Vec<_> = tree.iter().flat_map(|ends| vec![*ends; chance.within(0, 2) as usize]).collect();
+    tree.into_iter().chain(more).take(512).collect()
+}
+
+/// A tree and as many circuits again between any two nodes.
+fn mesh(chance: &mut Chance, nodes: usize) -> Vec<(usize, usize)> {
+    let mut circuits = tree(chance, nodes);
+    let more = if nodes == 1 { 0 } else { (nodes + 1).min(512 - circuits.len()) };
+    for _ in 0..more {
+        let first = chance.within(0, nodes as u64 - 1);
+        let second = (first + chance.within(1, nodes as u64 - 1)) % nodes as u64;
+        circuits.push((first as usize, second as usize));
+    }
+    circuits
+}
+
+/// Numbers by taste.
+struct Figures<'a> {
+    chance: &'a mut Chance,
+    taste: &'static str,
+}
+
+impl Figures<'_> {
+    /// A number of a range.
+    fn within(&mut self, low: u64, high: u64) -> u32 {
+        match self.taste == "at the ends of ranges" && self.chance.within(0, 1) == 0 {
+            true => self.chance.of(&[low, high]) as u32,
+            false => self.chance.spread(low, high),
+        }
+    }
+
+    fn settings(&mut self, nodes: usize) -> Settings {
+        Settings {
+            generation_zones: self.within(1, 32),
+            demand_zones: self.within(1, 32),
+            p: self.within(0, 1_000),
+            constant: self.within(1, 10_000),
+            wider_factor: self.within(1_000, 5_000),
+            local_factor: self.within(1_000, 5_000),
+            factors: std::array::from_fn(|place| if place == 0 { 1_000 } else { self.within(1_000, 30_000) }),
+            reference: self.chance.within(1, nodes as u64) as u32,
+            zero: 0,
+            revenue: self.chance.of(&[0, 1, 999_999, 100_000_000, 2_939_300_000, 10_000_000_000]),
+        }
+    }
+
+    fn node(&mut self, name: Name, settings: &Settings) -> NodeRow {
+        let demand = match self.chance.within(0, 2) {
+            0 => 0,
+            _ if self.taste == "at the ends of ranges" => self.chance.of(&[0, 1, 20_000_000]),
+            _ => self.chance.spread(0, 3_000_000),
+        };
+        NodeRow {
+            name,
+            generation_zone: self.within(1, settings.generation_zones as u64),
+            demand_zone: self.within(1, settings.demand_zones as u64),
+            demand,
+        }
+    }
+
+    fn circuit(&mut self, first: Name, second: Name) -> CircuitRow {
+        let (first, second) = if self.chance.within(0, 1) == 0 { (first, second) } else { (second, first) };
+        let mark =
+            if self.taste == "marked circuits" { self.chance.within(0, 3) > 0 } else { self.chance.within(0, 4) == 0 };
+        let cable = if self.chance.within(0, 3) == 0 { self.within(0, 500_000) / self.chance.of(&[1, 100]) } else { 0 };
+        CircuitRow {
+            first,
+            second,
+            voltage: self.chance.of(&[132, 275, 400]),
+            x: self.within(1, 10_000),
+            overhead: self.within(0, 500_000),
+            cable,
+            mark: mark as u32,
+        }
+    }
+
+    fn station(&mut self, number: usize, node: Name) -> StationRow {
+        let tec = match self.chance.within(0, 9) {
+            0 => 0,
+            _ if self.taste == "at the ends of ranges" => self.chance.of(&[0, 1, 20_000_000]),
+            _ => self.chance.spread(1, 5_000_000),
+        };
+        StationRow {
+            identifier: padded(format!("ST_{number}").as_bytes()),
+            node,
+            plant: self.chance.within(1, 7) as u32,
+            tec,
+        }
+    }
+}
+
+/// A node's name by its number, of any length from 2 to 12.
+fn name(number: usize) -> Name {
+    padded(format!("{}{number}", ["N", "LONG_NAME", "_", "9Z"][number % 4]).as_bytes())
+}
+
+/// A network of a shape and a taste with so many nodes, circuits in any order, solved.
+pub fn network(
+    chance: &mut Chance,
+    (_, shape): (&str, fn(&mut Chance, usize) -> Vec<(usize, usize)>),
+    taste: &'static str,
+    nodes: usize,
+) -> Case {
+    let mut ends = shape(chance, nodes);
+    for place in (1..ends.len()).rev() {
+        ends.swap(place, chance.within(0, place as u64) as usize);
+    }
+    let stations = if nodes == 256 { 512 } else { chance.within(1, 2 * nodes as u64) as usize };
+    let mut figures = Figures { chance, taste };
+    let settings = figures.settings(nodes);
+    let mut case = Case {
+        nodes: (0..nodes).map(|number| figures.node(name(number), &settings)).collect(),
+        circuits: ends.into_iter().map(|(first, second)| figures.circuit(name(first), name(second))).collect(),
+        stations: Vec::new(),
+        runs: Default::default(),
+        settings,
+    };
+    for number in 0..stations {
+        let node = name(figures.chance.within(0, nodes as u64 - 1) as usize);
+        case.stations.push(figures.station(number, node));
+    }
+    set_totals(chance, &mut case, taste);
+    add_spur(chance, &mut case);
+    mended(chance, solved(&case).0)
+}
+
+/// Mostly, mends what stops a case that is solved: a direction in doubt by no length, numbers out of range by less x or less length.
+fn mended(chance: &mut Chance, mut case: Case) -> Case {
+    let kept = chance.within(0, 7) == 0;
+    for _ in 0..6 {
+        let runs = [&case.runs[0][..], &case.runs[1], &case.runs[2]];
+        match judge_case(&case.bytes(), runs).err().map(|refusal| (refusal.number, refusal.system)) {
+            Some((11, _)) if !kept => take_doubt_away(&mut case),
+            Some((8, 1)) if !kept => case.circuits.iter_mut().for_each(|row| row.x = (row.x / 10).max(1)),
+            Some((8, _)) if !kept => {
+                case.circuits.iter_mut().for_each(|row| (row.overhead, row.cable) = (row.overhead / 10, row.cable / 10))
+            }
+            _ => break,
+        }
+        case = solved(&case).0;
+    }
+    case
+}
+
+/// No length for a circuit whose base flow is in the band of doubt.
+fn take_doubt_away(case: &mut Case) {
+    let nodes = case.nodes.len();
+    for (row, flow) in case.circuits.iter_mut().zip(&case.runs[0][nodes..]) {
+        if (200_000_001..=400_000_000).contains(&flow.unsigned_abs()) {
+            (row.overhead, row.cable) = (0, 0);
+        }
+    }
+}
+
+fn total_tec(case: &Case) -> u64 {
+    case.stations.iter().map(|row| row.tec as u64).sum()
+}
+
+pub fn total_demand(case: &Case) -> u64 {
+    case.nodes.iter().map(|row| row.demand as u64).sum()
+}
+
+/// Totals that 01 allows, by taste.
+fn set_totals(chance: &mut Chance, case: &mut Case, taste: &str) {
+    match taste {
+        "idle circuits" => {
+            let kept = chance.within(0, case.nodes.len() as u64 - 1) as usize;
+            case.nodes.iter_mut().enumerate().filter(|(place, _)| *place != kept).for_each(|(_, row)| row.demand = 0);
+        }
+        "least totals" => {
+            case.nodes.iter_mut().for_each(|row| row.demand = 0);
+            case.stations.iter_mut().for_each(|row| row.tec = 0);
+        }
+        "greatest totals" if case.stations.len() >= 5 => {
+            case.stations
+                .iter_mut()
+                .enumerate()
+                .for_each(|(place, row)| row.tec = if place < 5 { 20_000_000 } else { 0 });
+            if case.nodes.len() >= 5 {
+                case.nodes
+                    .iter_mut()
+                    .enumerate()
+                    .for_each(|(place, row)| row.demand = if place < 5 { 20_000_000 } else { 0 });
+            }
+        }
+        _ => (),
+    }
+    while total_tec(case) > 100_000_000 {
+        case.stations.iter_mut().for_each(|row| row.tec /= 2);
+    }
+    if total_demand(case) == 0 {
+        let last = case.nodes.len() - 1;
+        case.nodes[last].demand = 1;
+    }
+    if total_tec(case) == 0 {
+        case.stations[0].tec = 1;
+    }
+    while total_demand(case) > total_tec(case) {
+        case.nodes.iter_mut().for_each(|row| row.demand /= 2);
+    }
+    if total_demand(case) == 0 {
+        case.nodes[0].demand = 1;
+    }
+    if taste == "TEC equal to demand" {
+        spread_tec(case, total_demand(case));
+    }
+}
+
+/// Gives the stations so much TEC in all, the first ones first. False where they cannot hold it.
+pub fn spread_tec(case: &mut Case, total: u64) -> bool {
+    let mut left = total;
+    for row in &mut case.stations {
+        row.tec = left.min(20_000_000) as u32;
+        left -= row.tec as u64;
+    }
+    left == 0
+}
+
+/// On half of the cases a node of 201 to 400 kW behind a circuit without length: with a length its direction would be in doubt.
+fn add_spur(chance: &mut Chance, case: &mut Case) {
+    let demand = chance.of(&[201, 400, chance.0 % 200 + 201]) as u32;
+    let room =
+        case.nodes.len() < 255 && case.circuits.len() < 512 && total_tec(case) >= total_demand(case) + demand as u64;
+    if !room || chance.within(0, 1) == 0 {
+        return;
+    }
+    let at = case.nodes[chance.within(0, case.nodes.len() as u64 - 1) as usize].name;
+    let spur = padded(b"SPUR");
+    let (first, second) = if chance.within(0, 1) == 0 { (at, spur) } else { (spur, at) };
+    let circuit = CircuitRow {
+        first,
+        second,
+        voltage: 400,
+        x: chance.spread(1, 10_000).max(1),
+        overhead: 0,
+        cable: 0,
+        mark: chance.within(0, 1) as u32,
+    };
+    let place = chance.within(0, case.circuits.len() as u64) as usize;
+    case.circuits.insert(place, circuit);
+    case.nodes.push(NodeRow { name: spur, generation_zone: 1, demand_zone: 1, demand });
+}

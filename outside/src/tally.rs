@@ -1,0 +1,121 @@
+//! How often each answer and each cause was met.
+
+use reference::file::Case;
+use std::collections::BTreeMap;
+
+/// Counts of a run.
+#[derive(Default)]
+pub struct Tally {
+    pub inputs: u64,
+    /// By number; 0 is accepted.
+    pub answers: [u64; 13],
+    pub causes: BTreeMap<String, u64>,
+    pub orders: BTreeMap<String, u64>,
+}
+
+impl Tally {
+    /// A cause that has to be met, though it may not be yet.
+    pub fn expect(&mut self, cause: &str) {
+        self.causes.entry(cause.to_string()).or_default();
+    }
+
+    pub fn met(&mut self, cause: &str) {
+        *self.causes.entry(cause.to_string()).or_default() += 1;
+    }
+
+    /// What an accepted case has at the ends of 01's ranges, and what else makes it different from others.
+    pub fn met_accepted(&mut self, case: &Case, sheet: &[u8]) {
+        for (name, met) in features(case, sheet) {
+            if met {
+                self.met(&name);
+            }
+        }
+    }
+
+    /// Every end of a range has to be met, and every feature.
+    pub fn expect_accepted(&mut self) {
+        features(&reference::replay::bases::kiln(), b"").iter().for_each(|(name, _)| self.expect(name));
+    }
+
+    /// Every count on a line, and the names of those that are too low.
+    pub fn report(&self, least_answer: u64, least_cause: u64) -> Vec<String> {
+        println!("inputs: {}", self.inputs);
+        println!("answers (each at least {least_answer}):");
+        let mut rare = Vec::new();
+        for (number, count) in self.answers.iter().enumerate() {
+            let name = if number == 0 { "accepted".to_string() } else { format!("refused {number}") };
+            println!("  {count:>8}  {name}");
+            if *count < least_answer {
+                rare.push(name);
+            }
+        }
+        println!("causes (each at least {least_cause}):");
+        for (cause, count) in &self.causes {
+            println!("  {count:>8}  {cause}");
+        }
+        rare.extend(self.causes.iter().filter(|(_, count)| **count < least_cause).map(|(cause, _)| cause.clone()));
+        let pairs: u64 = self.orders.values().sum();
+        println!("orders: {pairs} inputs with two faults, {} different pairs of number and system; the first was answered each time", self.orders.len());
+        rare
+    }
+}
+
+/// What a case may have, by name, and whether it has it.
+fn features(case: &Case, sheet: &[u8]) -> Vec<(String, bool)> {
+    let mut list = Vec::new();
+    for (quantity, low, high, numbers) in ends(case) {
+        for (end, word) in [(low, "least"), (high, "greatest")] {
+            list.push((format!("accepted with the {word} {quantity}, {end}"), numbers.contains(&end)));
+        }
+    }
+    let flows = case.runs[0].iter().skip(case.nodes.len());
+    let circuits: Vec<_> = case.circuits.iter().zip(flows).filter(|(row, _)| row.overhead + row.cable > 0).collect();
+    let idle = |flow: i64| flow.abs() <= 200_000_000;
+    let mut add = |name: &str, met| list.push((format!("accepted with {name}"), met));
+    add("a 275 kV circuit", circuits.iter().any(|(row, _)| row.voltage == 275));
+    add("an idle circuit", circuits.iter().any(|(_, flow)| idle(**flow)));
+    add("a circuit backward", circuits.iter().any(|(_, flow)| !idle(**flow) && **flow < 0));
+    add("a marked circuit that is not idle", circuits.iter().any(|(row, flow)| !idle(**flow) && row.mark == 1));
+    add("a zone without kilowatts", sheet.windows(3).any(|bytes| bytes == b" -\n"));
+    add(
+        "TEC equal to demand",
+        case.stations.iter().map(|row| row.tec as u64).sum::<u64>()
+            == case.nodes.iter().map(|row| row.demand as u64).sum(),
+    );
+    list
+}
+
+/// Each quantity of 01 with the ends of its range, and what a case has of it. No sheet has 0 stations or 0 kilowatts.
+fn ends(case: &Case) -> Vec<(&'static str, u64, u64, Vec<u64>)> {
+    let settings = &case.settings;
+    let nodes =
+        |of: fn(&reference::file::NodeRow) -> u32| case.nodes.iter().map(|row| of(row) as u64).collect::<Vec<u64>>();
+    let circuits = |of: fn(&reference::file::CircuitRow) -> u32| {
+        case.circuits.iter().map(|row| of(row) as u64).collect::<Vec<u64>>()
+    };
+    let tec: Vec<u64> = case.stations.iter().map(|row| row.tec as u64).collect();
+    let demand = nodes(|row| row.demand);
+    let one = |number: u32| vec![number as u64];
+    vec![
+        ("count of nodes", 1, 256, vec![case.nodes.len() as u64]),
+        ("count of circuits", 0, 512, vec![case.circuits.len() as u64]),
+        ("count of stations", 1, 512, vec![case.stations.len() as u64]),
+        ("generation zones", 1, 32, one(settings.generation_zones)),
+        ("demand zones", 1, 32, one(settings.demand_zones)),
+        ("p", 0, 1_000, one(settings.p)),
+        ("constant", 1, 10_000, one(settings.constant)),
+        ("wider factor", 1_000, 5_000, one(settings.wider_factor)),
+        ("local factor", 1_000, 5_000, one(settings.local_factor)),
+        ("expansion factor", 1_000, 30_000, settings.factors[1..].iter().map(|factor| *factor as u64).collect()),
+        ("revenue", 0, 10_000_000_000, vec![settings.revenue]),
+        ("total demand", 1, 100_000_000, vec![demand.iter().sum()]),
+        ("total TEC", 1, 100_000_000, vec![tec.iter().sum()]),
+        ("demand", 0, 20_000_000, demand),
+        ("TEC", 0, 20_000_000, tec),
+        ("x", 1, 10_000, circuits(|row| row.x)),
+        ("overhead", 0, 500_000, circuits(|row| row.overhead)),
+        ("cable", 0, 500_000, circuits(|row| row.cable)),
+        ("mark", 0, 1, circuits(|row| row.mark)),
+        ("voltage", 132, 400, circuits(|row| row.voltage)),
+    ]
+}
