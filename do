@@ -14,6 +14,7 @@ kiln)                                                   # build the program and 
 check) shift && exec rt check "$@" ;;                   # prove these crates and what they depend on
 dev) shift && exec rt dev "$@" ;;                       # the edit loop on one crate, in seconds
 edits) shift && exec rt must-fail "$@" ;;               # try the must-fail edits of these crates
+bench) shift && exec bench/run "$@" ;;                  # time the library beside a Rust twin and a textbook Rust
 fmt) exec rt fmt ;;                                     # lay every file out
 *) sed -n 's/^\([a-z]*\)).*# \(.*\)$/.\/do \1: \2/p' "$0" ;;
 esac
