@@ -16,7 +16,7 @@ use Rattle.meaning.specs.declared.Figures.{Figures}
 use Rattle.charges.specs.declared.sides.MoneySettings.{MoneySettings}
 use Rattle.charges.specs.declared.zones.SideColumns.{SideColumns}
 use Rattle.charges.specs.declared.zones.Zones.{Zones}
-use Rattle.meaning.specs.Columns.{kilowatts, distance, price, kwAt, metresAt, column, noLocal}
+use Rattle.meaning.specs.Columns.{kilowatts, distance, price, kwAt, metresAt, column, noLine, noLocal}
 use Rattle.charges.specs.Steps.{zonesFrom, cFrom, shifted, localFrom, restFrom, ColumnsFit, ZonesFit}
 
 -- the line of a zone

@@ -13,7 +13,7 @@ use Rattle.meaning.specs.Figures.{metres, tariff}
 use Rattle.meaning.specs.declared.LocalFigures.{LocalFigures}
 use Rattle.charges.specs.declared.zones.SideColumns.{SideColumns}
 use Rattle.charges.specs.declared.zones.Zones.{Zones}
-use Rattle.meaning.specs.Columns.{kilowatts, distance, price, numberAt, kwAt, metresAt, priceAt, column}
+use Rattle.meaning.specs.Columns.{kilowatts, distance, price, numberAt, kwAt, metresAt, priceAt, column, noLocal}
 use Rattle.charges.specs.Sums.{zoneKw, zoneSum, SumFits}
 
 -- step 7
