@@ -1,67 +1,70 @@
-use crate::distances::metres_by_zone;
-use crate::distances::times;
-use crate::kilowatts::kilowatts_by_zone;
-use crate::kilowatts::total_kilowatts;
+use crate::sums::SideColumns;
+use crate::sums::ZoneSums;
+use crate::sums::sums_by_zone;
+use crate::sums::times;
+use crate::sums::total_kilowatts;
 use meaning::Kw;
 use meaning::Metres;
 use meaning::Side;
 ghost use mathlib.Core.Path.{_≡_};
 ghost use Prim.Native.Nat.{_≤_};
+ghost use lib.IntN.{pos, natAbs, _*ℤ_};
 ghost use lib.ListN.{length};
 ghost use Rattle.meaning.specs.Proposal.{potential};
-ghost use Rattle.charges.specs.Steps.{zonesFrom, metresOver, ColumnsFit, ZonesFit};
+ghost use Rattle.charges.specs.Sums.{ColumnsFit};
+ghost use Rattle.charges.specs.Zones.{metresFrom, zonesFrom, metresOver, ZonesFit};
 
-// What a side's charges are made of: how many zones it has; each node's zone, the kilowatts that weigh and those that pay.
-pub struct SideColumns {
-    pub zones: usize,
-    pub zone: [usize; 256],
-    pub weight: [Kw; 256],
-    pub paying: [Kw; 256],
-}
-
-// Step 7 of a side: each zone's kilowatts and metres, and the kilowatts that pay in all.
+// Step 7 of a side: the sums of each of its zones, and the kilowatts that pay in all.
 pub struct Zones {
+    pub side: Side,
     pub count: usize,
-    pub weight: [Kw; 32],
-    pub paying: [Kw; 32],
-    pub metres: [Metres; 32],
+    pub sums: [ZoneSums; 32],
     pub total: Kw,
 }
 
 // The zones of a side.
-pub fn zones_of(side: Side, columns: SideColumns, wider: &[i64], nodes: usize) -> Zones
-    requires { ⌜ (nodes ≤ length (now wider)) × ColumnsFit side columns nodes (potential (now wider)) ⌝ }
-    ensures { λ r. ⌜ r ≡ zonesFrom side columns nodes (potential (now (wider .entry))) ⌝ }
+pub fn zones_of(columns: SideColumns, wider: &[i64]) -> Zones
+    requires { ⌜ ColumnsFit columns (potential (now wider)) × (columns .nodes ≤ length (now wider)) ⌝ }
+    ensures { λ r. ⌜ r ≡ zonesFrom columns (potential (now (wider .entry))) ⌝ }
 {
-    let count = columns.zones;
-    let of = columns.zone;
-    let weighing = columns.weight;
-    let payers = columns.paying;
-    let weight = kilowatts_by_zone(weighing, of, nodes, count);
-    let paying = kilowatts_by_zone(payers, of, nodes, count);
-    let metres = metres_by_zone(side, weighing, of, wider, nodes, count, weight);
-    let total = total_kilowatts(payers, nodes);
+    let side = columns.side;
+    let paying = columns.paying;
+    let sums = sums_by_zone(columns, wider);
+    let total = total_kilowatts(paying, columns.nodes);
     Zones {
-        count: count,
-        weight: weight,
-        paying: paying,
-        metres: metres,
+        side: side,
+        count: columns.zones,
+        sums: sums,
         total: total,
     }
 }
 
-// Step 8: the zones' metres times the kilowatts that pay.
+// Step 7: zonal metres.
+pub fn metres_of(zone: ZoneSums) -> Metres
+    ensures { λ r. ⌜ r .0 ≡ metresFrom zone ⌝ }
+{
+    steps::average(zone.weighed, zone.weight)
+}
+
+// Step 8: a zone's metres times the kilowatts that pay.
+pub fn metres_times(zone: ZoneSums) -> i64
+    requires { ⌜ (natAbs (metresFrom zone) ≤ 10000000) × (zone .paying .0 ≤ 100000000) ⌝ }
+    ensures { λ r. ⌜ r ≡ metresFrom zone *ℤ pos (zone .paying .0) ⌝ }
+{
+    times(metres_of(zone), zone.paying)
+}
+
+// Step 8: those of all zones.
 pub fn metres_over_zones(zones: Zones) -> i64
     requires { ⌜ ZonesFit zones ⌝ }
     ensures { λ r. ⌜ r ≡ metresOver zones ⌝ }
 {
-    let metres = zones.metres;
-    let paying = zones.paying;
+    let sums = zones.sums;
     let count = zones.count;
     let mut total: i64 = 0;
     let mut k = 0;
     while k < count {
-        total += times(metres[k], paying[k]);
+        total += metres_times(sums[k]);
         k += 1;
     }
     total

@@ -9,15 +9,14 @@ use mir.Syntax.{w64}
 use mir.Val.{SFits, toZ, ofZ}
 use Rattle.integers.proofs.Machine.{Back, fit-back, back, of-nat}
 use Rattle.charges.specs.declared.zones.Zones.{Zones}
-use Rattle.meaning.specs.Columns.{metresAt, kwAt}
-use Rattle.charges.specs.Steps.{metresOver, cFrom, ZonesFit}
+use Rattle.charges.specs.Zones.{metresFrom, sumsAt, metresOver, cFrom, ZonesFit}
 use Rattle.charges.proofs.Laws.{worth-most, first-fits, second-fits, mixed-fits}
 use Rattle.charges.proofs.tariffs.c_of.Statement.{statement}
 use Rattle.charges.proofs.tariffs.c_of.Tie as tie
 
 over-most : (z : Zones) → ZonesFit z → natAbs (metresOver z) ≤ 1000000000000000
 unfolding metresOver
-over-most z f = worth-most 10000000 (z .count) (metresAt (z .metres)) (kwAt (z .paying)) (f .near) (f .pays) (z .count) (le-refl _)
+over-most z f = worth-most 10000000 (z .count) (λ k. metresFrom (sumsAt z k)) (λ k. sumsAt z k .paying .0) (f .near) (f .pays) (z .count) (le-refl _)
 
 module _ (s : tie.Start) where
   abbrev p : ℕ
