@@ -64,9 +64,9 @@ module _ (g d : SideColumns) (s : MoneySettings) (w l : List ℤ) (f : CaseFits 
     pub down-fits : ZonesFit down
     down-fits = rw pd (f .demandZones)
 
-    module _ {c : Metres} (pc : c .0 ≡ cFrom (s .p) up down) where
+    module _ {c : Metres} (pc : c .0 ≡ cFrom (s .p) (up .over) (down .over)) where
       c-is : c ≡ cOf g d s wider
-      c-is = ap distance (pc ∙ ap₂ (cFrom (s .p)) pu pd)
+      c-is = ap distance (pc ∙ ap₂ (λ (a b : Zones). cFrom (s .p) (a .over) (b .over)) pu pd)
 
       pub generation-fits : {income : ℤ} → income ≡ localIncomeFrom g s local → SideFits up c s income
       generation-fits pi =

@@ -5,7 +5,7 @@ use Prim.Native.Nat.{ℕ, suc, _*_, _≤_, _<_}
 use native.Mathlib.Omega.{arith}
 use lib.IntN.{ℤ, pos, natAbs, _+ℤ_, _-ℤ_, _*ℤ_}
 use lib.ListN.{length}
-use Rattle.integers.specs.Numbers.{Σ}
+use Rattle.integers.specs.Numbers.{sum, Σ}
 use Rattle.integers.proofs.Sum.{sum-same, Σ-same}
 use Rattle.meaning.specs.declared.Kw.{Kw}
 use Rattle.meaning.specs.declared.Metres.{Metres}
@@ -28,54 +28,77 @@ use Rattle.charges.specs.declared.case.MoneySettings.{MoneySettings}
 use Rattle.charges.specs.declared.sums.SideColumns.{SideColumns}
 use Rattle.charges.specs.declared.sums.ZoneSums.{ZoneSums}
 use Rattle.charges.specs.declared.zones.Zones.{Zones}
-use Rattle.charges.specs.Zones.{metresFrom, zonesFrom, noSums, sumsAt, metresOver, cFrom, ZonesFit}
+use Rattle.charges.specs.Zones.{metresFrom, zonesFrom, noSums, overFrom, sumsAt, cFrom, SumsFit, ZonesFit}
 use Rattle.charges.specs.Tariffs.{shifted, tariffFrom, incomeFrom}
 use Rattle.charges.specs.Local.{localFrom, localAt}
 use Rattle.charges.specs.Rests.{shareOf, restFrom}
 use Rattle.charges.specs.Sides.{lineFrom, termsOf, sideFrom, cOf, localIncomeFrom, figuresFrom, CaseFits}
 use Rattle.charges.specs.Case.{zoneFigures, sideFigures, localFigures, figuresOf, moneyOf, SideOf, CaseOf}
-use Rattle.charges.proofs.OfGrid.{sumsIn, zonesIn, zones-are, columns-fit}
+use Rattle.charges.proofs.OfGrid.{sumsOn, zonesOn, zones-are, columns-fit}
 
 module _ (G : Grid) (runs : Runs) (side : Side) (most : zones G side ≤ 32) where
   abbrev Zs : Zones
-  Zs = zonesIn G runs side
+  Zs = zonesOn G runs side
 
   -- the sums of zone k + 1
-  sums-at : (k : ℕ) → k < zones G side → sumsAt Zs k ≡ sumsIn G runs side (suc k)
-  unfolding zonesIn
+  sums-at : (k : ℕ) → k < zones G side → sumsAt Zs k ≡ sumsOn G runs side (suc k)
+  unfolding zonesOn
   sums-at k h = rows-at noSums 32 _ k (omega arith)
 
   weight-at : (k : ℕ) → k < zones G side → sumsAt Zs k .weight ≡ kilowatts (zoneWeight G side (suc k))
-  unfolding sumsIn
+  unfolding sumsOn
   weight-at k h = ap (λ (z : ZoneSums). z .weight) (sums-at k h)
 
   pays-at : (k : ℕ) → k < zones G side → sumsAt Zs k .paying .0 ≡ zonePaying G side (suc k)
-  unfolding sumsIn
+  unfolding sumsOn
   pays-at k h = ap (λ (z : ZoneSums). z .paying .0) (sums-at k h)
 
   metres-at : (k : ℕ) → k < zones G side → metresFrom (sumsAt Zs k) ≡ zonalMetres G runs side (suc k)
-  unfolding metresFrom sumsIn zonalMetres
+  unfolding metresFrom sumsOn zonalMetres
   metres-at k h = ap metresFrom (sums-at k h)
 
   -- step 8: over zones
-  over-is : metresOver Zs ≡ overZones G side (zonalMetres G runs side)
-  unfolding metresOver overZones zonesIn
+  over-is : Zs .over .metres ≡ overZones G side (zonalMetres G runs side)
+  unfolding overFrom overZones zonesOn
   over-is = Σ-same (zones G side) _ _ (λ k h. ap₂ (λ (m : ℤ) (w : ℕ). m *ℤ pos w) (metres-at k h) (pays-at k h))
 
-  pub zones-fit : KilowattsFit G → MetresFit G runs → ZonesFit Zs
-  unfolding zonesIn
-  zones-fit kf mf =
+  pays-all : KilowattsFit G → sum (zones G side) (λ k. sumsAt Zs k .paying .0) ≡ totalPaying G side
+  pays-all kf = sum-same (zones G side) _ (λ k. zonePaying G side (suc k)) pays-at ∙ kf .zonesAll side
+
+  total-is : KilowattsFit G → Zs .over .total .0 ≡ totalPaying G side
+  unfolding overFrom zonesOn
+  total-is kf = pays-all kf
+
+  sums-fit : KilowattsFit G → MetresFit G runs → SumsFit (Zs .sums) (Zs .count)
+  unfolding zonesOn
+  sums-fit kf mf =
       record {
         few = most;
         near = λ k h. subst (λ (m : ℤ). natAbs m ≤ 10000000) (sym (metres-at k h)) (mf .zonal side (suc k));
-        pays = rw (sum-same (zones G side) (λ k. sumsAt Zs k .paying .0) (λ k. zonePaying G side (suc k)) pays-at) (omega (arith, kf .zonesAll side, kf .all side .most));
-        total = kf .all side .most;
+        pays = rw (pays-all kf) (kf .all side .most);
       }
 
-c-is : (G : Grid) (runs : Runs) → ((side : Side) → zones G side ≤ 32)
-    → cFrom (G .settings .p) (zonesIn G runs Generation) (zonesIn G runs Demand) ≡ C G runs
-unfolding cFrom C zonesIn
-c-is G runs most = rw (over-is G runs Generation (most Generation), over-is G runs Demand (most Demand))
+  over-most : MetresFit G runs → natAbs (overZones G side (zonalMetres G runs side)) ≤ 1000000000000000
+  unfolding overZones
+  over-most mf = mf .zonesTo side (zones G side) (omega arith)
+
+  pub zones-fit : KilowattsFit G → MetresFit G runs → ZonesFit Zs
+  zones-fit kf mf =
+      record {
+        sums = sums-fit kf mf;
+        over = record { metres = rw over-is (over-most mf); total = rw (total-is kf) (kf .all side .most) };
+      }
+
+c-is : (G : Grid) (runs : Runs) → KilowattsFit G → ((side : Side) → zones G side ≤ 32)
+    → cFrom (G .settings .p) (zonesOn G runs Generation .over) (zonesOn G runs Demand .over) ≡ C G runs
+unfolding cFrom C
+c-is G runs kf most =
+    rw (
+      over-is G runs Generation (most Generation),
+      over-is G runs Demand (most Demand),
+      total-is G runs Generation (most Generation) kf,
+      total-is G runs Demand (most Demand) kf,
+    )
 
 shifted-is : (G : Grid) (runs : Runs) (side : Side) (zone : ℕ) → shifted side (zonalMetres G runs side zone) (C G runs) ≡ afterC G runs side zone
 unfolding shifted afterC
@@ -97,9 +120,9 @@ sided : {a b : ℕ} {r q : MicroPerKw} {m n : ℤ} {k l : List ZoneFigures} → 
 sided ea er em ek = rw (ea, er, em, ek)
 
 -- steps 9 and 10 of a side
-module _ (G : Grid) (runs : Runs) (side : Side) (most : zones G side ≤ 32) where
+module _ (G : Grid) (runs : Runs) (side : Side) (most : zones G side ≤ 32) (kf : KilowattsFit G) where
   abbrev Z : Zones
-  Z = zonesIn G runs side
+  Z = zonesOn G runs side
 
   abbrev by : Metres
   by = distance (C G runs)
@@ -111,11 +134,11 @@ module _ (G : Grid) (runs : Runs) (side : Side) (most : zones G side ≤ 32) whe
   after-is k h = ap (λ (m : ℤ). shifted side m (C G runs)) (metres-at G runs side most k h) ∙ shifted-is G runs side (suc k)
 
   tariff-is : (k : ℕ) → k < zones G side → tariffFrom (termsOf Z by M) (sumsAt Z k) ≡ zoneTariff G runs side (suc k)
-  unfolding tariffFrom zoneTariff zonesIn
+  unfolding tariffFrom zoneTariff zonesOn
   tariff-is k h = ap (λ (m : ℤ). tariff m (G .settings .constant) (G .settings .widerFactor)) (after-is k h)
 
   income-is : incomeFrom (termsOf Z by M) Z ≡ overZones G side (zoneTariff G runs side)
-  unfolding incomeFrom overZones zonesIn
+  unfolding incomeFrom overZones zonesOn
   income-is =
       Σ-same (zones G side) _ _ (λ k h. ap₂ (λ (t : ℤ) (w : ℕ). t *ℤ pos w) (tariff-is k h) (pays-at G runs side most k h))
 
@@ -123,26 +146,26 @@ module _ (G : Grid) (runs : Runs) (side : Side) (most : zones G side ≤ 32) whe
   restOf = restFrom (Z .side) (M .p) (M .revenue) (incomeFrom (termsOf Z by M) Z) (localIncome G runs side)
 
   rest-is : restOf ≡ rest G runs side
-  unfolding restFrom rest zonesIn
+  unfolding restFrom rest zonesOn
   rest-is = ap₂ (λ (t i : ℤ). t -ℤ i -ℤ localIncome G runs side) (target-is G side) income-is
 
   line-is : (k : ℕ) → k < zones G side
       → lineFrom (termsOf Z by M) (price (residual G runs side)) (sumsAt Z k) ≡ zoneFigures G runs side (suc k)
-  unfolding lineFrom zoneFigures zoneTotal zonesIn
+  unfolding lineFrom zoneFigures zoneTotal zonesOn
   line-is k h =
       lined (weight-at G runs side most k h) (ap distance (metres-at G runs side most k h)) (ap distance (after-is k h)) (ap price (tariff-is k h))
       (ap (λ (t : ℤ). price (t +ℤ residual G runs side)) (tariff-is k h))
 
-  residual-is : price (residualOf restOf (totalPaying G side)) ≡ price (residual G runs side)
+  residual-is : price (residualOf restOf (Z .over .total .0)) ≡ price (residual G runs side)
   unfolding residual
-  residual-is = ap (λ (z : ℤ). price (residualOf z (totalPaying G side))) rest-is
+  residual-is = ap₂ (λ (z : ℤ) (w : ℕ). price (residualOf z w)) rest-is (total-is G runs side most kf)
 
-  remainder-is : remainderOf restOf (totalPaying G side) ≡ remainder G runs side
+  remainder-is : remainderOf restOf (Z .over .total .0) ≡ remainder G runs side
   unfolding remainder
-  remainder-is = ap (λ (z : ℤ). remainderOf z (totalPaying G side)) rest-is
+  remainder-is = ap₂ remainderOf rest-is (total-is G runs side most kf)
 
   pub side-is : sideFrom Z by M (localIncome G runs side) ≡ sideFigures G runs side
-  unfolding sideFrom sideFigures zonesIn
+  unfolding sideFrom sideFigures zonesOn
   side-is =
       sided refl residual-is remainder-is
       (column-same noLine 32 (zones G side) _ (λ k. zoneFigures G runs side (suc k))
@@ -183,7 +206,7 @@ cased ec ep er em ek = rw (ec, ep, er, em, ek)
 same-side : (s : MoneySettings) {y z : Zones} {b c : Metres} {i j : ℤ} → y ≡ z → b ≡ c → i ≡ j → sideFrom y b s i ≡ sideFrom z c s j
 same-side s ez ec ei = rw (ez, ec, ei)
 
-module _ (G : Grid) (runs : Runs) (g d : SideColumns) (og : SideOf G Generation g) (od : SideOf G Demand d) (most : (side : Side) → zones G side ≤ 32) where
+module _ (G : Grid) (runs : Runs) (g d : SideColumns) (og : SideOf G Generation g) (od : SideOf G Demand d) (most : (side : Side) → zones G side ≤ 32) (kf : KilowattsFit G) where
   abbrev S : MoneySettings
   S = moneyOf (G .settings)
 
@@ -191,14 +214,14 @@ module _ (G : Grid) (runs : Runs) (g d : SideColumns) (og : SideOf G Generation 
   W = potential (runs .wider)
 
   centre-is : cOf g d S W ≡ distance (C G runs)
-  centre-is = ap distance (ap₂ (cFrom (S .p)) (zones-are G runs Generation g og) (zones-are G runs Demand d od) ∙ c-is G runs most)
+  centre-is = ap distance (ap₂ (λ (a b : Zones). cFrom (S .p) (a .over) (b .over)) (zones-are G runs Generation g og) (zones-are G runs Demand d od) ∙ c-is G runs kf most)
 
   pub figures-are : figuresFrom g d S W (potential (runs .local)) ≡ figuresOf G runs
   unfolding figuresFrom figuresOf localIncome
   figures-are =
       cased centre-is
-      (same-side S (zones-are G runs Generation g og) centre-is (local-income-is G runs g og) ∙ side-is G runs Generation (most Generation))
-      (same-side S (zones-are G runs Demand d od) centre-is refl ∙ side-is G runs Demand (most Demand))
+      (same-side S (zones-are G runs Generation g og) centre-is (local-income-is G runs g og) ∙ side-is G runs Generation (most Generation) kf)
+      (same-side S (zones-are G runs Demand d od) centre-is refl ∙ side-is G runs Demand (most Demand) kf)
       (og .nodes)
       (lines-are G runs g og)
 
@@ -206,11 +229,10 @@ module _ (G : Grid) (runs : Runs) (g d : SideColumns) (s : MoneySettings) (o : C
   pub case-is : figuresFrom g d s (potential (runs .wider)) (potential (runs .local)) ≡ figuresOf G runs
   case-is =
       let e = o .money in
-      rw e (figures-are G runs g d (o .generation) (o .demand) (o .zonesMost))
+      rw e (figures-are G runs g d (o .generation) (o .demand) (o .zonesMost) (o .kilowattsFit))
 
-  some-at : (side : Side) → 1 ≤ zonesIn G runs side .total .0
-  unfolding zonesIn
-  some-at side = o .kilowattsFit .all side .least
+  some-at : (side : Side) → 1 ≤ zonesOn G runs side .over .total .0
+  some-at side = rw (total-is G runs side (o .zonesMost side) (o .kilowattsFit)) (o .kilowattsFit .all side .least)
 
   pub case-fits : CaseFits g d s (runs .wider) (runs .local)
   unfolding localMetres
@@ -228,9 +250,9 @@ module _ (G : Grid) (runs : Runs) (g d : SideColumns) (s : MoneySettings) (o : C
         localReached = omega (arith, og .nodes, o .localReached);
         generationZones = subst ZonesFit (sym (zones-are G runs Generation g og)) (zones-fit G runs Generation (o .zonesMost Generation) kf mf);
         demandZones = subst ZonesFit (sym (zones-are G runs Demand d od)) (zones-fit G runs Demand (o .zonesMost Demand) kf mf);
-        someGeneration = subst (λ (z : Zones). 1 ≤ z .total .0) (sym (zones-are G runs Generation g og)) (some-at Generation);
-        someDemand = subst (λ (z : Zones). 1 ≤ z .total .0) (sym (zones-are G runs Demand d od)) (some-at Demand);
-        near = subst (λ (c : Metres). natAbs (c .0) ≤ 10000000) (sym (centre-is G runs g d og od (o .zonesMost))) (mf .centre);
+        someGeneration = subst (λ (z : Zones). 1 ≤ z .over .total .0) (sym (zones-are G runs Generation g og)) (some-at Generation);
+        someDemand = subst (λ (z : Zones). 1 ≤ z .over .total .0) (sym (zones-are G runs Demand d od)) (some-at Demand);
+        near = subst (λ (c : Metres). natAbs (c .0) ≤ 10000000) (sym (centre-is G runs g d og od (o .zonesMost) kf)) (mf .centre);
         settings = o .moneyFits;
         localNear = λ v h. mf .localNode v (omega (arith, og .nodes));
       })

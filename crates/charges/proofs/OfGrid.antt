@@ -11,7 +11,6 @@ use lib.IntN.{ℤ, pos, _*ℤ_}
 use lib.ListN.{length}
 use Rattle.integers.specs.Numbers.{sum, Σ}
 use Rattle.integers.proofs.Sum.{sum-same, Σ-same}
-use Rattle.meaning.specs.declared.Kw.{Kw}
 use Rattle.meaning.specs.declared.Side.{Side}
 use Rattle.meaning.specs.declared.Side.the-variants.{Generation, Demand}
 use Rattle.meaning.specs.Study.{Runs}
@@ -29,7 +28,7 @@ use Rattle.charges.specs.declared.sums.SideColumns.{SideColumns}
 use Rattle.charges.specs.declared.sums.ZoneSums.{ZoneSums}
 use Rattle.charges.specs.declared.zones.Zones.{Zones}
 use Rattle.charges.specs.Sums.{zoneKw, share, sumsFrom, sumsOf, ColumnsFit}
-use Rattle.charges.specs.Zones.{zonesFrom}
+use Rattle.charges.specs.Zones.{overFrom, zonesFrom}
 use Rattle.charges.specs.Case.{SideOf}
 
 -- step 6, by side
@@ -42,26 +41,26 @@ turned-is runs Demand v = refl
 taken : {A : Type 0} {a b : ℕ} {x y : A} (z : ℕ) (none : A) → a ≡ b → x ≡ y → cond (eqb a z) x none ≡ cond (eqb b z) y none
 taken z none p q = ap₂ (λ i x. cond (eqb i z) x none) p q
 
-together : {d e : Side} {a b : ℕ} {w x : List ZoneSums} {t u : Kw} → d ≡ e → a ≡ b → w ≡ x → t ≡ u
-    → _≡_ {A = Zones} (record { side = d; count = a; sums = w; total = t }) (record { side = e; count = b; sums = x; total = u })
-together ed ea ew et = rw (ed, ea, ew, et)
+together : {d e : Side} {a b : ℕ} {w x : List ZoneSums} → d ≡ e → a ≡ b → w ≡ x
+    → _≡_ {A = Zones} (record { side = d; count = a; sums = w; over = overFrom w a }) (record { side = e; count = b; sums = x; over = overFrom x b })
+together ed ea ew = rw (ed, ea, ew)
 
 -- step 7 as meaning has it
-unfoldable pub sumsIn : Grid → Runs → Side → (zone : ℕ) → ZoneSums
-sumsIn G runs side zone =
+unfoldable pub sumsOn : Grid → Runs → Side → (zone : ℕ) → ZoneSums
+sumsOn G runs side zone =
     record {
       weight = kilowatts (zoneWeight G side zone);
       weighed = Σ (length (G .nodes)) (zoneShare G runs side zone);
       paying = kilowatts (zonePaying G side zone);
     }
 
-unfoldable pub zonesIn : Grid → Runs → Side → Zones
-zonesIn G runs side =
+unfoldable pub zonesOn : Grid → Runs → Side → Zones
+zonesOn G runs side =
     record {
       side = side;
       count = zones G side;
-      sums = rows 32 (λ k. sumsIn G runs side (suc k));
-      total = kilowatts (totalPaying G side);
+      sums = rows 32 (λ k. sumsOn G runs side (suc k));
+      over = overFrom (rows 32 (λ k. sumsOn G runs side (suc k))) (zones G side);
     }
 
 module _ (G : Grid) (runs : Runs) (side : Side) (s : SideColumns) (o : SideOf G side s) where
@@ -98,16 +97,15 @@ module _ (G : Grid) (runs : Runs) (side : Side) (s : SideColumns) (o : SideOf G 
   weighed : (zone : ℕ) → Σ (s .nodes) (share (s .side) of (kwAt (s .weight)) wider zone) ≡ Σ n (zoneShare G runs side zone)
   weighed zone = ap (λ (m : ℕ). Σ m (share (s .side) of (kwAt (s .weight)) wider zone)) (o .nodes) ∙ shares zone n (omega arith)
 
-  sums-are : (zone : ℕ) → sumsOf s wider (s .nodes) zone ≡ sumsIn G runs side zone
-  unfolding sumsFrom sumsIn
+  sums-are : (zone : ℕ) → sumsOf s wider (s .nodes) zone ≡ sumsOn G runs side zone
+  unfolding sumsFrom sumsOn
   sums-are zone = rw (weights zone, weighed zone, pays zone)
 
-  pub zones-are : zonesFrom s wider ≡ zonesIn G runs side
-  unfolding zonesFrom zonesIn
+  pub zones-are : zonesFrom s wider ≡ zonesOn G runs side
+  unfolding zonesFrom zonesOn
   zones-are =
       together (o .which) (o .count)
-      (rows-same 32 _ _ (λ k h. sums-are (k + 1) ∙ ap (sumsIn G runs side) (add-one k)))
-      (ap kilowatts total)
+      (rows-same 32 _ _ (λ k h. sums-are (k + 1) ∙ ap (sumsOn G runs side) (add-one k)))
 
   -- sizes
   pub columns-fit : n ≤ 256 → ((v : ℕ) → v < n → InRange (zoneOf G side v) 1 32) → KilowattsFit G → MetresFit G runs → ColumnsFit s wider

@@ -35,13 +35,13 @@ module _ (z : Zones) (c : Metres) (s : MoneySettings) (localIncome : ℤ) (f : S
   rest-within =
       rest-most (z .side) (s .p) (s .revenue) (incomeFrom (termsOf z c s) z) localIncome (f .settings .p) (f .settings .revenue) income-most (f .local)
 
-  pub residual-within : natAbs (residualOf rest (z .total .0)) ≤ 3000000000000000000
+  pub residual-within : natAbs (residualOf rest (z .over .total .0)) ≤ 3000000000000000000
   unfolding residualOf
-  residual-within = le-trans (floor-abs rest (z .total .0)) rest-within
+  residual-within = le-trans (floor-abs rest (z .over .total .0)) rest-within
 
   pub side-made : {residual : MicroPerKw} {remainder : ℤ} {lines : List ZoneFigures}
-      → residual .0 ≡ residualOf rest (z .total .0)
-      → remainder ≡ remainderOf rest (z .total .0)
+      → residual .0 ≡ residualOf rest (z .over .total .0)
+      → remainder ≡ remainderOf rest (z .over .total .0)
       → lines ≡ column noLine 32 (z .count) (λ k. lineFrom (termsOf z c s) residual (sumsAt z k))
       → _≡_ {A = SideFigures} (record { zones = z .count; residual = residual; remainder = remainder; zone = lines }) (sideFrom z c s localIncome)
   unfolding sideFrom

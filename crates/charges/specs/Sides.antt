@@ -43,11 +43,11 @@ module _ (z : Zones) (c : Metres) (s : MoneySettings) where
   unfoldable pub sideFrom : (localIncome : ℤ) → SideFigures
   sideFrom localIncome =
       let rest = restFrom (z .side) (s .p) (s .revenue) (incomeFrom termsOf z) localIncome in
-      let residual = price (residualOf rest (z .total .0)) in
+      let residual = price (residualOf rest (z .over .total .0)) in
       record {
         zones = z .count;
         residual = residual;
-        remainder = remainderOf rest (z .total .0);
+        remainder = remainderOf rest (z .over .total .0);
         zone = column noLine 32 (z .count) (λ k. lineFrom termsOf residual (sumsAt z k));
       }
 
@@ -60,14 +60,14 @@ pub record SettingsFit (s : MoneySettings) : Type 0 where
 
 pub record SideFits (z : Zones) (c : Metres) (s : MoneySettings) (localIncome : ℤ) : Type 0 where
   pub zones : ZonesFit z
-  pub some : 1 ≤ z .total .0
+  pub some : 1 ≤ z .over .total .0
   pub near : natAbs (c .0) ≤ 10000000
   pub settings : SettingsFit s
   pub local : natAbs localIncome ≤ 1000000000000000000
 
 -- step 8, with the zones of both sides
 abbrev pub cOf : (g d : SideColumns) → MoneySettings → (wider : ℕ → ℤ) → Metres
-cOf g d s wider = distance (cFrom (s .p) (zonesFrom g wider) (zonesFrom d wider))
+cOf g d s wider = distance (cFrom (s .p) (zonesFrom g wider .over) (zonesFrom d wider .over))
 
 -- step 10: "node local tariffs times TEC"
 unfoldable pub localIncomeFrom : SideColumns → MoneySettings → (local : ℕ → ℤ) → ℤ
@@ -93,8 +93,8 @@ pub record CaseFits (g d : SideColumns) (s : MoneySettings) (wider local : List 
   pub localReached : g .nodes ≤ length local
   pub generationZones : ZonesFit (zonesFrom g (potential wider))
   pub demandZones : ZonesFit (zonesFrom d (potential wider))
-  pub someGeneration : 1 ≤ zonesFrom g (potential wider) .total .0
-  pub someDemand : 1 ≤ zonesFrom d (potential wider) .total .0
+  pub someGeneration : 1 ≤ zonesFrom g (potential wider) .over .total .0
+  pub someDemand : 1 ≤ zonesFrom d (potential wider) .over .total .0
   pub near : natAbs (cOf g d s (potential wider) .0) ≤ 10000000
   pub settings : SettingsFit s
   pub localNear : (v : ℕ) → v < g .nodes → natAbs (metres (potential local v)) ≤ 10000000

@@ -32,7 +32,7 @@ pub fn figures_of(
     let paying = generation.paying;
     let up = zones_of(generation, wider);
     let down = zones_of(demand, wider);
-    let c = c_of(money.p, up, down);
+    let c = c_of(money.p, up.over, down.over);
     let lines = local_by_node(generation, local, money.local);
     let income = local_income(lines, paying, generation.nodes);
     let of_generation = side_figures(up, c, money, income);

@@ -61,7 +61,7 @@ pub fn side_figures(zones: Zones, c: Metres, money: MoneySettings, local_income:
     ensures { λ r. ⌜ r ≡ sideFrom zones c money «local_income» ⌝ }
 {
     let side = zones.side;
-    let kw = zones.total;
+    let kw = zones.over.total;
     let rate = money.wider;
     let terms = Terms {
         side: side,

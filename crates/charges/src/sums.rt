@@ -5,8 +5,6 @@ ghost use mathlib.Core.Path.{_≡_};
 ghost use Prim.Native.Nat.{ℕ, _+_, _≤_, _<_};
 ghost use lib.IntN.{pos, natAbs, _+ℤ_, _*ℤ_};
 ghost use lib.ListN.{length};
-ghost use Rattle.integers.specs.Numbers.{sum};
-ghost use Rattle.meaning.specs.Columns.{kwAt};
 ghost use Rattle.meaning.specs.Proposal.{potential};
 ghost use Rattle.meaning.specs.Rows.{rows};
 ghost use Rattle.charges.specs.Sums.{withNode, sumsOf, NodeFits, ColumnsFit};
@@ -43,10 +41,13 @@ pub fn with_node(sums: ZoneSums, distance: Metres, weight: Kw, paying: Kw) -> Zo
 {
     let heavy = sums.weight;
     let paid = sums.paying;
+    let weighed = sums.weighed + times(distance, weight);
+    let weighs = heavy.0 + weight.0;
+    let pays = paid.0 + paying.0;
     ZoneSums {
-        weight: Kw(heavy.0 + weight.0),
-        weighed: sums.weighed + times(distance, weight),
-        paying: Kw(paid.0 + paying.0),
+        weight: Kw(weighs),
+        weighed: weighed,
+        paying: Kw(pays),
     }
 }
 
@@ -60,10 +61,11 @@ pub fn sums_by_zone(columns: SideColumns, wider: &[i64]) -> [ZoneSums; 32]
     let zone = columns.zone;
     let weight = columns.weight;
     let paying = columns.paying;
+    let none = Kw(0);
     let nothing = ZoneSums {
-        weight: Kw(0),
+        weight: none,
         weighed: 0,
-        paying: Kw(0),
+        paying: none,
     };
     let mut all = [nothing; 32];
     let mut v = 0;
@@ -74,19 +76,4 @@ pub fn sums_by_zone(columns: SideColumns, wider: &[i64]) -> [ZoneSums; 32]
         v += 1;
     }
     all
-}
-
-// The kilowatts of all nodes.
-pub fn total_kilowatts(kw: [Kw; 256], nodes: usize) -> Kw
-    requires { ⌜ (nodes ≤ 256) × (sum nodes (kwAt kw) ≤ 100000000) ⌝ }
-    ensures { λ r. ⌜ r .0 ≡ sum nodes (kwAt kw) ⌝ }
-{
-    let mut total = 0;
-    let mut v = 0;
-    while v < nodes {
-        let mine = kw[v];
-        total += mine.0;
-        v += 1;
-    }
-    Kw(total)
 }

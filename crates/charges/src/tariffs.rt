@@ -1,14 +1,13 @@
 use crate::sums::ZoneSums;
-use crate::zones::Zones;
+use crate::zones::Over;
 use crate::zones::metres_of;
-use crate::zones::metres_over_zones;
 use meaning::Metres;
 use meaning::MicroPerKw;
 use meaning::Side;
 ghost use mathlib.Core.Path.{_≡_};
 ghost use Prim.Native.Nat.{_≤_};
 ghost use lib.IntN.{natAbs};
-ghost use Rattle.charges.specs.Zones.{metresFrom, cFrom, ZonesFit};
+ghost use Rattle.charges.specs.Zones.{metresFrom, cFrom, OverFits};
 ghost use Rattle.charges.specs.Tariffs.{shifted, priceOf, tariffFrom, RateFits, TermsFit};
 
 // Step 9: what prices a distance: expansion constant and security factor.
@@ -25,16 +24,14 @@ pub struct Terms {
 }
 
 // Step 8: C.
-pub fn c_of(p: u64, generation: Zones, demand: Zones) -> Metres
-    requires { ⌜ (p ≤ 1000) × ZonesFit generation × ZonesFit demand ⌝ }
+pub fn c_of(p: u64, generation: Over, demand: Over) -> Metres
+    requires { ⌜ (p ≤ 1000) × OverFits generation × OverFits demand ⌝ }
     ensures { λ r. ⌜ r .0 ≡ cFrom p generation demand ⌝ }
 {
     let q = 1000 - p;
     let tec = generation.total;
     let load = demand.total;
-    let out = metres_over_zones(demand);
-    let back = metres_over_zones(generation);
-    let above = (q as i64) * out - (p as i64) * back;
+    let above = (q as i64) * demand.metres - (p as i64) * generation.metres;
     let below = p * tec.0 + q * load.0;
     Metres(integers::nearest(above, below))
 }

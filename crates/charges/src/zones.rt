@@ -2,41 +2,29 @@ use crate::sums::SideColumns;
 use crate::sums::ZoneSums;
 use crate::sums::sums_by_zone;
 use crate::sums::times;
-use crate::sums::total_kilowatts;
 use meaning::Kw;
 use meaning::Metres;
 use meaning::Side;
 ghost use mathlib.Core.Path.{_≡_};
 ghost use Prim.Native.Nat.{_≤_};
-ghost use lib.IntN.{pos, natAbs, _*ℤ_};
+ghost use lib.IntN.{natAbs};
 ghost use lib.ListN.{length};
 ghost use Rattle.meaning.specs.Proposal.{potential};
 ghost use Rattle.charges.specs.Sums.{ColumnsFit};
-ghost use Rattle.charges.specs.Zones.{metresFrom, zonesFrom, metresOver, ZonesFit};
+ghost use Rattle.charges.specs.Zones.{metresFrom, withZone, overFrom, zonesFrom, SumsFit, OverFits};
 
-// Step 7 of a side: the sums of each of its zones, and the kilowatts that pay in all.
+// Step 8: over the zones of a side, metres times the kilowatts that pay, and those kilowatts.
+pub struct Over {
+    pub metres: i64,
+    pub total: Kw,
+}
+
+// Steps 7 and 8 of a side: the sums of each of its zones, and what they come to.
 pub struct Zones {
     pub side: Side,
     pub count: usize,
     pub sums: [ZoneSums; 32],
-    pub total: Kw,
-}
-
-// The zones of a side.
-pub fn zones_of(columns: SideColumns, wider: &[i64]) -> Zones
-    requires { ⌜ ColumnsFit columns (potential (now wider)) × (columns .nodes ≤ length (now wider)) ⌝ }
-    ensures { λ r. ⌜ r ≡ zonesFrom columns (potential (now (wider .entry))) ⌝ }
-{
-    let side = columns.side;
-    let paying = columns.paying;
-    let sums = sums_by_zone(columns, wider);
-    let total = total_kilowatts(paying, columns.nodes);
-    Zones {
-        side: side,
-        count: columns.zones,
-        sums: sums,
-        total: total,
-    }
+    pub over: Over,
 }
 
 // Step 7: zonal metres.
@@ -46,26 +34,50 @@ pub fn metres_of(zone: ZoneSums) -> Metres
     steps::average(zone.weighed, zone.weight)
 }
 
-// Step 8: a zone's metres times the kilowatts that pay.
-pub fn metres_times(zone: ZoneSums) -> i64
-    requires { ⌜ (natAbs (metresFrom zone) ≤ 10000000) × (zone .paying .0 ≤ 100000000) ⌝ }
-    ensures { λ r. ⌜ r ≡ metresFrom zone *ℤ pos (zone .paying .0) ⌝ }
+// What zones come to with one zone more.
+pub fn with_zone(over: Over, zone: ZoneSums) -> Over
+    requires { ⌜ OverFits over × (natAbs (metresFrom zone) ≤ 10000000) × (zone .paying .0 ≤ 100000000) ⌝ }
+    ensures { λ r. ⌜ r ≡ withZone over zone ⌝ }
 {
-    times(metres_of(zone), zone.paying)
+    let total = over.total;
+    let paying = zone.paying;
+    let metres = over.metres + times(metres_of(zone), paying);
+    let kw = total.0 + paying.0;
+    Over {
+        metres: metres,
+        total: Kw(kw),
+    }
 }
 
-// Step 8: those of all zones.
-pub fn metres_over_zones(zones: Zones) -> i64
-    requires { ⌜ ZonesFit zones ⌝ }
-    ensures { λ r. ⌜ r ≡ metresOver zones ⌝ }
+// Step 8: what zones 1 to count come to.
+pub fn over_zones(sums: [ZoneSums; 32], count: usize) -> Over
+    requires { ⌜ SumsFit sums count ⌝ }
+    ensures { λ r. ⌜ r ≡ overFrom sums count ⌝ }
 {
-    let sums = zones.sums;
-    let count = zones.count;
-    let mut total: i64 = 0;
+    let mut over = Over {
+        metres: 0,
+        total: Kw(0),
+    };
     let mut k = 0;
     while k < count {
-        total += metres_times(sums[k]);
+        over = with_zone(over, sums[k]);
         k += 1;
     }
-    total
+    over
+}
+
+// The zones of a side.
+pub fn zones_of(columns: SideColumns, wider: &[i64]) -> Zones
+    requires { ⌜ ColumnsFit columns (potential (now wider)) × (columns .nodes ≤ length (now wider)) × SumsFit (zonesFrom columns (potential (now wider)) .sums) (columns .zones) ⌝ }
+    ensures { λ r. ⌜ r ≡ zonesFrom columns (potential (now (wider .entry))) ⌝ }
+{
+    let side = columns.side;
+    let sums = sums_by_zone(columns, wider);
+    let over = over_zones(sums, columns.zones);
+    Zones {
+        side: side,
+        count: columns.zones,
+        sums: sums,
+        over: over,
+    }
 }

@@ -8,6 +8,7 @@ use Rattle.integers.proofs.Machine.{back}
 use Rattle.meaning.specs.Proposal.{potential}
 use Rattle.charges.specs.declared.case.MoneySettings.{MoneySettings}
 use Rattle.charges.specs.declared.sums.SideColumns.{SideColumns}
+use Rattle.charges.specs.Zones.{zonesFrom}
 use Rattle.charges.specs.Sides.{localIncomeFrom}
 use Rattle.charges.proofs.CaseLaws.{lines-near, local-income-is, up-fits, down-fits, generation-fits, demand-fits, case-made}
 use borrow.Author.Needs.{needs}
@@ -31,17 +32,19 @@ module _ (s : tie.Start) where
   local = s .args .local .now
 
 zones-of-requires : tie.Need-zones-of-requires
-zones-of-requires c κs = search needs
+unfolding zonesFrom
+zones-of-requires c κs = let p = c .before .pre in (p .generation, p .generationReached, p .generationZones .sums)
 
 zones-of-requires-2 : tie.Need-zones-of-requires-2
-zones-of-requires-2 c κs = search needs
+unfolding zonesFrom
+zones-of-requires-2 c κs = let p = c .before .before .pre in (p .demand, p .demandReached, p .demandZones .sums)
 
 c-of-requires : tie.Need-c-of-requires
 c-of-requires c κs =
     let s = c .before .before .before in (
       s .pre .settings .p,
-      up-fits (g s) (d s) (money s) (wider s) (local s) (s .pre) (c .before .zones-of .ensures) (c .zones-of2 .ensures),
-      down-fits (g s) (d s) (money s) (wider s) (local s) (s .pre) (c .before .zones-of .ensures) (c .zones-of2 .ensures),
+      up-fits (g s) (d s) (money s) (wider s) (local s) (s .pre) (c .before .zones-of .ensures) (c .zones-of2 .ensures) .over,
+      down-fits (g s) (d s) (money s) (wider s) (local s) (s .pre) (c .before .zones-of .ensures) (c .zones-of2 .ensures) .over,
     )
 
 local-by-node-requires : tie.Need-local-by-node-requires

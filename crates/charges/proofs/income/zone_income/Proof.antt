@@ -42,7 +42,7 @@ zone-worth-requires : tie.Need-zone-worth-requires Inv-loop μ-loop
 zone-worth-requires c κs =
     let l = c .before .before in
     let s = l .before .before in
-    (s .pre .0 .near (l .loop .k) (omega arith), light (s .args .zones) (s .pre .0) (l .loop .k) (omega arith), s .pre .1)
+    (s .pre .0 .sums .near (l .loop .k) (omega arith), light (s .args .zones .sums) (s .args .zones .count) (s .pre .0 .sums) (l .loop .k) (omega arith), s .pre .1)
 
 -- the sum so far, and with this zone
 module _ (c : tie.After-zone-worth Inv-loop μ-loop) where

@@ -54,12 +54,12 @@ remainder-of-requires c κs =
     let a = s .args in (
       subst (λ (x : ℤ). natAbs x ≤ 3000000000000000000) (sym (left (c .before))) (rest-within (a .zones) (a .c) (a .money) (a .local-income) (s .pre)),
       s .pre .some,
-      s .pre .zones .total,
+      s .pre .zones .over .total,
     )
 
 -- the residual
 floored : (c : tie.After-residual)
-    → (let s = c .before .before .before .before .before in c .residual .result .0 ≡ residualOf (rest s) (s .args .zones .total .0))
+    → (let s = c .before .before .before .before .before in c .residual .result .0 ≡ residualOf (rest s) (s .args .zones .over .total .0))
 floored c = simp left at (c .residual .ensures)
 
 zone-lines-requires : tie.Need-zone-lines-requires

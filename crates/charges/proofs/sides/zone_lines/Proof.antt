@@ -40,7 +40,7 @@ zone-line-requires : tie.Need-zone-line-requires Inv-loop μ-loop
 zone-line-requires c κs =
     let l = c .before .before in
     let p = l .before .before .before .pre in
-    (p .0 .near (l .loop .k) (omega arith), p .1, p .2)
+    (p .0 .sums .near (l .loop .k) (omega arith), p .1, p .2)
 
 mul-all : tie.Need-mul-all Inv-loop μ-loop
 mul-all c = omega arith

@@ -3,7 +3,6 @@ use mathlib.Core.Path.{_≡_, _∙_}
 use borrow.Author.Needs.{needs}
 use native.Mathlib.Omega.{arith}
 use lib.IntN.{ℤ, pos, _+ℤ_, _*ℤ_}
-use mir.Facts.{toZ-ofZ}
 use mir.Syntax.{w64}
 use mir.Val.{SFits, toZ, ofZ}
 use Rattle.integers.proofs.Laws.{abs-add, abs-mul-le}
@@ -28,29 +27,27 @@ module _ (s : tie.Start) where
       abs-fits (old +ℤ more)
       (omega (arith, abs-add old more, s .pre .weighed, abs-mul-le (s .args .distance .0) (pos (s .args .weight .0)) (s .pre .near) (s .pre .weighs)))
 
-product : (c : tie.After-times) → toZ w64 (ofZ w64 (c .times .result)) ≡ more (c .before .before .before .before .before)
-product c = back _ (c .times .ok) ∙ c .times .ensures
+  bw : Back (old +ℤ more)
+  bw = fit-back fits
 
-add-t7 : tie.Need-add-t7
-add-t7 c = search needs
+product : (c : tie.After-times) → toZ w64 (ofZ w64 (c .times .result)) ≡ more (c .before .before .before)
+product c = back _ (c .times .ok) ∙ c .times .ensures
 
 times-requires : tie.Need-times-requires
 times-requires c κs = search needs
 
-add-t10 : tie.Need-add-t10
-add-t10 c = simp (bo, product) (fits (c .before .before .before .before .before .before .before))
+add-weighed : tie.Need-add-weighed
+add-weighed c = simp (bo, product) (fits (c .before .before .before .before .before))
 
-whole : (c : tie.After-struct-told)
-    → (let s = c .before .before .before .before .before .before .before in
-    toZ w64 (ofZ w64 (toZ w64 (ofZ w64 (old s)) +ℤ toZ w64 (ofZ w64 (c .before .before .times .result)))) ≡ old s +ℤ more s)
-whole c = toZ-ofZ (add-t10 c) ∙ simp (bo, product)
+add-weighs : tie.Need-add-weighs
+add-weighs c = search needs
 
-add-t11 : tie.Need-add-t11
-add-t11 c = search needs
+add-pays : tie.Need-add-pays
+add-pays c = search needs
 
 returns : tie.Need-returns
 unfolding withNode
-returns c = rw (whole (c .before .before))
+returns c = simp (bo, product, bw)
 
 pub with-node-spec : {M : Type 1} → statement M
-with-node-spec = tie.close (tie.spec add-t7 times-requires add-t10 add-t11 returns)
+with-node-spec = tie.close (tie.spec times-requires add-weighed add-weighs add-pays returns)
