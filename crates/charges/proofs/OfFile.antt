@@ -18,13 +18,14 @@ use Rattle.meaning.proofs.Rows.{rows-at}
 use Rattle.meaning.proofs.Starts as starts
 use Rattle.sizes.proofs.Accepted.{solved-in-range}
 use Rattle.claims.proofs.Accepted.{judged-pass}
-use Rattle.columns.specs.declared.RowCounts.{RowCounts}
+use Rattle.layout.specs.declared.RowCounts.{RowCounts}
 use Rattle.columns.specs.declared.NodeColumns.{NodeColumns}
 use Rattle.columns.specs.declared.TecColumns.{TecColumns}
-use Rattle.columns.specs.Readable.{readable}
-use Rattle.columns.specs.Columns.{countsOf, settingsIn, nodesOf}
+use Rattle.layout.specs.Readable.{readable}
+use Rattle.layout.specs.Frame.{countsOf, settingsIn}
+use Rattle.columns.specs.Columns.{nodesOf}
 use Rattle.columns.specs.Tec.{tecOf}
-use Rattle.columns.proofs.Rows.{readable-whole}
+use Rattle.layout.proofs.Rows.{readable-whole}
 use Rattle.tables.specs.declared.Opened.{Opened}
 use Rattle.tables.proofs.Sound.{passes-whole}
 use Rattle.proposal.specs.Judges.{Judges}

@@ -14,8 +14,7 @@ use Rattle.meaning.specs.Columns.{numberAt, kwAt}
 use Rattle.meaning.specs.Conditions.{InRange}
 use Rattle.meaning.specs.Figures.{metres}
 use Rattle.meaning.specs.Rows.{rows}
-use Rattle.meaning.proofs.Rows.{rows-at}
-use Rattle.columns.proofs.ColumnLaws.{rows-set, rows-none}
+use Rattle.meaning.proofs.Rows.{rows-at, rows-set, rows-none}
 use Rattle.steps.specs.Steps.{turned}
 use Rattle.charges.specs.declared.sums.SideColumns.{SideColumns}
 use Rattle.charges.specs.declared.sums.ZoneSums.{ZoneSums}

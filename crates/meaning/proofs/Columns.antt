@@ -4,13 +4,13 @@ use mathlib.Core.Bool.{cond}
 use mathlib.Core.Logic.{_≢_}
 use mathlib.Core.List.{List}
 use Prim.Native.Nat.{ℕ, _+_, _≤_, _<_}
-use native.Mathlib.Decide.{ℕ-discrete, decLt}
+use native.Mathlib.Decide.{decLt}
 use native.Mathlib.Omega.{arith}
 use borrow.Author.Tests.{lt-ltb, le-ltb}
 use lib.Dec.{ltb}
-use lib.ListN.{length, getD, set, length-set, replicate, length-replicate, getD-replicate}
-use lib.Seq.{getD-set-same, getD-set-other, ext-getD}
-use Rattle.meaning.proofs.Rows.{rows-at, rows-same, length-rows}
+use lib.ListN.{length, getD, set, replicate, List·getD-eq-default}
+use Rattle.meaning.proofs.Rows.{rows-at, rows-same, rows-set, rows-none, length-rows}
+use Rattle.meaning.specs.Rows.{rows}
 use Rattle.meaning.specs.Columns.{column}
 
 module _ {A : Type 0} (nothing : A) (size : ℕ) (f : ℕ → A) where
@@ -28,30 +28,25 @@ module _ {A : Type 0} (nothing : A) (size : ℕ) (f : ℕ → A) where
 
   -- the array as it is made
   pub column-none : column nothing size 0 f ≡ replicate size nothing
-  column-none =
-      ext-getD nothing (column nothing size 0 f) (replicate size nothing) (column-length 0 ∙ sym (length-replicate size nothing))
-      (λ i h. let l : i < size = omega (arith, column-length 0) in column-past nothing 0 i (omega arith) l ∙ sym (getD-replicate size i nothing nothing l))
+  unfolding column
+  column-none = sym (rows-none size _ nothing (λ i h. simp (le-ltb i 0 (omega arith))))
 
   -- one more turn
   pub column-more : (i : ℕ) → i < size → set (column nothing size i f) i (f i) ≡ column nothing size (i + 1) f
-  column-more i h =
-      ext-getD nothing _ _ (length-set (column nothing size i f) i (f i) ∙ column-length i ∙ sym (column-length (i + 1)))
-      (λ k l. one k (omega (arith, length-set (column nothing size i f) i (f i), column-length i)) (ℕ-discrete k i))
+  unfolding column
+  column-more i h = rows-set size _ _ i (f i) h (simp (lt-ltb i (i + 1) (omega arith))) (λ j l d. other j d (decLt j i))
     where
-      before : (k : ℕ) → k < size → Dec (k < i) → k ≢ i → getD (column nothing size i f) k nothing ≡ getD (column nothing size (i + 1) f) k nothing
-      before k l (yes b) ne = column-at nothing i k b l ∙ sym (column-at nothing (i + 1) k (omega arith) l)
-      before k l (no b) ne = column-past nothing i k (omega arith) l ∙ sym (column-past nothing (i + 1) k (omega arith) l)
-
-      one : (k : ℕ) → k < size → Dec (k ≡ i) → getD (set (column nothing size i f) i (f i)) k nothing ≡ getD (column nothing size (i + 1) f) k nothing
-      one k l (yes e) =
-          rw e
-          (getD-set-same (column nothing size i f) i (f i) nothing (omega (arith, column-length i))
-          ∙ sym (column-at nothing (i + 1) i (omega arith) h))
-      one k l (no ne) = getD-set-other (column nothing size i f) i k (f i) nothing ne ∙ before k l (decLt k i) ne
+      other : (j : ℕ) → j ≢ i → Dec (j < i) → cond (ltb j i) (f j) nothing ≡ cond (ltb j (i + 1)) (f j) nothing
+      other j d (yes l) = simp (lt-ltb j i l, lt-ltb j (i + 1) (omega arith))
+      other j d (no l) = simp (le-ltb j i (omega arith), le-ltb j (i + 1) (omega arith))
 
   -- the same as a loop has it: what was made in this turn is set
   pub column-turn : {all : List A} {r : A} (i : ℕ) → i < size → all ≡ column nothing size i f → r ≡ f i → set all i r ≡ column nothing size (i + 1) f
   column-turn i h e q = rw (e, q) (column-more i h)
+
+  -- the loop is over
+  pub column-done : {all : List A} (count i : ℕ) → all ≡ column nothing size i f → i ≤ count → count ≤ i → all ≡ column nothing size count f
+  column-done count i e h l = let q : i ≡ count = omega arith in rw q at e
 
 -- columns of equal numbers
 pub column-same : {A : Type 0} (nothing : A) (size count : ℕ) (f g : ℕ → A) → ((i : ℕ) → i < count → f i ≡ g i)
@@ -62,3 +57,16 @@ column-same nothing size count f g h = rows-same size _ _ (λ i l. one i (decLt 
     one : (i : ℕ) → Dec (i < count) → cond (ltb i count) (f i) nothing ≡ cond (ltb i count) (g i) nothing
     one i (yes l) = simp (lt-ltb i count l) (h i l)
     one i (no l) = simp (le-ltb i count (omega arith))
+
+-- a field of a table's rows, past the end of the table too
+pub column-table : {A B : Type 0} (field : A → B) (none : A) (table : List A) (size : ℕ) (f : ℕ → B)
+    → ((i : ℕ) → i < length table → f i ≡ field (getD table i none))
+    → column (field none) size (length table) f ≡ rows size (λ i. field (getD table i none))
+unfolding column
+column-table field none table size f h = rows-same size _ _ (λ i l. one i (decLt i (length table)))
+  where
+    one : (i : ℕ) → Dec (i < length table) → cond (ltb i (length table)) (f i) (field none) ≡ field (getD table i none)
+    one i (yes l) = simp (lt-ltb i (length table) l) (h i l)
+    one i (no l) =
+        let h : length table ≤ i = omega arith in
+        simp (le-ltb i (length table) h, List·getD-eq-default table none h)

@@ -12,5 +12,4 @@ pub mod Write
 pub mod Opened
 pub mod Starred
 pub mod Kiln
-pub mod Damaged
 pub mod Small

@@ -20,7 +20,7 @@ fn refused(answer: Answer) -> Printed
     ensures { λ r. ⌜ Prints (refusedLine answer) r ⌝ }
 {
     let mut bytes = [0u8; 16384];
-    let length = sheet::refuse(answer, &mut bytes);
+    let length = text::refuse(answer, &mut bytes);
     Printed { length, bytes }
 }
 
@@ -57,7 +57,7 @@ fn of_whole_file(file: &[u8]) -> Printed
 pub fn print(input: &[u8]) -> Printed
     ensures { λ r. ⌜ Prints (prints (now (input .entry))) r ⌝ }
 {
-    if columns::whole(input) {
+    if layout::whole(input) {
         return of_whole_file(input);
     }
     refused(Answer::BadFile)

@@ -13,14 +13,15 @@ use Rattle.meaning.specs.Grid.{gridOf, nodeTec, nodeDemand, totalTec, totalDema
 use Rattle.meaning.specs.Direction.{expandedLength}
 use Rattle.meaning.specs.Conditions.{SoundSettings, SoundTables}
 use Rattle.meaning.proofs.Says.{says-le, _also_}
-use Rattle.columns.specs.declared.RowCounts.{RowCounts}
-use Rattle.columns.specs.declared.StudySettings.{StudySettings}
+use Rattle.layout.specs.declared.RowCounts.{RowCounts}
+use Rattle.layout.specs.declared.StudySettings.{StudySettings}
 use Rattle.columns.specs.declared.NodeColumns.{NodeColumns}
 use Rattle.columns.specs.declared.CircuitColumns.{CircuitColumns}
 use Rattle.columns.specs.Lengths.{lengthInRange, lengthIfInRange}
-use Rattle.columns.specs.Columns.{countsOf, settingsIn, nodesOf, circuitsOf}
+use Rattle.layout.specs.Frame.{countsOf, settingsIn}
+use Rattle.columns.specs.Columns.{nodesOf, circuitsOf}
 use Rattle.proposal.specs.Columns.{Filled}
-use Rattle.proposal.specs.Supplies.{kilowatts, kwAt}
+use Rattle.meaning.specs.Columns.{kilowatts, kwAt}
 use Rattle.proposal.specs.Case.{caseOf, Countable}
 use Rattle.proposal.proofs.Filled.{filled-as}
 use Rattle.proposal.proofs.Told.{Told, kw-at, filled-rows, overhead-in, cable-in}

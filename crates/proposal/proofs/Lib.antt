@@ -1,7 +1,5 @@
 pub mod Sizes
-pub mod Found
 pub mod Filled
-pub mod Numbers
 pub mod Net
 pub mod MissSum
 pub mod Stages

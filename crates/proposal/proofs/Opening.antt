@@ -18,7 +18,7 @@ use Rattle.columns.specs.Tec.{tecOf}
 use Rattle.tables.specs.declared.Opened.{Opened}
 use Rattle.tables.specs.Opens.{Opens}
 use Rattle.tables.proofs.Sound.{SoundOpened, opened-sound}
-use Rattle.proposal.specs.declared.solution.Case.{Case}
+use Rattle.proposal.specs.declared.case.Case.{Case}
 use Rattle.proposal.specs.Case.{caseOf, proposalsIn, Countable, Judgeable}
 use Rattle.proposal.specs.Judges.{Judges}
 use Rattle.proposal.proofs.Told.{Told, proposals-told}

@@ -11,7 +11,8 @@ use Rattle.integers.proofs.Sum.{sum-le, sum-part, sum-item, sum-more, sum-bound
 use Rattle.meaning.specs.declared.Kw.{Kw}
 use Rattle.meaning.specs.Scaled.{wholeShare, leftOver, missing, scaled}
 use Rattle.meaning.proofs.Shares.{scaled-sum}
-use Rattle.proposal.specs.Supplies.{kwAt, Scalable}
+use Rattle.meaning.specs.Columns.{kwAt}
+use Rattle.proposal.specs.Supplies.{Scalable}
 
 pub product-small : (tec demand : ℕ) → tec ≤ 100000000 → demand ≤ 100000000 → tec * demand ≤ 10000000000000000
 product-small tec demand h k = mul-le-mul h k

@@ -12,10 +12,11 @@ use Rattle.meaning.specs.Grid.{gridOf, nodeTec}
 use Rattle.meaning.specs.Conditions.{SoundTables}
 use Rattle.meaning.proofs.Tables.{placed-at}
 use Rattle.sizes.proofs.Scaling.{systems-fit}
-use Rattle.proposal.specs.declared.solution.Case.{Case}
+use Rattle.proposal.specs.declared.case.Case.{Case}
 use Rattle.proposal.specs.Columns.{Shaped, Ended}
 use Rattle.proposal.specs.Offsets.{Lengths}
-use Rattle.proposal.specs.Supplies.{kwAt, Scalable, Demands}
+use Rattle.meaning.specs.Columns.{kwAt}
+use Rattle.proposal.specs.Supplies.{Scalable, Demands}
 use Rattle.proposal.specs.Case.{Judgeable}
 use Rattle.proposal.proofs.Told.{Told, kw-at}
 
@@ -34,16 +35,12 @@ module _ (S : Study) (k : Case) (t : Told (gridOf S) k) (sound : SoundTables S) 
   ended : Ended (k .nodes) (k .circuits) (k .first) (k .second)
   unfolding gridOf
   ended = record {
-    firstLong = omega (arith, circuits-in, t .first .long);
-    secondLong = omega (arith, circuits-in, t .second .long);
     firstIn = λ c h. omega (arith, nodes-in, t .first .at c h, placed-at S _ (sound .circuits c (omega (arith, circuits-in)) .first));
     secondIn = λ c h. omega (arith, nodes-in, t .second .at c h, placed-at S _ (sound .circuits c (omega (arith, circuits-in)) .second));
   }
 
-  lengths : (runs : Runs) → Lengths (k .circuits) (k .length) (k .mark)
+  lengths : (runs : Runs) → Lengths (k .circuits) (k .length)
   lengths runs = record {
-    lengthsLong = omega (arith, circuits-in, t .lengths .long);
-    marksLong = omega (arith, circuits-in, t .marks .long);
     lengthSmall = λ c h. omega (arith, t .lengths .at c h, systems-fit S sound runs .expanded c (omega (arith, t .circuits)));
   }
 

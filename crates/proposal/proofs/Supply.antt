@@ -12,7 +12,8 @@ use Rattle.meaning.specs.declared.Kw.{Kw}
 use Rattle.meaning.specs.declared.System.{System}
 use Rattle.meaning.specs.declared.System.the-variants.{Base, Wider, Local}
 use Rattle.proposal.specs.Columns.{Filled}
-use Rattle.proposal.specs.Supplies.{kwAt, scaledBy, netSupply, supplyAt}
+use Rattle.meaning.specs.Columns.{kwAt}
+use Rattle.proposal.specs.Supplies.{scaledBy, netSupply, supplyAt}
 
 pub net-fits : (a d : ℕ) → a ≤ 100000000 → d ≤ 100000000 → SFits w64 (pos a -ℤ pos d)
 net-fits a d = simp Z (omega arith)

@@ -26,10 +26,11 @@ use Rattle.meaning.specs.Systems.{runOf, net, supply, lengthOf, offset, propose
 use Rattle.meaning.specs.Conditions.{InRange, SoundSettings}
 use Rattle.meaning.proofs.Rows.{rows-at, length-rows}
 use Rattle.columns.proofs.PlaceLaws.{lowest-same}
-use Rattle.proposal.specs.declared.solution.Case.{Case}
+use Rattle.proposal.specs.declared.case.Case.{Case}
 use Rattle.proposal.specs.Columns.{Filled}
 use Rattle.proposal.specs.Offsets.{offsetIn, offsetAt, clearBy}
-use Rattle.proposal.specs.Supplies.{kilowatts, kwAt, supplyAt}
+use Rattle.meaning.specs.Columns.{kilowatts, kwAt}
+use Rattle.proposal.specs.Supplies.{supplyAt}
 use Rattle.proposal.specs.Case.{netIn, offeredIn, solutionIn, doubtIn, proposalsIn}
 use Rattle.proposal.proofs.Same.{system-alike}
 

@@ -4,8 +4,8 @@ use Prim.Native.Nat.{ℕ, _-_, _≤_, _<_}
 use lib.IntN.{ℤ}
 use lib.ListN.{length, getD}
 use Rattle.integers.specs.Numbers.{sum}
-use Rattle.columns.specs.declared.RowCounts.{RowCounts}
-use Rattle.columns.specs.declared.StudySettings.{StudySettings}
+use Rattle.layout.specs.declared.RowCounts.{RowCounts}
+use Rattle.layout.specs.declared.StudySettings.{StudySettings}
 use Rattle.columns.specs.declared.NodeColumns.{NodeColumns}
 use Rattle.columns.specs.declared.CircuitColumns.{CircuitColumns}
 use Rattle.meaning.specs.declared.Kw.{Kw}
@@ -15,13 +15,14 @@ use Rattle.meaning.specs.declared.Answer.{Answer}
 use Rattle.meaning.specs.declared.Answer.the-variants.{DirectionInDoubt}
 use Rattle.meaning.specs.Answers.{_orElse_, at}
 use Rattle.meaning.specs.Rows.{failing}
+use Rattle.meaning.specs.Columns.{kilowatts, kwAt}
 use Rattle.meaning.specs.Network.{Network}
 use Rattle.meaning.specs.Proposal.{Proposed, systemStage}
 use Rattle.meaning.specs.Systems.{limitOf}
-use Rattle.proposal.specs.declared.solution.Case.{Case}
-use Rattle.proposal.specs.Columns.{netOf, Shaped, Ended}
+use Rattle.proposal.specs.declared.case.Case.{Case}
+use Rattle.proposal.specs.Columns.{number, netOf, Shaped, Ended, Measured}
 use Rattle.proposal.specs.Offsets.{offsetAt, clearBy, Lengths}
-use Rattle.proposal.specs.Supplies.{kilowatts, kwAt, supplyAt, Scalable, Demands}
+use Rattle.proposal.specs.Supplies.{supplyAt, Scalable, Demands}
 
 -- the case of a file's columns: the reference counted from 0, and the totals of step 1
 unfoldable pub caseOf : RowCounts → StudySettings → NodeColumns → CircuitColumns → (scaling : List Kw) → Case
@@ -52,6 +53,23 @@ pub record Countable (rows : RowCounts) (settings : StudySettings) (nodes : Node
 abbrev pub netIn : Case → Network
 netIn k = netOf (k .nodes) (k .circuits) (k .reference) (k .first) (k .second) (k .x)
 
+-- what is proposed for a system, supply and offset in columns
+abbrev pub proposedIn : System → (supply offset run : List ℤ) → Proposed
+proposedIn system supply offset run =
+    record {
+      system = system;
+      limit = limitOf system;
+      supply = number supply;
+      offset = number offset;
+      run = run;
+    }
+
+-- what the judge of a system asks of a case; the run's numbers, the supplies and the reference are any
+pub record Ready (k : Case) (offset run : List ℤ) : Type 0 where
+  pub shaped : Shaped (k .nodes) (k .circuits) run
+  pub ended : Ended (k .nodes) (k .circuits) (k .first) (k .second)
+  pub measured : Measured (k .circuits) (k .x) offset
+
 -- what is proposed for a system, by its run and the base run
 abbrev pub offeredIn : System → Case → (base run : List ℤ) → Proposed
 offeredIn system k base run =
@@ -80,7 +98,7 @@ pub record Judgeable (k : Case) (base run : List ℤ) : Type 0 where
   pub based : Shaped (k .nodes) (k .circuits) base
   pub shaped : Shaped (k .nodes) (k .circuits) run
   pub ended : Ended (k .nodes) (k .circuits) (k .first) (k .second)
-  pub lengths : Lengths (k .circuits) (k .length) (k .mark)
+  pub lengths : Lengths (k .circuits) (k .length)
   pub xSmall : (c : ℕ) → c < k .circuits → getD (k .x) c 0 ≤ 10000
   pub scalable : Scalable (k .nodes) (k .tec) (k .«total_demand») (k .«total_tec»)
   pub demands : Demands (k .nodes) (k .demand)

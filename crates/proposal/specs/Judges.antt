@@ -5,8 +5,9 @@ use Prim.Native.Nat.{ℕ}
 use lib.IntN.{ℤ}
 use Rattle.meaning.specs.Study.{Runs}
 use Rattle.meaning.specs.Outcome.{judged}
-use Rattle.columns.specs.Readable.{readable}
-use Rattle.columns.specs.Columns.{countsOf, settingsIn, nodesOf, circuitsOf}
+use Rattle.layout.specs.Readable.{readable}
+use Rattle.layout.specs.Frame.{countsOf, settingsIn}
+use Rattle.columns.specs.Columns.{nodesOf, circuitsOf}
 use Rattle.columns.specs.Tec.{tecOf}
 use Rattle.tables.specs.declared.Opened.{Opened}
 

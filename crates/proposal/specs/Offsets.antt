@@ -4,7 +4,7 @@ use mathlib.Core.List.{List}
 use Prim.Native.Nat.{ℕ, _+_, _*_, _≤_, _<_}
 use lib.Dec.{eqb, leb}
 use lib.IntN.{ℤ, pos}
-use lib.ListN.{length, getD}
+use lib.ListN.{getD}
 use Rattle.meaning.specs.declared.System.{System}
 use Rattle.meaning.specs.declared.System.the-variants.{Base, Wider, Local}
 use Rattle.meaning.specs.Direction.{direction, inDoubt, signed}
@@ -24,10 +24,8 @@ offsetIn Local length mark flow = cond (eqb mark 0) (pos 0) (signedBy length flo
 unfoldable pub clearBy : (n : ℕ) (lengths : List ℕ) (base : List ℤ) → ℕ → Bool
 clearBy n lengths base c = not (leb 1 (getD lengths c 0)) || not (inDoubt (direction (number base (n + c))))
 
--- the expanded lengths of m circuits, up to 3 x 10^10 mm, and their marks
-pub record Lengths (m : ℕ) (lengths marks : List ℕ) : Type 0 where
-  pub lengthsLong : m ≤ length lengths
-  pub marksLong : m ≤ length marks
+-- the expanded lengths of m circuits, up to 3 x 10^10 mm
+pub record Lengths (m : ℕ) (lengths : List ℕ) : Type 0 where
   pub lengthSmall : (c : ℕ) → c < m → getD lengths c 0 ≤ 30000000000
 
 -- the offset of circuit c in a system

@@ -3,19 +3,12 @@ use mathlib.Core.Path.{_≡_}
 use mathlib.Core.List.{List}
 use Prim.Native.Nat.{ℕ, _≤_, _<_}
 use lib.IntN.{ℤ, pos, _-ℤ_, _*ℤ_}
-use lib.ListN.{getD}
 use Rattle.integers.specs.Numbers.{sum}
 use Rattle.meaning.specs.declared.Kw.{Kw}
 use Rattle.meaning.specs.declared.System.{System}
 use Rattle.meaning.specs.declared.System.the-variants.{Base, Wider, Local}
+use Rattle.meaning.specs.Columns.{kwAt}
 use Rattle.meaning.specs.Scaled.{scaled}
-
--- 01, Quantities: a number as kilowatts; kilowatts of row i of a column
-abbrev pub kilowatts : ℕ → Kw
-kilowatts n = record { 0 = n }
-
-abbrev pub kwAt : List Kw → ℕ → ℕ
-kwAt column i = getD column i (kilowatts 0) .0
 
 -- what 7 has passed: the TEC of n nodes, its total, and the total demand
 pub record Scalable (n : ℕ) (tec : List Kw) (demand total : Kw) : Type 0 where

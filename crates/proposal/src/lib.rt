@@ -1,11 +1,11 @@
 // A case judged: refusals 1 to 11 of document 01, in its order. Proposed solutions are judged once over supply and offset.
 mod balance;
+mod case;
 mod direction;
 mod kernel;
 mod misses;
 mod offsets;
 mod order;
-mod range;
 mod scaled;
 mod solution;
 mod supplies;
@@ -31,7 +31,7 @@ pub fn open(file: &[u8], base: &[i64], wider: &[i64], local: &[i64]) -> Opened
     let circuits = read.circuits;
     let tec = read.tec;
     let scaling = tec.scaling;
-    let k = solution::case_of(counts, settings, nodes, circuits, scaling);
+    let k = case::case_of(counts, settings, nodes, circuits, scaling);
     Opened {
         answer: order::proposals(k, base, wider, local),
         counts: counts,
@@ -46,7 +46,5 @@ pub fn open(file: &[u8], base: &[i64], wider: &[i64], local: &[i64]) -> Opened
 pub fn judge(file: &[u8], base: &[i64], wider: &[i64], local: &[i64]) -> Answer
     ensures { λ r. ⌜ r ≡ judged (now (file .entry)) (runsOf (now (base .entry)) (now (wider .entry)) (now (local .entry))) ⌝ }
 {
-    let opened = open(file, base, wider, local);
-    let answer = opened.answer;
-    answer
+    open(file, base, wider, local).answer
 }

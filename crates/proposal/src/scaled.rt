@@ -6,8 +6,9 @@ ghost use Prim.Native.Nat.{_+_, _*_, _/_, _%_, _≤_};
 ghost use lib.Dec.{eqb, ltb};
 ghost use Rattle.integers.specs.Numbers.{sum};
 ghost use Rattle.meaning.specs.Scaled.{missing};
+ghost use Rattle.meaning.specs.Columns.{kilowatts, kwAt};
 ghost use Rattle.proposal.specs.Columns.{Filled};
-ghost use Rattle.proposal.specs.Supplies.{kilowatts, kwAt, scaledBy, Scalable};
+ghost use Rattle.proposal.specs.Supplies.{scaledBy, Scalable};
 
 // The total of a column of kilowatts.
 pub fn total_of(n: usize, column: [Kw; 256]) -> Kw

@@ -1,4 +1,5 @@
 // 01, steps 3 and 5: the supply of each node in a system.
+use crate::case::Case;
 use crate::scaled;
 use meaning::Kw;
 use meaning::System;
@@ -17,40 +18,29 @@ pub fn net_supply(scaled: Kw, demand: Kw) -> i64
 }
 
 // The supply of each node in the base system.
-pub fn base_supplies(
-    n: usize,
-    tec: [Kw; 256],
-    demands: [Kw; 256],
-    demand: Kw,
-    total: Kw,
-) -> [i64; 256]
-    requires { ⌜ Scalable n tec demand total × Demands n demands ⌝ }
-    ensures { λ r. ⌜ Filled (pos 0) 256 (supplyAt System.Base n tec demands demand) n r ⌝ }
+pub fn base_supplies(k: Case) -> [i64; 256]
+    requires { ⌜ Scalable (k .nodes) (k .tec) (k .«total_demand») (k .«total_tec») × Demands (k .nodes) (k .demand) ⌝ }
+    ensures { λ r. ⌜ Filled (pos 0) 256 (supplyAt System.Base (k .nodes) (k .tec) (k .demand) (k .«total_demand»)) (k .nodes) r ⌝ }
 {
-    let generation = scaled::scaled(n, tec, demand, total);
+    let n = k.nodes;
+    let tec = k.tec;
+    let generation = scaled::scaled(n, tec, k.total_demand, k.total_tec);
     let mut supply = [0i64; 256];
     let mut v: usize = 0;
     while v < n {
-        supply[v] = net_supply(generation[v], demands[v]);
+        supply[v] = net_supply(generation[v], k.demand[v]);
         v += 1;
     }
     supply
 }
 
 // The supply of each node in a system: nothing but in the base.
-pub fn supplies(
-    system: System,
-    n: usize,
-    tec: [Kw; 256],
-    demands: [Kw; 256],
-    demand: Kw,
-    total: Kw,
-) -> [i64; 256]
-    requires { ⌜ Scalable n tec demand total × Demands n demands ⌝ }
-    ensures { λ r. ⌜ Filled (pos 0) 256 (supplyAt system n tec demands demand) n r ⌝ }
+pub fn supplies(system: System, k: Case) -> [i64; 256]
+    requires { ⌜ Scalable (k .nodes) (k .tec) (k .«total_demand») (k .«total_tec») × Demands (k .nodes) (k .demand) ⌝ }
+    ensures { λ r. ⌜ Filled (pos 0) 256 (supplyAt system (k .nodes) (k .tec) (k .demand) (k .«total_demand»)) (k .nodes) r ⌝ }
 {
     match system {
-        System::Base => base_supplies(n, tec, demands, demand, total),
+        System::Base => base_supplies(k),
         System::Wider => [0i64; 256],
         System::Local => [0i64; 256],
     }

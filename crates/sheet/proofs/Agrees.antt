@@ -16,9 +16,6 @@ use Rattle.meaning.proofs.Rows.{rows-at}
 use Rattle.meaning.specs.Grid.{Grid, nodeTec}
 use Rattle.meaning.specs.Figures.{zones, zoneWeight, zonalMetres, C, afterC, zoneTariff, residual, zoneTotal, localMetres, localTariff, remainder}
 use Rattle.meaning.specs.Sheet.{letter, zoneLine, zoneLines, localLine, sheet}
-use Rattle.meaning.specs.Answers.{values}
-use Rattle.meaning.specs.Outcome.{refusedLine}
-use Rattle.meaning.specs.declared.Answer.{Answer}
 use Rattle.meaning.specs.declared.Side.{Side}
 use Rattle.meaning.specs.declared.Side.the-variants.{Generation, Demand}
 use Rattle.meaning.specs.declared.MicroPerKw.{MicroPerKw}
@@ -27,9 +24,9 @@ use Rattle.meaning.specs.declared.SideFigures.{SideFigures}
 use Rattle.meaning.specs.declared.LocalFigures.{LocalFigures}
 use Rattle.meaning.specs.declared.Figures.{Figures}
 use Rattle.meaning.specs.Columns.{noLine, noLocal}
-use Rattle.sheet.specs.SheetText.{zoneText, emptyZone, fullZone, zoneTexts, localText, fullNode, localTexts, constantText, remainderText, sheetText, nameOf, refusedText}
-use Rattle.sheet.proofs.Joined.{joined-same}
-use Rattle.sheet.proofs.Lined.{zone-empty, zone-full, node-empty, node-full}
+use Rattle.text.specs.SheetText.{zoneText, emptyZone, fullZone, zoneTexts, localText, fullNode, localTexts, constantText, remainderText, sheetText, nameOf}
+use Rattle.text.proofs.Joined.{joined-same}
+use Rattle.text.proofs.Lined.{zone-empty, zone-full, node-empty, node-full}
 
 module _ (G : Grid) (runs : Runs) where
   -- the figures of a zone: only its kilowatts where it has none
@@ -124,8 +121,3 @@ names-agree file v one h =
     sym (
     ap (λ (n : Node). unpadded (n .name)) (rows-at noNode (sectionCount file 1) (λ i. nodeAt file (sectionStart file 1 + 24 * i)) v h)
     ∙ ap (λ (at : ℕ). unpadded (nameAt file (at + 24 * v))) start)
-
--- the line of a refusal
-pub refused-agrees : (a : Answer) → refusedText (values a .number) (values a .system) (values a .row) ≡ refusedLine a
-unfolding refusedText refusedLine
-refused-agrees a = refl

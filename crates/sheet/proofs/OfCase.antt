@@ -17,7 +17,7 @@ use Rattle.meaning.proofs.Starts.{counts, file-length}
 use Rattle.charges.specs.Case.{zoneFigures, sideFigures, localFigures, figuresOf}
 use Rattle.meaning.proofs.Columns.{column-at}
 use Rattle.meaning.specs.Columns.{noLine, noLocal}
-use Rattle.sheet.specs.SheetText.{sheetText, nameOf, Sized}
+use Rattle.text.specs.SheetText.{sheetText, nameOf, Sized}
 use Rattle.sheet.proofs.Agrees.{ZoneAgrees, SideAgrees, NodeAgrees, Agrees, sheet-agrees, names-agree}
 
 module _ (G : Grid) (runs : Runs) where

@@ -16,9 +16,9 @@ use Rattle.meaning.specs.Network.{Network, Reached, here, ahead, back, marked, 
 use Rattle.meaning.proofs.Walk.{Placed, reached-is}
 use Rattle.meaning.proofs.Says.{Says, says-as, says-eq}
 use Rattle.meaning.proofs.Rows.{below-suc}
-use Rattle.tables.specs.First.{IsFirst}
+use Rattle.rows.specs.First.{IsFirst}
 use Rattle.tables.specs.Walk.{Marks, Closed, joined, joins, unmarked, Swept, Walked, unmarkedAt}
-use Rattle.tables.proofs.FirstLaws.{first-as, at-first, at-none}
+use Rattle.rows.proofs.FirstLaws.{first-as, at-first, at-none}
 
 -- ---- a byte set to 1
 fewer-le : (l : List ℕ) (i : ℕ) → unmarked (set l i 1) ≤ unmarked l

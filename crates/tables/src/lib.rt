@@ -1,11 +1,8 @@
 // The case file judged: refusals 1 to 7 of document 01, and the columns of a file.
 mod chain;
-mod circuits;
-mod nodes;
 mod reach;
+mod read;
 mod settings;
-mod stations;
-mod tests;
 mod totals;
 
 ghost use mathlib.Core.Path.{_≡_};
@@ -13,9 +10,9 @@ ghost use Rattle.meaning.specs.Outcome.{tablesStage};
 ghost use Rattle.tables.specs.Opens.{Opens};
 use columns::CircuitColumns;
 use columns::NodeColumns;
-use columns::RowCounts;
-use columns::StudySettings;
 use columns::TecColumns;
+use layout::RowCounts;
+use layout::StudySettings;
 use meaning::Answer;
 
 // A case file opened: what stops it first among 1 to 7, and its columns.
@@ -32,23 +29,13 @@ pub struct Opened {
 pub fn open(file: &[u8], base: usize, wider: usize, local: usize) -> Opened
     ensures { λ r. ⌜ Opens (now (file .entry)) base wider local r ⌝ }
 {
-    let counts = columns::counts(file);
-    let settings = columns::settings(file);
-    let nodes = columns::nodes(file);
-    let circuits = columns::circuits(file);
-    let capacity = columns::capacity(file);
-    let answer = chain::tables_stage(
-        file,
-        base,
-        wider,
-        local,
-        counts,
-        settings,
-        nodes,
-        circuits,
-        capacity,
-    );
-    let tec = capacity.tec;
+    let all = read::tables(file);
+    let answer = chain::tables_stage(file, base, wider, local, all);
+    let counts = all.counts;
+    let settings = all.settings;
+    let nodes = all.nodes;
+    let circuits = all.circuits;
+    let tec = all.tec;
     Opened {
         answer,
         counts,
@@ -63,7 +50,5 @@ pub fn open(file: &[u8], base: usize, wider: usize, local: usize) -> Opened
 pub fn judge(file: &[u8], base: usize, wider: usize, local: usize) -> Answer
     ensures { λ r. ⌜ r ≡ tablesStage (now (file .entry)) base wider local ⌝ }
 {
-    let opened = open(file, base, wider, local);
-    let answer = opened.answer;
-    answer
+    chain::tables_stage(file, base, wider, local, read::tables(file))
 }

@@ -12,7 +12,7 @@ use Rattle.proposal.proofs.direction.clear.Tie as tie
 
 module _ (c : tie.After-flow) where
   abbrev flow : ℤ
-  flow = let a = c .before .before .before .before .args in number (a .base .now) (a .n + a .c)
+  flow = let a = c .before .before .before .args in number (a .base .now) (a .n + a .c)
 
   bf : Back flow
   bf = back _ (c .flow .given)
@@ -21,11 +21,11 @@ module _ (c : tie.After-flow) where
 doubt : (c : tie.After-doubtful) → c .doubtful .result ≡ inDoubt (direction (flow (c .before)))
 doubt c = simp (bf (c .before)) at (c .doubtful .ensures)
 
-mul-long : tie.Need-mul-long
-mul-long c = search needs
+mul-if1 : tie.Need-mul-if1
+mul-if1 c = search needs
 
-shared-slice-read-long : tie.Need-shared-slice-read-long
-shared-slice-read-long c = search needs
+element-copy-out-if1 : tie.Need-element-copy-out-if1
+element-copy-out-if1 c = search needs
 
 returns : tie.Need-returns
 returns c = no-length _ _ _ _ (c .if1 .taken)
@@ -52,8 +52,8 @@ pub clear-spec : {M : Type 1} → statement M
 clear-spec =
     tie.close
     (tie.spec
-    mul-long
-    shared-slice-read-long
+    mul-if1
+    element-copy-out-if1
     returns
     add-flow
     mul-flow

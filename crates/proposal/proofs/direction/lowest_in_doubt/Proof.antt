@@ -2,7 +2,7 @@ use mathlib.Core.Path.{_≡_, sym, _∙_}
 use Prim.Native.Nat.{_-_, _≤_}
 use native.Mathlib.Omega.{arith}
 use Rattle.proposal.specs.Offsets.{clearBy}
-use Rattle.proposal.proofs.Found.{AllPass, pass-none, pass-more, row-here, row-none}
+use Rattle.numbers.proofs.Found.{AllPass, pass-none, pass-more, row-here, row-none}
 use Rattle.proposal.proofs.direction.lowest_in_doubt.Statement.{statement}
 use Rattle.proposal.proofs.direction.lowest_in_doubt.Tie as tie
 
@@ -16,7 +16,7 @@ loop-holds : tie.Need-loop-holds Inv-loop μ-loop
 loop-holds c = (omega arith, pass-none _)
 
 clear-requires : tie.Need-clear-requires Inv-loop μ-loop
-clear-requires c κs = let p = c .before .before .before .pre in (p .0, p .1, omega arith)
+clear-requires c κs = (omega arith, omega arith, omega arith)
 
 add-c : tie.Need-add-c Inv-loop μ-loop
 add-c c = omega arith
@@ -34,7 +34,7 @@ returns c =
 
 returns-2 : tie.Need-returns-2 Inv-loop μ-loop
 returns-2 c =
-    let e : c .before .loop .c ≡ c .before .before .before .args .m = omega arith in
+    let e : c .before .loop .c ≡ c .before .before .args .m = omega arith in
     row-none _ _ (rw e at (c .before .loop .inv .1))
 
 pub lowest-in-doubt-spec : {M : Type 1} → statement M

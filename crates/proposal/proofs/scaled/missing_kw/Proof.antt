@@ -4,7 +4,7 @@ use native.Mathlib.Omega.{arith}
 use Rattle.integers.specs.Numbers.{sum}
 use Rattle.integers.proofs.Sum.{sum-zero, sum-more}
 use Rattle.meaning.specs.Scaled.{wholeShare}
-use Rattle.proposal.specs.Supplies.{kwAt}
+use Rattle.meaning.specs.Columns.{kwAt}
 use Rattle.proposal.proofs.Shares.{tec-small, share-is, missing-holds, missing-all}
 use Rattle.proposal.proofs.scaled.missing_kw.Statement.{statement}
 use Rattle.proposal.proofs.scaled.missing_kw.Tie as tie

@@ -5,7 +5,8 @@ use Rattle.integers.specs.Numbers.{sum}
 use Rattle.integers.proofs.Sum.{sum-zero, sum-more}
 use Rattle.meaning.specs.Scaled.{wholeShare, leftOver}
 use Rattle.proposal.specs.Columns.{Filled}
-use Rattle.proposal.specs.Supplies.{kilowatts, kwAt, scaledBy}
+use Rattle.meaning.specs.Columns.{kilowatts, kwAt}
+use Rattle.proposal.specs.Supplies.{scaledBy}
 use Rattle.proposal.proofs.Filled.{filled-none, filled-more}
 use Rattle.proposal.proofs.Shares.{tec-small, share-is, share-small, over-is, over-one, before-small, scaled-is}
 use Rattle.proposal.proofs.scaled.scaled.Statement.{statement}

@@ -3,7 +3,7 @@ use Prim.Native.Nat.{_+_, _-_, _≤_}
 use native.Mathlib.Omega.{arith}
 use Rattle.integers.specs.Numbers.{sum}
 use Rattle.integers.proofs.Sum.{sum-zero, sum-more, sum-part}
-use Rattle.proposal.specs.Supplies.{kilowatts, kwAt}
+use Rattle.meaning.specs.Columns.{kilowatts, kwAt}
 use Rattle.proposal.proofs.scaled.total_of.Statement.{statement}
 use Rattle.proposal.proofs.scaled.total_of.Tie as tie
 

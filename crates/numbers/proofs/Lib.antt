@@ -1,0 +1,4 @@
+pub mod Limit
+pub mod Found
+pub mod Range
+pub mod Directions

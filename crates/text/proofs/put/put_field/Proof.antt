@@ -1,0 +1,32 @@
+-- `text::put::put_field` meets its contract.
+use mathlib.Core.List.{_++_}
+use Rattle.integers.proofs.Machine.{fit-back}
+use Rattle.text.proofs.Writing.{then}
+use native.Mathlib.Omega.{arith}
+use borrow.Author.Needs.{needs}
+use Rattle.text.proofs.put.put_field.Statement.{statement}
+use Rattle.text.proofs.put.put_field.Tie as tie
+
+put-byte-requires : tie.Need-put-byte-requires
+put-byte-requires c κs = search needs
+
+put-number-requires : tie.Need-put-number-requires
+put-number-requires c κs =
+    let p = c .before .before .before in
+    let s = p .before .before .before in
+    rw (fit-back (s .fits .z)) (omega (arith, p .put-byte .ensures .next, p .put-byte .kept .0))
+
+same-length : tie.Need-same-length
+same-length c = search needs
+
+returns : tie.Need-returns
+returns c =
+    let q = c .before .before in
+    let p = q .before .before .before .before in
+    let s = p .before .before .before in
+    then (p .put-byte .ensures) (rw (fit-back (s .fits .z)) at (q .put-number .ensures))
+
+pub put-field-spec : {M : Type 1} → statement M
+put-field-spec =
+    tie.close
+    (tie.spec put-byte-requires put-number-requires same-length returns)
