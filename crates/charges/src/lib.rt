@@ -1,11 +1,11 @@
 // 01, steps 6 to 10: what each zone and each node pays. The figures of a case that nothing stops.
 mod case;
-mod distances;
 mod income;
 mod inputs;
-mod kilowatts;
+mod local;
 mod rests;
 mod sides;
+mod sums;
 mod tariffs;
 mod zones;
 
@@ -30,19 +30,11 @@ pub fn charge(file: &[u8], base: &[i64], wider: &[i64], local: &[i64]) -> Charge
     if answers::is_refusal(answer) {
         return Charged {
             answer: answer,
-            figures: case::no_figures(),
+            figures: steps::no_figures(),
         };
     }
-    let counts = opened.counts;
-    let settings = opened.settings;
-    let nodes = opened.nodes;
-    let tec = opened.tec;
-    let generation = inputs::generation_of(settings, nodes, tec);
-    let demand = inputs::demand_of(settings, nodes);
-    let money = inputs::money_of(settings);
-    let made = case::figures_of(generation, demand, counts.nodes, money, wider, local);
     Charged {
         answer: answer,
-        figures: made,
+        figures: inputs::figures_in(opened, wider, local),
     }
 }
