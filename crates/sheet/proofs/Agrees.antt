@@ -1,21 +1,18 @@
 -- Figures that are those of the meaning have its sheet as their text.
 use Prim.Native.Nat.{ℕ, suc, _+_, _*_, _<_}
-use mathlib.Core.Bool.{cond}
-use mathlib.Core.Path.{_≡_, refl, sym, ap, ap₂, _∙_}
-use mathlib.Core.List.{List, [], _∷_, _++_}
+use mathlib.Core.Path.{_≡_, sym, ap, _∙_}
+use mathlib.Core.List.{List}
 use native.Mathlib.Decide.{ℕ-discrete}
 use borrow.Author.Tests.{eq-eqb, ne-eqb}
-use lib.Dec.{eqb}
 use lib.ListN.{length, getD}
 use Rattle.meaning.specs.Rows.{joined}
 use Rattle.meaning.specs.Name.{unpadded}
-use Rattle.meaning.specs.Text.{text, natural, decimal, line}
 use Rattle.meaning.specs.Study.{Runs, Node, node, noNode}
 use Rattle.meaning.specs.File.{nameAt, nodeAt, recordSize, sectionStart, sectionCount, studyOf}
 use Rattle.meaning.proofs.Rows.{rows-at}
 use Rattle.meaning.specs.Grid.{Grid, nodeTec}
 use Rattle.meaning.specs.Figures.{zones, zoneWeight, zonalMetres, C, afterC, zoneTariff, residual, zoneTotal, localMetres, localTariff, remainder}
-use Rattle.meaning.specs.Sheet.{letter, zoneLine, zoneLines, localLine, sheet}
+use Rattle.meaning.specs.Sheet.{zoneLine, zoneLines, localLine, sheet}
 use Rattle.meaning.specs.declared.Side.{Side}
 use Rattle.meaning.specs.declared.Side.the-variants.{Generation, Demand}
 use Rattle.meaning.specs.declared.MicroPerKw.{MicroPerKw}

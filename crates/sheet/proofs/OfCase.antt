@@ -1,14 +1,14 @@
 -- The figures of a case have its sheet as their text, and their counts stay inside their tables and the file.
 use Prim.Native.Nat.{ℕ, suc, _+_, _*_, _≤_, _<_}
-use mathlib.Core.Path.{_≡_, refl, sym, ap, _∙_}
+use mathlib.Core.Path.{_≡_, refl}
 use mathlib.Core.List.{List}
 use native.Mathlib.Omega.{arith}
-use lib.ListN.{length, getD}
+use lib.ListN.{length}
 use Rattle.meaning.specs.declared.Side.{Side}
 use Rattle.meaning.specs.declared.Side.the-variants.{Generation, Demand}
 use Rattle.meaning.specs.Name.{unpadded}
 use Rattle.meaning.specs.Study.{Study, Runs, node}
-use Rattle.meaning.specs.File.{sectionCount, studyOf}
+use Rattle.meaning.specs.File.{studyOf}
 use Rattle.meaning.specs.Grid.{Grid, gridOf}
 use Rattle.meaning.specs.Figures.{zones}
 use Rattle.meaning.specs.Sheet.{sheet}

@@ -1,21 +1,19 @@
 -- What an entry settles, by what stops the case and by the length of its sheet; and the figures of a case that nothing stops.
-use mathlib.Core.Path.{_≡_, refl, sym, _∙_, ap}
-use mathlib.Core.Bool.{true, false, cond}
+use mathlib.Core.Path.{_≡_, sym, _∙_, ap}
+use mathlib.Core.Bool.{true, false}
 use mathlib.Core.List.{List, _++_}
 use Prim.Native.Nat.{ℕ, _≤_, _<_}
 use native.Mathlib.Omega.{arith}
 use borrow.Author.Tests.{le-leb, lt-leb}
 use lib.ListN.{length, drop}
-use Rattle.meaning.specs.declared.Answer.{Answer}
 use Rattle.meaning.specs.declared.Answer.the-variants.{Accepted, ShortBuffer}
 use Rattle.meaning.specs.Answers.{stops}
 use Rattle.meaning.specs.Study.{Runs}
 use Rattle.meaning.specs.File.{studyOf}
 use Rattle.meaning.specs.Grid.{gridOf}
-use Rattle.meaning.specs.Outcome.{judged, sheetOf, Settled, refused, written, settle}
+use Rattle.meaning.specs.Outcome.{judged, sheetOf, refused, written, settle}
 use Rattle.meaning.specs.Conditions.{Acceptable}
 use Rattle.claims.proofs.Accepted.{judged-pass}
-use Rattle.meaning.specs.declared.Figures.{Figures}
 use Rattle.charges.specs.declared.Charged.{Charged}
 use Rattle.charges.specs.Charged.{chargedOf}
 use Rattle.charges.specs.Case.{figuresOf}

@@ -1,12 +1,10 @@
--- The decimal digits of a number by their last digit, how many there are, and which bytes they are.
-use Prim.Native.Nat.{ℕ, zero, suc, _+_, _/_, _%_, _^_, _≤_, _<_}
+-- The decimal digits of a number by their last digit, and how many there are.
+use Prim.Native.Nat.{ℕ, _+_, _/_, _%_, _^_, _≤_, _<_}
 use mathlib.Core.Path.{_≡_, refl, ap, _∙_}
-use mathlib.Core.List.{List, [], _∷_, _++_}
-use mathlib.Core.Logic.{_⊎_, inl, inr}
-use native.Mathlib.Decide.{decLt}
+use mathlib.Core.List.{List, _++_}
 use native.Mathlib.Omega.{arith}
 use lib.IntN.{ℤ, pos, negsuc, natAbs}
-use lib.ListN.{length, length-append, set, getD}
+use lib.ListN.{length, length-append, set}
 use lib.Signed.{_<ℤ_, _≤ℤ_}
 use mir.Syntax.{w64}
 use mir.Val.{SFits}
@@ -41,38 +39,6 @@ decimal-above (negsuc n) h = absurd (h .le)
 -- an i64 has at most 20 bytes
 pub decimal-i64 : (z : ℤ) → SFits w64 z → length (decimal z) ≤ 20
 decimal-i64 z h = let k = simp Z at h in decimal-length 18 18 20 z (omega arith) (omega arith) (simp Z (omega arith)) (simp Z (omega arith))
-
--- ---- which bytes
-pub record Digit (b : ℕ) : Type 0 where
-  pub least : 48 ≤ b
-  pub most : b ≤ 57
-
-pub natural-digit : (n i : ℕ) → i < length (natural n) → Digit (getD (natural n) i 0)
-natural-digit n i = go n n i (omega arith)
-  where
-    one : (n i : ℕ) → n < 10 → i < length ((48 + n) ∷ []) → Digit (getD ((48 + n) ∷ []) i 0)
-    one n zero h l = record { least = omega arith; most = omega arith }
-    one n (suc i) h l = absurd (omega arith)
-
-    last : (a : List ℕ) (d i : ℕ) → d < 10 → ((j : ℕ) → j < length a → Digit (getD a j 0)) → i < length (a ++ ((48 + d) ∷ [])) → Digit (getD (a ++ ((48 + d) ∷ [])) i 0)
-    last [] d i h each l = one d i h l
-    last (x ∷ a) d zero h each l = each 0 (omega arith)
-    last (x ∷ a) d (suc i) h each l = last a d i h (λ j k. each (suc j) (omega arith)) (omega arith)
-
-    go : (k n i : ℕ) → n ≤ k → i < length (natural n) → Digit (getD (natural n) i 0)
-    go zero n i h = rw (natural-one n (omega arith)) (one n i (omega arith))
-    go (suc k) n i h = step (decLt n 10) (λ j. go k (n / 10) j)
-      where
-        step : Dec (n < 10) → ((j : ℕ) → n / 10 ≤ k → j < length (natural (n / 10)) → Digit (getD (natural (n / 10)) j 0)) → i < length (natural n) → Digit (getD (natural n) i 0)
-        step (yes l) before = rw (natural-one n l) (one n i l)
-        step (no l) before = rw (natural-more n (omega arith)) (last (natural (n / 10)) (n % 10) i (omega arith) (λ j. before j (omega arith)))
-
--- each byte of a number is a digit or `-`
-pub decimal-bytes : (z : ℤ) (i : ℕ) → i < length (decimal z) → (getD (decimal z) i 0 ≡ 45) ⊎ Digit (getD (decimal z) i 0)
-unfolding decimal
-decimal-bytes (pos n) i h = inr (natural-digit n i h)
-decimal-bytes (negsuc n) zero h = inl refl
-decimal-bytes (negsuc n) (suc i) h = inr (natural-digit (suc n) i (omega arith))
 
 -- ---- one digit is written, and the last digit after the others
 pub put-one : (old : List ℕ) (at n : ℕ) → n < 10 → Put old at (natural n) (set old at (48 + n)) (at + 1)

@@ -1,13 +1,12 @@
--- Texts one after the other: one more at the end, and how long they are.
-use Prim.Native.Nat.{ℕ, zero, suc, _+_, _*_, _-_, _≤_, _<_}
+-- Texts one after the other: one more at the end.
+use Prim.Native.Nat.{ℕ, zero, suc, _+_, _<_}
 use mathlib.Core.Path.{_≡_, refl, sym, ap, ap₂, _∙_}
-use mathlib.Core.List.{List, [], _∷_, _++_, append-assoc, append-nil}
+use mathlib.Core.List.{List, [], _++_, append-assoc, append-nil}
 use native.Mathlib.Numerals.{add-one}
 use native.Mathlib.Omega.{arith}
-use lib.ListN.{length, length-append}
 use Rattle.meaning.specs.Rows.{joined}
-use Rattle.text.specs.Writing.{Room, Put}
-use Rattle.text.proofs.Writing.{then, kept, put-none}
+use Rattle.text.specs.Writing.{Line}
+use Rattle.text.proofs.Writing.{both, put-line, put-none}
 
 -- of equal texts
 pub joined-same : (n : ℕ) (f g : ℕ → List ℕ) → ((i : ℕ) → i < n → f i ≡ g i) → joined n f ≡ joined n g
@@ -30,31 +29,12 @@ joined-none f = refl
 pub joined-more : (n : ℕ) (f : ℕ → List ℕ) → joined (n + 1) f ≡ joined n f ++ f n
 joined-more n f = rw (add-one n) (joined-last n f)
 
-pub joined-more-length : (n : ℕ) (f : ℕ → List ℕ) → length (joined (n + 1) f) ≡ length (joined n f) + length (f n)
-joined-more-length n f = ap length (joined-more n f) ∙ length-append (joined n f) (f n)
-
--- a part of the texts is no longer than all
-pub joined-le : (k n : ℕ) (f : ℕ → List ℕ) → k ≤ n → length (joined k f) ≤ length (joined n f)
-joined-le k n f h = rw e (go (n - k))
-  where
-    e : n ≡ k + (n - k)
-    e = omega arith
-
-    go : (d : ℕ) → length (joined k f) ≤ length (joined (k + d) f)
-    go zero = let z : k + 0 ≡ k = omega arith in rw z (omega arith)
-    go (suc d) =
-        let s : k + suc d ≡ k + d + 1 = omega arith in
-        rw s (omega (arith, go d, joined-more-length (k + d) f))
-
 -- ---- a loop that writes text after text
-pub rows-start : (old : List ℕ) (from : ℕ) (f : ℕ → List ℕ) → Put old from (joined 0 f) old from
-rows-start old from f = rw (joined-none f) (put-none old from)
+pub rows-start : (old : List ℕ) (from : ℕ) (f : ℕ → List ℕ) → Line 0 old from (joined 0 f) old from
+rows-start old from f = rw (joined-none f) (put-line (put-none old from) (omega arith))
 
-module _ {old : List ℕ} {from : ℕ} (f : ℕ → List ℕ) (k : ℕ) {out : List ℕ} {at : ℕ} (p : Put old from (joined k f) out at) where
-  -- there is room for the next
-  pub rows-room : (n : ℕ) → k < n → Room old from (joined n f) → Room out at (f k)
-  rows-room n h room = omega (arith, p .next, kept p, joined-more-length k f, joined-le (k + 1) n f (omega arith))
-
-  -- the next is written
-  pub rows-more : {new : List ℕ} {r : ℕ} → Put out at (f k) new r → Put old from (joined (k + 1) f) new r
-  rows-more q = rw (joined-more k f) (then p q)
+-- the next is written
+pub rows-more : {n w : ℕ} {old : List ℕ} {from : ℕ} (f : ℕ → List ℕ) (k : ℕ) {out : List ℕ} {at : ℕ} {new : List ℕ} {r : ℕ} → Line n old from (joined k f) out at
+    → Line w out at (f k) new r
+    → Line (n + w) old from (joined (k + 1) f) new r
+rows-more f k p q = rw (joined-more k f) (both p q)

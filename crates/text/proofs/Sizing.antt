@@ -1,12 +1,11 @@
 -- The text of figures by what the test of their counts says, and a buffer by whether it holds a text.
-use mathlib.Core.Path.{_≡_, refl, sym, _∙_, ap}
-use mathlib.Core.Bool.{Bool, true, false, cond}
-use mathlib.Core.Logic.{_↔_}
-use mathlib.Core.List.{List, [], _++_}
-use Prim.Native.Nat.{ℕ, _+_, _*_, _≤_, _<_}
+use mathlib.Core.Path.{_≡_, refl, sym}
+use mathlib.Core.Bool.{Bool, true, false}
+use mathlib.Core.List.{List, []}
+use Prim.Native.Nat.{ℕ, _≤_, _<_}
 use native.Mathlib.Omega.{arith}
 use borrow.Author.Tests.{le-leb, lt-leb}
-use lib.ListN.{length, drop}
+use lib.ListN.{length}
 use Rattle.meaning.proofs.Says.{Says, _also_, says-as, says-le}
 use Rattle.meaning.specs.declared.Figures.{Figures}
 use Rattle.text.specs.SheetText.{sheetText, nameOf, sized, textOf, Sized}

@@ -1,5 +1,5 @@
--- Writings one after the other, and what is still to be written on the way.
-use Prim.Native.Nat.{ℕ, zero, suc, _+_, _≤_, _<_}
+-- Writings one after the other.
+use Prim.Native.Nat.{ℕ, suc, _+_, _-_, _≤_, _<_}
 use mathlib.Core.Path.{_≡_, refl, sym, ap, _∙_}
 use mathlib.Core.List.{List, [], _∷_, _++_}
 use native.Mathlib.Numerals.{add-one}
@@ -7,7 +7,7 @@ use native.Mathlib.Nat.{add-zero, zero-add, add-suc, suc-add}
 use native.Mathlib.Omega.{arith}
 use lib.ListN.{length, getD, set, take, drop, length-append, drop-of-length-le}
 use lib.Seq.{sets, sets-eq, length-sets, drop-cons}
-use Rattle.text.specs.Writing.{Room, Put, Written}
+use Rattle.text.specs.Writing.{Room, Put, Line, Written}
 
 module _ {ℓ} {A : Type ℓ} where
   -- a run of stores that is cut in two
@@ -36,6 +36,16 @@ put-none old at = record { list = refl; next = sym (add-zero at) }
 pub kept : {old : List ℕ} {at : ℕ} {t new : List ℕ} {r : ℕ} → Put old at t new r → length new ≡ length old
 kept {old} {at} {t} p = ap length (p .list) ∙ length-sets old at t
 
+-- a text of bounded length
+pub line-put : {w : ℕ} {old : List ℕ} {at : ℕ} {t new : List ℕ} {r : ℕ} → Line w old at t new r → Put old at t new r
+line-put p = record { list = p .list; next = p .next }
+
+pub put-line : {w : ℕ} {old : List ℕ} {at : ℕ} {t new : List ℕ} {r : ℕ} → Put old at t new r → length t ≤ w → Line w old at t new r
+put-line p h = record { list = p .list; next = p .next; short = h }
+
+pub longer : {v w : ℕ} {old : List ℕ} {at : ℕ} {t new : List ℕ} {r : ℕ} → Line v old at t new r → v ≤ w → Line w old at t new r
+longer p h = record { list = p .list; next = p .next; short = omega (arith, p .short, h) }
+
 -- a writing that had room, by what stands before and after it
 pub split : {old : List ℕ} {at : ℕ} {t new : List ℕ} {r : ℕ} → Room old at t → Put old at t new r → new ≡ take at old ++ t ++ drop (at + length t) old
 split {old} {at} {t} h p = p .list ∙ sets-eq t old at h
@@ -57,10 +67,20 @@ copy-more out at text i h =
 pub copy-all : (out : List ℕ) (at : ℕ) (text : List ℕ) (i : ℕ) → length text ≤ i → sets out (at + i) (drop i text) ≡ out
 copy-all out at text i h = rw (drop-of-length-le text h) refl
 
--- ---- a text in two parts: room for the first, and room for the second once the first is written
-module _ (old : List ℕ) (at : ℕ) (t u : List ℕ) (h : Room old at (t ++ u)) where
-  pub room-first : Room old at t
-  room-first = omega (arith, h, length-append t u)
+-- ---- texts of bounded length
+-- two, the second where the first ended
+pub both : {v w : ℕ} {old mid new : List ℕ} {at m r : ℕ} {t u : List ℕ} → Line v old at t mid m → Line w mid m u new r → Line (v + w) old at (t ++ u) new r
+both {v} {w} {old} {mid} {new} {at} {m} {r} {t} {u} p q =
+    let pq = then (line-put p) (line-put q) in
+    record { list = pq .list; next = pq .next; short = omega (arith, length-append t u, p .short, q .short) }
 
-  pub room-next : {mid : List ℕ} {m : ℕ} → Put old at t mid m → Room mid m u
-  room-next p = omega (arith, h, length-append t u, p .next, kept p)
+-- a text at the front of a buffer is its first part
+pub front : {w : ℕ} {old t new : List ℕ} {r : ℕ} → Line w old 0 t new r → w ≤ length old → take (r - 0) (drop 0 new) ≡ t
+front {w} {old} {t} {new} {r} p h =
+    let e : r - 0 ≡ length t = omega (arith, p .next) in
+    let whole : new ≡ t ++ drop (length t) old = rw zero-add at (split (omega (arith, p .short, h)) (line-put p)) in
+    rw (e, whole) (take-front t (drop (length t) old))
+  where
+    take-front : (xs ys : List ℕ) → take (length xs) (xs ++ ys) ≡ xs
+    take-front [] ys = refl
+    take-front (x ∷ xs) ys = ap (λ (l : List ℕ). x ∷ l) (take-front xs ys)

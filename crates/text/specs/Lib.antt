@@ -1,4 +1,3 @@
 pub mod Writing
 pub mod SheetText
-pub mod Lengths
 pub mod Refusing

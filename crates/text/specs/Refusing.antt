@@ -1,8 +1,8 @@
 -- The line of a refusal in a lent buffer: written where the buffer has 96 bytes, which hold any such line, and else nothing is.
 use mathlib.Core.Path.{_≡_}
-use mathlib.Core.List.{List, _++_}
+use mathlib.Core.List.{List}
 use Prim.Native.Nat.{ℕ, _≤_, _<_}
-use lib.ListN.{length, drop}
+use lib.ListN.{length}
 use Rattle.meaning.specs.declared.Answer.{Answer}
 use Rattle.meaning.specs.Outcome.{refusedLine}
 use Rattle.text.specs.Writing.{Written}

@@ -16,6 +16,12 @@ pub record Put (old : List ℕ) (at : ℕ) (text : List ℕ) (new : List ℕ) (r
   pub list : new ≡ sets old at text
   pub next : r ≡ at + length text
 
+-- the same of a text of at most `most` bytes
+pub record Line (most : ℕ) (old : List ℕ) (at : ℕ) (text : List ℕ) (new : List ℕ) (r : ℕ) : Type 0 where
+  pub list : new ≡ sets old at text
+  pub next : r ≡ at + length text
+  pub short : length text ≤ most
+
 -- the text stands at the front, the bytes behind it are untouched, and r is its length
 pub record Written (text old new : List ℕ) (r : ℕ) : Type 0 where
   pub buffer : new ≡ text ++ drop (length text) old

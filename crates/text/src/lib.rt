@@ -1,5 +1,4 @@
 // The text of a sheet's figures, and the line of a refusal, written into a lent buffer: all of it, or nothing.
-mod lengths;
 mod lines;
 mod name;
 mod put;
@@ -12,15 +11,17 @@ use meaning::Answer;
 use meaning::Figures;
 
 // Writes the text of figures at the front of a buffer that holds it; a shorter one is left as it is. The length is that of the text.
+// It is written aside first, into room for any.
 pub fn write_sheet(figures: Figures, file: &[u8], out: &mut [u8]) -> usize
     ensures { λ r. ⌜ Fitted (textOf figures (now (file .entry))) (now (out .entry)) (now (out .exit)) r ⌝ }
 {
-    if lengths::sized(figures, file) {
-        let needed = lengths::sheet_len(figures, file);
-        if out.len() < needed {
-            return needed;
+    if sections::sized(figures, file) {
+        let mut sheet = [0u8; 22851];
+        let length = sections::put_sheet(&mut sheet, figures, file);
+        if out.len() < length {
+            return length;
         }
-        return sections::put_sheet(figures, file, out);
+        return put::put_bytes(out, 0, &sheet[0..length]);
     }
     0
 }

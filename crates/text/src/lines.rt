@@ -6,22 +6,20 @@ use crate::put::put_count;
 use crate::put::put_field;
 use crate::put::put_metres;
 use crate::put::put_price;
-use meaning::Figures;
 use meaning::LocalFigures;
 use meaning::Metres;
 use meaning::MicroPerKw;
 use meaning::Side;
 use meaning::Values;
 use meaning::ZoneFigures;
-ghost use mathlib.Core.List.{[], _∷_, _++_};
+ghost use mathlib.Core.List.{[], _∷_};
 ghost use mathlib.Core.Path.{_≡_};
 ghost use Prim.Native.Nat.{_+_, _≤_};
 ghost use lib.ListN.{length};
 ghost use Rattle.meaning.specs.Name.{unpadded};
 ghost use Rattle.meaning.specs.File.{nameAt};
 ghost use Rattle.meaning.specs.Sheet.{letter};
-ghost use Rattle.meaning.specs.Text.{text, natural};
-ghost use Rattle.text.specs.Writing.{Room, Put};
+ghost use Rattle.text.specs.Writing.{Line};
 ghost use Rattle.text.specs.SheetText.{zoneText, zoneHead, zoneRest, zoneEnd, distancesOf, pricesOf, localText, nodeEnd, constantText, remainderText, refusedText, placeText};
 
 // The letter of a side.
@@ -36,8 +34,8 @@ fn letter_of(side: Side) -> u8
 
 // The letter and the number of a zone.
 fn put_head(out: &mut [u8], at: usize, side: Side, zone: usize) -> usize
-    requires { ⌜ Room (now out) at (zoneHead side zone) ⌝ }
-    ensures { λ r. ⌜ Put (now (out .entry)) at (zoneHead side zone) (now (out .exit)) r ⌝ }
+    requires { ⌜ at + 22 ≤ length (now out) ⌝ }
+    ensures { λ r. ⌜ Line 22 (now (out .entry)) at (zoneHead side zone) (now (out .exit)) r ⌝ }
 {
     let p = put_byte(out, at, letter_of(side));
     put_count(out, p, zone)
@@ -45,8 +43,8 @@ fn put_head(out: &mut [u8], at: usize, side: Side, zone: usize) -> usize
 
 // Metres, and metres after C, of a zone.
 fn put_distances(out: &mut [u8], at: usize, z: ZoneFigures) -> usize
-    requires { ⌜ Room (now out) at (distancesOf z) ⌝ }
-    ensures { λ r. ⌜ Put (now (out .entry)) at (distancesOf z) (now (out .exit)) r ⌝ }
+    requires { ⌜ at + 42 ≤ length (now out) ⌝ }
+    ensures { λ r. ⌜ Line 42 (now (out .entry)) at (distancesOf z) (now (out .exit)) r ⌝ }
 {
     let p = put_metres(out, at, z.metres);
     put_metres(out, p, z.after_c)
@@ -54,8 +52,8 @@ fn put_distances(out: &mut [u8], at: usize, z: ZoneFigures) -> usize
 
 // Tariff, residual and total of a zone.
 fn put_prices(out: &mut [u8], at: usize, residual: MicroPerKw, z: ZoneFigures) -> usize
-    requires { ⌜ Room (now out) at (pricesOf residual z) ⌝ }
-    ensures { λ r. ⌜ Put (now (out .entry)) at (pricesOf residual z) (now (out .exit)) r ⌝ }
+    requires { ⌜ at + 63 ≤ length (now out) ⌝ }
+    ensures { λ r. ⌜ Line 63 (now (out .entry)) at (pricesOf residual z) (now (out .exit)) r ⌝ }
 {
     let p1 = put_price(out, at, z.tariff);
     let p2 = put_price(out, p1, residual);
@@ -64,8 +62,8 @@ fn put_prices(out: &mut [u8], at: usize, residual: MicroPerKw, z: ZoneFigures) -
 
 // The figures of a zone with kilowatts, to the end of its line.
 fn put_end(out: &mut [u8], at: usize, residual: MicroPerKw, z: ZoneFigures) -> usize
-    requires { ⌜ Room (now out) at (zoneEnd residual z) ⌝ }
-    ensures { λ r. ⌜ Put (now (out .entry)) at (zoneEnd residual z) (now (out .exit)) r ⌝ }
+    requires { ⌜ at + 106 ≤ length (now out) ⌝ }
+    ensures { λ r. ⌜ Line 106 (now (out .entry)) at (zoneEnd residual z) (now (out .exit)) r ⌝ }
 {
     let p1 = put_distances(out, at, z);
     let p2 = put_prices(out, p1, residual, z);
@@ -74,8 +72,8 @@ fn put_end(out: &mut [u8], at: usize, residual: MicroPerKw, z: ZoneFigures) -> u
 
 // What follows a zone's number: `-` with no kilowatts.
 fn put_rest(out: &mut [u8], at: usize, residual: MicroPerKw, z: ZoneFigures) -> usize
-    requires { ⌜ Room (now out) at (zoneRest residual z) ⌝ }
-    ensures { λ r. ⌜ Put (now (out .entry)) at (zoneRest residual z) (now (out .exit)) r ⌝ }
+    requires { ⌜ at + 106 ≤ length (now out) ⌝ }
+    ensures { λ r. ⌜ Line 106 (now (out .entry)) at (zoneRest residual z) (now (out .exit)) r ⌝ }
 {
     let w = z.weight;
     if w.0 == 0 {
@@ -94,8 +92,8 @@ pub fn put_zone(
     residual: MicroPerKw,
     z: ZoneFigures,
 ) -> usize
-    requires { ⌜ Room (now out) at (zoneText side zone residual z) ⌝ }
-    ensures { λ r. ⌜ Put (now (out .entry)) at (zoneText side zone residual z) (now (out .exit)) r ⌝ }
+    requires { ⌜ at + 128 ≤ length (now out) ⌝ }
+    ensures { λ r. ⌜ Line 128 (now (out .entry)) at (zoneText side zone residual z) (now (out .exit)) r ⌝ }
 {
     let p = put_head(out, at, side, zone);
     put_rest(out, p, residual, z)
@@ -103,8 +101,8 @@ pub fn put_zone(
 
 // The figures of a node, to the end of its line.
 fn put_local(out: &mut [u8], at: usize, l: LocalFigures) -> usize
-    requires { ⌜ Room (now out) at (nodeEnd l) ⌝ }
-    ensures { λ r. ⌜ Put (now (out .entry)) at (nodeEnd l) (now (out .exit)) r ⌝ }
+    requires { ⌜ at + 43 ≤ length (now out) ⌝ }
+    ensures { λ r. ⌜ Line 43 (now (out .entry)) at (nodeEnd l) (now (out .exit)) r ⌝ }
 {
     let p1 = put_metres(out, at, l.metres);
     let p2 = put_price(out, p1, l.tariff);
@@ -113,8 +111,8 @@ fn put_local(out: &mut [u8], at: usize, l: LocalFigures) -> usize
 
 // The line of a node: none without TEC.
 pub fn put_node(out: &mut [u8], at: usize, file: &[u8], from: usize, l: LocalFigures) -> usize
-    requires { ⌜ (from + 12 ≤ length (now file)) × Room (now out) at (localText (unpadded (nameAt (now file) from)) l) ⌝ }
-    ensures { λ r. ⌜ Put (now (out .entry)) at (localText (unpadded (nameAt (now (file .entry)) from)) l) (now (out .exit)) r ⌝ }
+    requires { ⌜ (from + 12 ≤ length (now file)) × (at + 57 ≤ length (now out)) ⌝ }
+    ensures { λ r. ⌜ Line 57 (now (out .entry)) at (localText (unpadded (nameAt (now (file .entry)) from)) l) (now (out .exit)) r ⌝ }
 {
     let tec = l.tec;
     if tec.0 == 0 {
@@ -127,8 +125,8 @@ pub fn put_node(out: &mut [u8], at: usize, file: &[u8], from: usize, l: LocalFig
 
 // The line of C.
 pub fn put_constant(out: &mut [u8], at: usize, c: Metres) -> usize
-    requires { ⌜ Room (now out) at (constantText c) ⌝ }
-    ensures { λ r. ⌜ Put (now (out .entry)) at (constantText c) (now (out .exit)) r ⌝ }
+    requires { ⌜ at + 23 ≤ length (now out) ⌝ }
+    ensures { λ r. ⌜ Line 23 (now (out .entry)) at (constantText c) (now (out .exit)) r ⌝ }
 {
     let p1 = put_byte(out, at, b'C');
     let p2 = put_metres(out, p1, c);
@@ -137,8 +135,8 @@ pub fn put_constant(out: &mut [u8], at: usize, c: Metres) -> usize
 
 // The line of the two remainders.
 pub fn put_remainders(out: &mut [u8], at: usize, generation: i64, demand: i64) -> usize
-    requires { ⌜ Room (now out) at (remainderText generation demand) ⌝ }
-    ensures { λ r. ⌜ Put (now (out .entry)) at (remainderText generation demand) (now (out .exit)) r ⌝ }
+    requires { ⌜ at + 44 ≤ length (now out) ⌝ }
+    ensures { λ r. ⌜ Line 44 (now (out .entry)) at (remainderText generation demand) (now (out .exit)) r ⌝ }
 {
     let p1 = put_byte(out, at, b'R');
     let p2 = put_field(out, p1, generation);
@@ -148,8 +146,8 @@ pub fn put_remainders(out: &mut [u8], at: usize, generation: i64, demand: i64) -
 
 // The system and the row of a refusal, to the end of its line.
 fn put_place(out: &mut [u8], at: usize, v: Values) -> usize
-    requires { ⌜ Room (now out) at (placeText (v .system) (v .row)) ⌝ }
-    ensures { λ r. ⌜ Put (now (out .entry)) at (placeText (v .system) (v .row)) (now (out .exit)) r ⌝ }
+    requires { ⌜ at + 43 ≤ length (now out) ⌝ }
+    ensures { λ r. ⌜ Line 43 (now (out .entry)) at (placeText (v .system) (v .row)) (now (out .exit)) r ⌝ }
 {
     let p1 = put_count(out, at, v.system);
     let p2 = put_count(out, p1, v.row);
@@ -158,8 +156,8 @@ fn put_place(out: &mut [u8], at: usize, v: Values) -> usize
 
 // The line of a refusal.
 pub fn put_refused(out: &mut [u8], v: Values) -> usize
-    requires { ⌜ Room (now out) 0 (refusedText (v .number) (v .system) (v .row)) ⌝ }
-    ensures { λ r. ⌜ Put (now (out .entry)) 0 (refusedText (v .number) (v .system) (v .row)) (now (out .exit)) r ⌝ }
+    requires { ⌜ 71 ≤ length (now out) ⌝ }
+    ensures { λ r. ⌜ Line 71 (now (out .entry)) 0 (refusedText (v .number) (v .system) (v .row)) (now (out .exit)) r ⌝ }
 {
     let p1 = put_bytes(out, 0, b"refused");
     let p2 = put_count(out, p1, v.number);

@@ -7,7 +7,7 @@ ghost use lib.ListN.{length};
 ghost use Rattle.meaning.specs.Name.{unpadded};
 ghost use Rattle.meaning.specs.File.{nameAt};
 ghost use Rattle.meaning.specs.Text.{text};
-ghost use Rattle.text.specs.Writing.{Room, Put};
+ghost use Rattle.text.specs.Writing.{Line};
 
 // How long a name is without its padding.
 pub fn name_len(file: &[u8], from: usize) -> usize
@@ -26,8 +26,8 @@ pub fn name_len(file: &[u8], from: usize) -> usize
 
 // The start of a node's line: its letter, and its name without padding.
 pub fn put_name(out: &mut [u8], at: usize, file: &[u8], from: usize) -> usize
-    requires { ⌜ (from + 12 ≤ length (now file)) × Room (now out) at (text "L " ++ unpadded (nameAt (now file) from)) ⌝ }
-    ensures { λ r. ⌜ Put (now (out .entry)) at (text "L " ++ unpadded (nameAt (now (file .entry)) from)) (now (out .exit)) r ⌝ }
+    requires { ⌜ (from + 12 ≤ length (now file)) × (at + 14 ≤ length (now out)) ⌝ }
+    ensures { λ r. ⌜ Line 14 (now (out .entry)) at (text "L " ++ unpadded (nameAt (now (file .entry)) from)) (now (out .exit)) r ⌝ }
 {
     let end = from + name_len(file, from);
     let p = put_bytes(out, at, b"L ");

@@ -1,4 +1,4 @@
-// Writings at a place, for this crate alone: each requires room and answers the place after it. And their lengths.
+// Writings at a place, for this crate alone: each requires room and answers the place after it.
 use meaning::Metres;
 use meaning::MicroPerKw;
 ghost use mathlib.Core.Path.{_≡_};
@@ -7,7 +7,7 @@ ghost use Prim.Native.Nat.{_+_, _≤_};
 ghost use lib.IntN.{natAbs};
 ghost use lib.ListN.{length};
 ghost use Rattle.meaning.specs.Text.{text, natural, decimal};
-ghost use Rattle.text.specs.Writing.{Room, Put};
+ghost use Rattle.text.specs.Writing.{Room, Put, Line};
 
 // Copies a text.
 pub fn put_bytes(out: &mut [u8], at: usize, text: &[u8]) -> usize
@@ -24,8 +24,8 @@ pub fn put_bytes(out: &mut [u8], at: usize, text: &[u8]) -> usize
 
 // One byte.
 pub fn put_byte(out: &mut [u8], at: usize, byte: u8) -> usize
-    requires { ⌜ Room (now out) at (byte ∷ []) ⌝ }
-    ensures { λ r. ⌜ Put (now (out .entry)) at (byte ∷ []) (now (out .exit)) r ⌝ }
+    requires { ⌜ at + 1 ≤ length (now out) ⌝ }
+    ensures { λ r. ⌜ Line 1 (now (out .entry)) at (byte ∷ []) (now (out .exit)) r ⌝ }
 {
     out[at] = byte;
     at + 1
@@ -71,25 +71,10 @@ pub fn put_number(out: &mut [u8], at: usize, z: i64) -> usize
     }
 }
 
-// How many bytes put_natural writes.
-pub fn natural_len(n: u64) -> usize
-    ensures { λ r. ⌜ (r ≡ length (natural n)) × (r ≤ 20) ⌝ }
-{
-    if n < 10 { 1 } else { natural_len(n / 10) + 1 }
-}
-
-// How many bytes put_number writes.
-pub fn number_len(z: i64) -> usize
-    ensures { λ r. ⌜ (r ≡ length (decimal z)) × (r ≤ 20) ⌝ }
-{
-    let n = natural_len(magnitude(z));
-    if z < 0 { n + 1 } else { n }
-}
-
 // A space, then a count.
 pub fn put_count(out: &mut [u8], at: usize, n: usize) -> usize
-    requires { ⌜ Room (now out) at (text " " ++ natural n) ⌝ }
-    ensures { λ r. ⌜ Put (now (out .entry)) at (text " " ++ natural n) (now (out .exit)) r ⌝ }
+    requires { ⌜ at + 21 ≤ length (now out) ⌝ }
+    ensures { λ r. ⌜ Line 21 (now (out .entry)) at (text " " ++ natural n) (now (out .exit)) r ⌝ }
 {
     let digits = put_byte(out, at, b' ');
     put_natural(out, digits, n as u64)
@@ -97,8 +82,8 @@ pub fn put_count(out: &mut [u8], at: usize, n: usize) -> usize
 
 // A space, then a number.
 pub fn put_field(out: &mut [u8], at: usize, z: i64) -> usize
-    requires { ⌜ Room (now out) at (text " " ++ decimal z) ⌝ }
-    ensures { λ r. ⌜ Put (now (out .entry)) at (text " " ++ decimal z) (now (out .exit)) r ⌝ }
+    requires { ⌜ at + 21 ≤ length (now out) ⌝ }
+    ensures { λ r. ⌜ Line 21 (now (out .entry)) at (text " " ++ decimal z) (now (out .exit)) r ⌝ }
 {
     let number = put_byte(out, at, b' ');
     put_number(out, number, z)
@@ -106,16 +91,16 @@ pub fn put_field(out: &mut [u8], at: usize, z: i64) -> usize
 
 // A space, then metres.
 pub fn put_metres(out: &mut [u8], at: usize, m: Metres) -> usize
-    requires { ⌜ Room (now out) at (text " " ++ decimal (m .0)) ⌝ }
-    ensures { λ r. ⌜ Put (now (out .entry)) at (text " " ++ decimal (m .0)) (now (out .exit)) r ⌝ }
+    requires { ⌜ at + 21 ≤ length (now out) ⌝ }
+    ensures { λ r. ⌜ Line 21 (now (out .entry)) at (text " " ++ decimal (m .0)) (now (out .exit)) r ⌝ }
 {
     put_field(out, at, m.0)
 }
 
 // A space, then micro-pounds per kilowatt.
 pub fn put_price(out: &mut [u8], at: usize, t: MicroPerKw) -> usize
-    requires { ⌜ Room (now out) at (text " " ++ decimal (t .0)) ⌝ }
-    ensures { λ r. ⌜ Put (now (out .entry)) at (text " " ++ decimal (t .0)) (now (out .exit)) r ⌝ }
+    requires { ⌜ at + 21 ≤ length (now out) ⌝ }
+    ensures { λ r. ⌜ Line 21 (now (out .entry)) at (text " " ++ decimal (t .0)) (now (out .exit)) r ⌝ }
 {
     put_field(out, at, t.0)
 }

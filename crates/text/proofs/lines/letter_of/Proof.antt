@@ -1,5 +1,5 @@
 -- `text::lines::letter_of` meets its contract.
-use mathlib.Core.Path.{_≡_, sym, ap}
+use mathlib.Core.Path.{sym, ap}
 use Rattle.meaning.specs.Sheet.{letter}
 use borrow.Author.Needs.{needs}
 use Rattle.text.proofs.lines.letter_of.Statement.{statement}

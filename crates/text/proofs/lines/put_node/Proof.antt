@@ -1,14 +1,11 @@
 -- `text::lines::put_node` meets its contract, by the case of the node.
-use mathlib.Core.Path.{_≡_}
-use mathlib.Core.List.{List, _++_}
+use mathlib.Core.List.{List}
 use Prim.Native.Nat.{ℕ}
 use Rattle.meaning.specs.Name.{unpadded}
 use Rattle.meaning.specs.File.{nameAt}
-use Rattle.meaning.specs.Text.{text}
-use Rattle.text.specs.SheetText.{nodeEnd}
-use Rattle.text.specs.Writing.{Room}
-use Rattle.text.proofs.Writing.{put-none, room-first, room-next, then}
+use Rattle.text.proofs.Writing.{put-none, put-line, both}
 use Rattle.text.proofs.Lined.{node-empty, node-parts}
+use native.Mathlib.Omega.{arith}
 use borrow.Author.Needs.{needs}
 use Rattle.text.proofs.lines.put_node.Statement.{statement}
 use Rattle.text.proofs.lines.put_node.Tie as tie
@@ -19,27 +16,16 @@ start c = c .before .before .before .before .before
 abbrev name : tie.Start → List ℕ
 name s = unpadded (nameAt (s .args .file .now) (s .args .from))
 
--- the room for the name and for what follows it
-room : (e : tie.Else1) → let s = start e in Room (s .args .out .now) (s .args .at) ((text "L " ++ name s) ++ nodeEnd (s .args .l))
-room e = let s = start e in rw (node-parts (name s) (s .args .l) (e .if1 .left)) at (s .pre .1)
-
 put-name-requires : tie.Need-put-name-requires
-put-name-requires c κs =
-    let e = c .before in
-    let s = start e in
-    (s .pre .0, room-first (s .args .out .now) (s .args .at) (text "L " ++ name s) (nodeEnd (s .args .l)) (room e))
+put-name-requires c κs = search needs
 
 put-local-requires : tie.Need-put-local-requires
-put-local-requires c κs =
-    let p = c .before .before .before in
-    let e = p .before .before in
-    let s = start e in
-    room-next (s .args .out .now) (s .args .at) (text "L " ++ name s) (nodeEnd (s .args .l)) (room e) (p .put-name .ensures)
+put-local-requires c κs = search needs
 
 returns : tie.Need-returns
 returns c =
     let s = c .before .before .before .before .before in
-    rw (node-empty (name s) (s .args .l) (c .if1 .taken)) (put-none (s .args .out .now) (s .args .at))
+    rw (node-empty (name s) (s .args .l) (c .if1 .taken)) (put-line (put-none (s .args .out .now) (s .args .at)) (omega arith))
 
 same-length : tie.Need-same-length
 same-length c = search needs
@@ -50,7 +36,7 @@ returns-2 c =
     let p = q .before .before .before .before in
     let e = p .before .before in
     let s = start e in
-    rw (node-parts (name s) (s .args .l) (e .if1 .left)) (then (p .put-name .ensures) (q .put-local .ensures))
+    rw (node-parts (name s) (s .args .l) (e .if1 .left)) (both (p .put-name .ensures) (q .put-local .ensures))
 
 pub put-node-spec : {M : Type 1} → statement M
 put-node-spec = tie.close (tie.spec put-name-requires put-local-requires returns same-length returns-2)

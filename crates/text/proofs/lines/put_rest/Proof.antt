@@ -1,6 +1,7 @@
 -- `text::lines::put_rest` meets its contract, by the case of the zone.
-use mathlib.Core.Path.{_≡_}
 use Rattle.text.proofs.Lined.{rest-empty, rest-full}
+use native.Mathlib.Omega.{arith}
+use Rattle.text.proofs.Writing.{put-line}
 use borrow.Author.Needs.{needs}
 use Rattle.text.proofs.lines.put_rest.Statement.{statement}
 use Rattle.text.proofs.lines.put_rest.Tie as tie
@@ -15,16 +16,10 @@ slice-aggregate-put-bytes : tie.Need-slice-aggregate-put-bytes
 slice-aggregate-put-bytes c = search needs
 
 put-bytes-requires : tie.Need-put-bytes-requires
-put-bytes-requires c κs =
-    let t = c .before .before in
-    let s = start t in
-    rw (rest-empty (s .args .residual) (s .args .z) (t .if1 .taken)) at (s .pre)
+put-bytes-requires c κs = search needs
 
 put-end-requires : tie.Need-put-end-requires
-put-end-requires c κs =
-    let e = c .before in
-    let s = start-2 e in
-    rw (rest-full (s .args .residual) (s .args .z) (e .if1 .left)) at (s .pre)
+put-end-requires c κs = search needs
 
 same-length : tie.Need-same-length
 same-length c = search needs
@@ -34,7 +29,7 @@ returns c =
     let p = c .before .before in
     let t = p .before .before .before in
     let s = start t in
-    rw (rest-empty (s .args .residual) (s .args .z) (t .if1 .taken)) (p .put-bytes .ensures)
+    rw (rest-empty (s .args .residual) (s .args .z) (t .if1 .taken)) (put-line (p .put-bytes .ensures) (omega arith))
 
 same-length-2 : tie.Need-same-length-2
 same-length-2 c = search needs

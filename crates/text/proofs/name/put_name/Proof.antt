@@ -1,6 +1,11 @@
 -- `text::name::put_name` meets its contract: the name is the first part of its field.
-use Rattle.text.proofs.Writing.{then}
+use Rattle.text.proofs.Writing.{then, put-line}
 use Rattle.text.proofs.Padding.{name-part}
+use native.Mathlib.Omega.{arith}
+use lib.ListN.{length-append}
+use Rattle.meaning.specs.Text.{text}
+use Rattle.meaning.specs.Name.{unpadded}
+use Rattle.meaning.specs.File.{nameAt}
 use borrow.Author.Needs.{needs}
 use Rattle.text.proofs.name.put_name.Statement.{statement}
 use Rattle.text.proofs.name.put_name.Tie as tie
@@ -39,7 +44,9 @@ returns c =
     let n = p .before .before .before in
     let a = n .before .before .before .args in
     let e = name-part (a .file .now) (a .from) (n .name-len .result) (n .name-len .ensures .0) (n .name-len .ensures .1) in
-    rw e (then (p .put-bytes .ensures) (q .put-bytes2 .ensures))
+    let l = n .name-len .ensures in
+    put-line (rw e (then (p .put-bytes .ensures) (q .put-bytes2 .ensures)))
+    (omega (arith, l, length-append (text "L ") (unpadded (nameAt (a .file .now) (a .from)))))
 
 pub put-name-spec : {M : Type 1} → statement M
 put-name-spec =

@@ -1,12 +1,12 @@
 -- `text::put::magnitude` meets its contract. Of a negative x, x + 1 is negated, which fits, and 1 is added after the cast.
-use mathlib.Core.Path.{_≡_, _∙_, sym}
+use mathlib.Core.Path.{_≡_}
 use Prim.Native.Nat.{_+_}
 use native.Mathlib.Omega.{arith}
 use lib.IntN.{ℤ, pos, natAbs, _+ℤ_, _-ℤ_}
 use lib.Signed.{_<ℤ_, _≤ℤ_}
 use mir.Facts.{toZ-ofZ, fits-natAbs}
 use mir.Syntax.{w64}
-use mir.Val.{SFits, Fits, toZ, ofZ}
+use mir.Val.{SFits, toZ, ofZ}
 use Rattle.integers.proofs.Core.{Z, Zr}
 use Rattle.integers.proofs.Laws.{abs-of-nonneg, abs-of-neg}
 use Rattle.integers.proofs.Machine.{cast-u64, lt-true, lt-false}

@@ -1,13 +1,13 @@
 -- `text::put::put_number` meets its contract: by the sign, the text is the digits of the magnitude, after a minus sign below zero.
 use borrow.Author.Needs.{needs}
 use mathlib.Core.Path.{_≡_, sym, ap, _∙_}
-use mathlib.Core.List.{_∷_, _++_}
+use mathlib.Core.List.{_++_}
 use native.Mathlib.Omega.{arith}
 use Prim.Native.Nat.{ℕ}
 use lib.ListN.{length}
 use Rattle.integers.proofs.Machine.{Back, fit-back, lt-true, lt-false}
 use Rattle.meaning.specs.Text.{text, natural, decimal}
-use Rattle.text.proofs.Writing.{then}
+use Rattle.text.proofs.Writing.{then, line-put}
 use Rattle.text.proofs.Digits.{decimal-below, decimal-above}
 use Rattle.text.proofs.put.put_number.Statement.{statement}
 use Rattle.text.proofs.put.put_number.Tie as tie
@@ -48,7 +48,7 @@ returns : tie.Need-returns
 returns c =
     let q = c .before .before in
     let p = q .before .before .before .before in
-    rw (text-below (p .before .before)) (then (p .put-byte .ensures) (q .put-natural .ensures))
+    rw (text-below (p .before .before)) (then (line-put (p .put-byte .ensures)) (q .put-natural .ensures))
 
 same-length-2 : tie.Need-same-length-2
 same-length-2 c = search needs

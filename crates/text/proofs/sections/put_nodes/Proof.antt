@@ -1,10 +1,10 @@
 -- `text::sections::put_nodes` meets its contract: the rows before v are written.
-use mathlib.Core.Path.{_≡_, sym}
-use Prim.Native.Nat.{_≤_, _-_}
+use mathlib.Core.Path.{_≡_}
+use Prim.Native.Nat.{_≤_, _-_, _*_}
 use Rattle.meaning.specs.Rows.{joined}
-use Rattle.text.specs.Writing.{Put}
-use Rattle.text.proofs.Writing.{kept}
-use Rattle.text.proofs.Joined.{rows-start, rows-room, rows-more}
+use Rattle.text.specs.Writing.{Line}
+use Rattle.text.proofs.Writing.{kept, line-put, longer}
+use Rattle.text.proofs.Joined.{rows-start, rows-more}
 use Rattle.text.proofs.Rows.{nodeRow, node-row, node-rows}
 use borrow.Author.Needs.{needs}
 use native.Mathlib.Omega.{arith}
@@ -12,7 +12,7 @@ use Rattle.text.proofs.sections.put_nodes.Statement.{statement}
 use Rattle.text.proofs.sections.put_nodes.Tie as tie
 
 abbrev Inv-loop : tie.InvT-loop
-Inv-loop out₀ from file f at₀ v₀ out at v = (v ≤ f .nodes) × Put out₀ from (joined v (nodeRow f file)) out at
+Inv-loop out₀ from file f at₀ v₀ out at v = (v ≤ f .nodes) × Line (57 * v) out₀ from (joined v (nodeRow f file)) out at
 
 abbrev μ-loop : tie.MeasureT-loop
 μ-loop out₀ from file f at₀ v₀ out at v = f .nodes - v
@@ -35,13 +35,7 @@ add-put-node c = search needs
 put-node-requires : tie.Need-put-node-requires Inv-loop μ-loop
 put-node-requires c κs =
     let l = c .before .before .before in
-    let s = l .before .before .before in
-    let a = s .args in (
-      omega arith,
-      rw (node-row (a .t4) (a .file .now) (l .loop .v)) at
-          (rows-room (nodeRow (a .t4) (a .file .now)) (l .loop .v) (l .loop .inv .1) (a .t4 .nodes) (omega arith)
-          (rw (node-rows (a .t4) (a .file .now)) at (s .pre .2))),
-    )
+    (omega arith, omega (arith, l .loop .inv .1 .next, l .loop .inv .1 .short, kept (line-put (l .loop .inv .1))))
 
 add-v : tie.Need-add-v Inv-loop μ-loop
 add-v c = search needs
@@ -54,17 +48,17 @@ loop-again c =
     let p = c .before .before in
     let l = p .before .before .before .before in
     let a = l .before .before .before .args in
-    (omega arith, rows-more (nodeRow (a .t4) (a .file .now)) (l .loop .v) (l .loop .inv .1) (rw (node-row (a .t4) (a .file .now) (l .loop .v)) (p .put-node .ensures)))
+    (omega arith, longer (rows-more {w = 57} (nodeRow (a .t4) (a .file .now)) (l .loop .v) (l .loop .inv .1) (rw (node-row (a .t4) (a .file .now) (l .loop .v)) (p .put-node .ensures))) (omega arith))
 
 same-length : tie.Need-same-length Inv-loop μ-loop
-same-length c = kept (c .before .loop .inv .1)
+same-length c = kept (line-put (c .before .loop .inv .1))
 
 returns : tie.Need-returns Inv-loop μ-loop
 returns c =
     let l = c .before in
     let a = l .before .before .before .args in
     let e : l .loop .v ≡ a .t4 .nodes = omega arith in
-    rw (node-rows (a .t4) (a .file .now)) (rw e at (l .loop .inv .1))
+    rw (node-rows (a .t4) (a .file .now)) (longer (rw e at (l .loop .inv .1)) (omega arith))
 
 pub put-nodes-spec : {M : Type 1} → statement M
 put-nodes-spec =

@@ -1,9 +1,9 @@
--- `text::lengths::sized` meets its contract.
+-- `text::sections::sized` meets its contract.
 use Rattle.text.proofs.Sizing.{sized-true, sized-false}
 use native.Mathlib.Omega.{arith}
 use borrow.Author.Needs.{needs}
-use Rattle.text.proofs.lengths.sized.Statement.{statement}
-use Rattle.text.proofs.lengths.sized.Tie as tie
+use Rattle.text.proofs.sections.sized.Statement.{statement}
+use Rattle.text.proofs.sections.sized.Tie as tie
 
 returns : tie.Need-returns
 returns c = sized-false _ _ (λ w. omega (arith, w .generation))
