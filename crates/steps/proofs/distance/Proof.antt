@@ -3,10 +3,8 @@ use mathlib.Core.Path.{_≡_, _∙_}
 use Prim.Native.Nat.{_≤_}
 use borrow.Author.Needs.{needs}
 use native.Mathlib.Omega.{arith}
-use lib.IntN.{ℤ, pos, natAbs, _-ℤ_}
+use lib.IntN.{ℤ, natAbs}
 use mir.Facts.{toZ-ofZ}
-use mir.Syntax.{w64}
-use mir.Val.{SFits}
 use Rattle.integers.proofs.Core.{Z}
 use Rattle.integers.proofs.Div.{nearest-within}
 use Rattle.integers.proofs.Machine.{Back, fit-back}
@@ -27,9 +25,6 @@ module _ (s : tie.Start) where
   bm : Back m
   bm = fit-back (simp Z (omega (arith, simp Z at near)))
 
-  minus : SFits w64 (pos 0 -ℤ m)
-  minus = simp Z (omega (arith, simp Z at near))
-
 rounded : (c : tie.After-metres) → c .metres .result .0 ≡ m (c .before)
 rounded c = simp (fit-back (c .before .fits .potential)) at (c .metres .ensures)
 
@@ -45,7 +40,7 @@ enum-told-2 : tie.Need-enum-told-2
 enum-told-2 c = search needs
 
 sub-t5 : tie.Need-sub-t5
-sub-t5 c = simp E (minus (c .before .before .before .before .before))
+sub-t5 c = simp (E, Z) (omega (arith, simp Z at (near (c .before .before .before .before .before))))
 
 returns : tie.Need-returns
 unfolding turned
