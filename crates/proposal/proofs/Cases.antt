@@ -1,5 +1,5 @@
 -- A case in columns: what the judge asks, and that it judges what is proposed.
-use mathlib.Core.Path.{_≡_, refl}
+use mathlib.Core.Path.{_≡_, refl, ap}
 use mathlib.Core.Bool.{Bool, true, false, cond}
 use mathlib.Core.List.{List}
 use Prim.Native.Nat.{ℕ, _*_, _≤_}
@@ -13,10 +13,10 @@ use Rattle.meaning.specs.declared.System.{System}
 use Rattle.meaning.specs.declared.System.the-variants.{Base, Wider, Local}
 use Rattle.meaning.specs.Direction.{direction, signed}
 use Rattle.meaning.specs.Proposal.{systemStage}
+use Rattle.supply.specs.Supply.{supplyIn}
 use Rattle.proposal.specs.declared.case.Case.{Case}
-use Rattle.proposal.specs.Columns.{Filled}
+use Rattle.proposal.specs.Columns.{number, Filled}
 use Rattle.proposal.specs.Offsets.{signedBy, offsetIn, offsetAt}
-use Rattle.proposal.specs.Supplies.{supplyAt}
 use Rattle.proposal.specs.Case.{netIn, proposedIn, offeredIn, solutionIn, Ready, Judgeable}
 use Rattle.proposal.proofs.Same.{system-alike}
 
@@ -42,7 +42,7 @@ offset-small Local long mark flow h = go (eqb mark 0)
     go false = signed-small (direction flow) long h
 
 module _ (system : System) (k : Case) (base run supply offset : List ℤ) (j : Judgeable k base run)
-    (p : Filled (pos 0) 256 (supplyAt system (k .nodes) (k .tec) (k .demand) (k .«total_demand»)) (k .nodes) supply)
+    (p : supply ≡ supplyIn system (k .supply))
     (q : Filled (pos 0) 512 (offsetAt system (k .nodes) (k .length) (k .mark) base) (k .circuits) offset) where
   pub ready : Ready k offset run
   ready = record {
@@ -66,5 +66,5 @@ module _ (system : System) (k : Case) (base run supply offset : List ℤ) (j : J
     second = λ c h. refl;
     x = λ c h. refl;
     offset = q .at;
-    supply = p .at;
+    supply = λ v h. ap (λ (l : List ℤ). number l v) p;
   })

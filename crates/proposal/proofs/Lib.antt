@@ -6,8 +6,6 @@ pub mod Stages
 pub mod Same
 pub mod Directions
 pub mod Marks
-pub mod Shares
-pub mod Supply
 pub mod Cases
 pub mod Told
 pub mod Sound

@@ -1,14 +1,10 @@
 // What the judges of proposed solutions need of a case's columns.
-use crate::scaled;
-use columns::CircuitColumns;
-use columns::NodeColumns;
-use layout::RowCounts;
-use layout::StudySettings;
-use meaning::Kw;
+use tables::Opened;
 ghost use mathlib.Core.Path.{_≡_};
-ghost use Rattle.proposal.specs.Case.{caseOf, Countable};
+ghost use Prim.Native.Nat.{_≤_};
+ghost use Rattle.proposal.specs.Case.{caseOf};
 
-// Counts, the reference from 0, a number a circuit, and kilowatts.
+// Counts, the reference from 0, numbers of each circuit, and the supply of each node in the base system.
 pub struct Case {
     pub nodes: usize,
     pub circuits: usize,
@@ -18,42 +14,31 @@ pub struct Case {
     pub x: [u64; 512],
     pub length: [u64; 512],
     pub mark: [u64; 512],
-    pub tec: [Kw; 256],
-    pub demand: [Kw; 256],
-    pub total_tec: Kw,
-    pub total_demand: Kw,
+    pub supply: [i64; 256],
 }
 
-// The case of a file's columns, with its totals.
-pub fn case_of(
-    rows: RowCounts,
-    settings: StudySettings,
-    nodes: NodeColumns,
-    ends: CircuitColumns,
-    scaling: [Kw; 256],
-) -> Case
-    requires { ⌜ Countable rows settings nodes scaling ⌝ }
-    ensures { λ r. ⌜ r ≡ caseOf rows settings nodes ends scaling ⌝ }
+// The case of a file that was opened.
+pub fn case_of(read: Opened) -> Case
+    requires { ⌜ 1 ≤ read .settings .reference ⌝ }
+    ensures { λ r. ⌜ r ≡ caseOf read ⌝ }
 {
-    let n = rows.nodes;
-    let demand = nodes.demand;
-    let first = ends.first;
-    let second = ends.second;
-    let x = ends.x;
-    let length = ends.length;
-    let mark = ends.mark;
+    let n = read.counts.nodes;
+    let first = read.circuits.first;
+    let second = read.circuits.second;
+    let x = read.circuits.x;
+    let length = read.circuits.length;
+    let mark = read.circuits.mark;
+    let scaling = read.tec.scaling;
+    let demand = read.nodes.demand;
     Case {
         nodes: n,
-        circuits: rows.circuits,
-        reference: settings.reference - 1,
+        circuits: read.counts.circuits,
+        reference: read.settings.reference - 1,
         first: first,
         second: second,
         x: x,
         length: length,
         mark: mark,
-        tec: scaling,
-        demand: demand,
-        total_tec: scaled::total_of(n, scaling),
-        total_demand: scaled::total_of(n, demand),
+        supply: supply::base_supply(n, scaling, demand),
     }
 }

@@ -6,15 +6,32 @@ mod kernel;
 mod misses;
 mod offsets;
 mod order;
-mod scaled;
 mod solution;
-mod supplies;
 
 ghost use mathlib.Core.Path.{_≡_};
 ghost use Rattle.meaning.specs.Outcome.{judged};
-ghost use Rattle.proposal.specs.Judges.{runsOf, Judges};
+ghost use Rattle.proposal.specs.Judges.{runsOf, withAnswer, Judges};
 use meaning::Answer;
 use tables::Opened;
+
+// The same columns with another answer.
+fn with_answer(read: Opened, answer: Answer) -> Opened
+    ensures { λ r. ⌜ r ≡ withAnswer read answer ⌝ }
+{
+    let counts = read.counts;
+    let settings = read.settings;
+    let nodes = read.nodes;
+    let circuits = read.circuits;
+    let tec = read.tec;
+    Opened {
+        answer: answer,
+        counts: counts,
+        settings: settings,
+        nodes: nodes,
+        circuits: circuits,
+        tec: tec,
+    }
+}
 
 // Reads a file once, judges its tables and then the three runs: what stops the case first, and the columns.
 pub fn open(file: &[u8], base: &[i64], wider: &[i64], local: &[i64]) -> Opened
@@ -25,21 +42,10 @@ pub fn open(file: &[u8], base: &[i64], wider: &[i64], local: &[i64]) -> Opened
     if answers::is_refusal(refusal) {
         return read;
     }
-    let counts = read.counts;
-    let settings = read.settings;
-    let nodes = read.nodes;
-    let circuits = read.circuits;
-    let tec = read.tec;
-    let scaling = tec.scaling;
-    let k = case::case_of(counts, settings, nodes, circuits, scaling);
-    Opened {
-        answer: order::proposals(k, base, wider, local),
-        counts: counts,
-        settings: settings,
-        nodes: nodes,
-        circuits: circuits,
-        tec: tec,
-    }
+    with_answer(
+        read,
+        order::proposals(case::case_of(read), base, wider, local),
+    )
 }
 
 // What stops a case first among 1 to 11; accepted, with no sheet yet, where nothing does.

@@ -3,7 +3,6 @@ use crate::case::Case;
 use crate::direction;
 use crate::kernel;
 use crate::offsets;
-use crate::supplies;
 use meaning::Answer;
 use meaning::System;
 ghost use mathlib.Core.Path.{_≡_};
@@ -15,7 +14,8 @@ pub fn solution(system: System, k: Case, base: &[i64], run: &[i64]) -> Answer
     requires { ⌜ Judgeable k (now base) (now run) ⌝ }
     ensures { λ r. ⌜ r ≡ solutionIn system k (now (base .entry)) (now (run .entry)) ⌝ }
 {
-    let supply = supplies::supplies(system, k);
+    let of_base = k.supply;
+    let supply = supply::in_system(system, of_base);
     let offset = offsets::offsets(system, k, base);
     kernel::judge_system(system, k, supply, offset, run)
 }

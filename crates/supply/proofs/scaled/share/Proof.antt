@@ -1,8 +1,8 @@
 use native.Mathlib.Omega.{arith}
-use Rattle.proposal.proofs.Shares.{product-small}
+use Rattle.supply.proofs.Shares.{product-small}
 use borrow.Author.Needs.{needs}
-use Rattle.proposal.proofs.scaled.share.Statement.{statement}
-use Rattle.proposal.proofs.scaled.share.Tie as tie
+use Rattle.supply.proofs.scaled.share.Statement.{statement}
+use Rattle.supply.proofs.scaled.share.Tie as tie
 
 mul-t4 : tie.Need-mul-t4
 mul-t4 c = let s = c .before .before in omega (arith, product-small (s .args .tec .0) (s .args .demand .0) (s .pre .0) (s .pre .1))

@@ -4,17 +4,16 @@ use native.Mathlib.Omega.{arith}
 use Rattle.integers.specs.Numbers.{sum}
 use Rattle.integers.proofs.Sum.{sum-zero, sum-more}
 use Rattle.meaning.specs.Scaled.{wholeShare, leftOver}
-use Rattle.proposal.specs.Columns.{Filled}
-use Rattle.meaning.specs.Columns.{kilowatts, kwAt}
-use Rattle.proposal.specs.Supplies.{scaledBy}
-use Rattle.proposal.proofs.Filled.{filled-none, filled-more}
-use Rattle.proposal.proofs.Shares.{tec-small, share-is, share-small, over-is, over-one, before-small, scaled-is}
-use Rattle.proposal.proofs.scaled.scaled.Statement.{statement}
-use Rattle.proposal.proofs.scaled.scaled.Tie as tie
+use Rattle.meaning.specs.Columns.{kilowatts, kwAt, column}
+use Rattle.supply.specs.Supply.{scaledBy}
+use Rattle.meaning.proofs.Columns.{column-none, column-turn}
+use Rattle.supply.proofs.Shares.{tec-small, share-is, share-small, over-is, over-one, before-small, scaled-is}
+use Rattle.supply.proofs.scaled.scaled.Statement.{statement}
+use Rattle.supply.proofs.scaled.scaled.Tie as tie
 
 abbrev Inv-loop : tie.InvT-loop
 Inv-loop n demand total tec missing scaled₀ before₀ v₀ scaled before v =
-    (v ≤ n) × (before ≡ sum v (leftOver n (kwAt tec) (demand .0))) × Filled (kilowatts 0) 256 (λ i. kilowatts (scaledBy n tec demand i)) v scaled
+    (v ≤ n) × (before ≡ sum v (leftOver n (kwAt tec) (demand .0))) × (scaled ≡ column (kilowatts 0) 256 v (λ i. kilowatts (scaledBy n tec demand i)))
 
 abbrev μ-loop : tie.MeasureT-loop
 μ-loop n demand total tec missing scaled₀ before₀ v₀ scaled before v = n - v
@@ -23,7 +22,7 @@ missing-kw-requires : tie.Need-missing-kw-requires Inv-loop μ-loop
 missing-kw-requires c κs = c .pre
 
 loop-holds : tie.Need-loop-holds Inv-loop μ-loop
-loop-holds c = (omega arith, sym (sum-zero _), filled-none refl)
+loop-holds c = (omega arith, sym (sum-zero _), sym (column-none (kilowatts 0) 256 _))
 
 mul-kw : tie.Need-mul-kw Inv-loop μ-loop
 mul-kw c = omega arith
@@ -86,7 +85,7 @@ loop-again c =
     let o = over-answered (c .before .before) in (
       omega arith,
       omega (arith, l .loop .inv .1, o, more k),
-      filled-more (l .loop .inv .2) (omega arith) (ap kilowatts (c .with-over .ensures
+      column-turn (kilowatts 0) 256 _ (v k) (omega arith) (l .loop .inv .2) (ap kilowatts (c .with-over .ensures
           ∙ scaled-is _ _ _ _ (s k .pre) (v k) _ _ _ _ (share-answered (c .before)) o (l .loop .inv .1) (l .before .missing-kw .ensures))),
     )
 

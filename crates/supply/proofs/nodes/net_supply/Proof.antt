@@ -5,10 +5,10 @@ use lib.IntN.{pos, _-ℤ_, _*ℤ_}
 use mir.Syntax.{w64}
 use mir.Val.{toZ}
 use Rattle.integers.proofs.Machine.{Back, fit-back, of-nat}
-use Rattle.proposal.proofs.Supply.{net-fits, supply-fits}
+use Rattle.supply.proofs.Bounds.{net-fits, supply-fits}
 use borrow.Author.Needs.{needs}
-use Rattle.proposal.proofs.supplies.net_supply.Statement.{statement}
-use Rattle.proposal.proofs.supplies.net_supply.Tie as tie
+use Rattle.supply.proofs.nodes.net_supply.Statement.{statement}
+use Rattle.supply.proofs.nodes.net_supply.Tie as tie
 
 module _ (s : tie.Start) where
   abbrev a : ℕ

@@ -5,9 +5,9 @@ use Rattle.integers.specs.Numbers.{sum}
 use Rattle.integers.proofs.Sum.{sum-zero, sum-more}
 use Rattle.meaning.specs.Scaled.{wholeShare}
 use Rattle.meaning.specs.Columns.{kwAt}
-use Rattle.proposal.proofs.Shares.{tec-small, share-is, missing-holds, missing-all}
-use Rattle.proposal.proofs.scaled.missing_kw.Statement.{statement}
-use Rattle.proposal.proofs.scaled.missing_kw.Tie as tie
+use Rattle.supply.proofs.Shares.{tec-small, share-is, missing-holds, missing-all}
+use Rattle.supply.proofs.scaled.missing_kw.Statement.{statement}
+use Rattle.supply.proofs.scaled.missing_kw.Tie as tie
 
 abbrev Inv-loop : tie.InvT-loop
 Inv-loop n demand total tec missing₀ v₀ missing v = (v ≤ n) × (missing + sum v (wholeShare n (kwAt tec) (demand .0)) ≡ demand .0)

@@ -4,25 +4,9 @@ ghost use mathlib.Core.Path.{_≡_};
 ghost use mathlib.Core.Bool.{cond};
 ghost use Prim.Native.Nat.{_+_, _*_, _/_, _%_, _≤_};
 ghost use lib.Dec.{eqb, ltb};
-ghost use Rattle.integers.specs.Numbers.{sum};
 ghost use Rattle.meaning.specs.Scaled.{missing};
-ghost use Rattle.meaning.specs.Columns.{kilowatts, kwAt};
-ghost use Rattle.proposal.specs.Columns.{Filled};
-ghost use Rattle.proposal.specs.Supplies.{scaledBy, Scalable};
-
-// The total of a column of kilowatts.
-pub fn total_of(n: usize, column: [Kw; 256]) -> Kw
-    requires { ⌜ (n ≤ 256) × (sum n (kwAt column) ≤ 100000000) ⌝ }
-    ensures { λ r. ⌜ r ≡ kilowatts (sum n (kwAt column)) ⌝ }
-{
-    let mut total: u64 = 0;
-    let mut v: usize = 0;
-    while v < n {
-        total += column[v].0;
-        v += 1;
-    }
-    Kw(total)
-}
+ghost use Rattle.meaning.specs.Columns.{kilowatts, kwAt, column};
+ghost use Rattle.supply.specs.Supply.{scaledBy, Scalable};
 
 // Node TEC x total demand / total TEC, rounded down.
 pub fn share(tec: Kw, demand: Kw, total: Kw) -> Kw
@@ -71,7 +55,7 @@ pub fn missing_kw(n: usize, tec: [Kw; 256], demand: Kw, total: Kw) -> Kw
 // Scaled generation of each node: its share, and the missing kilowatts one each to the first nodes with something over.
 pub fn scaled(n: usize, tec: [Kw; 256], demand: Kw, total: Kw) -> [Kw; 256]
     requires { ⌜ Scalable n tec demand total ⌝ }
-    ensures { λ r. ⌜ Filled (kilowatts 0) 256 (λ v. kilowatts (scaledBy n tec demand v)) n r ⌝ }
+    ensures { λ r. ⌜ r ≡ column (kilowatts 0) 256 n (λ v. kilowatts (scaledBy n tec demand v)) ⌝ }
 {
     let missing = missing_kw(n, tec, demand, total);
     let mut scaled = [Kw(0); 256];

@@ -1,8 +1,8 @@
 use native.Mathlib.Omega.{arith}
 use borrow.Author.Tests.{lt-ltb, le-ltb}
 use borrow.Author.Needs.{needs}
-use Rattle.proposal.proofs.scaled.with_over.Statement.{statement}
-use Rattle.proposal.proofs.scaled.with_over.Tie as tie
+use Rattle.supply.proofs.scaled.with_over.Statement.{statement}
+use Rattle.supply.proofs.scaled.with_over.Tie as tie
 
 add-t6 : tie.Need-add-t6
 add-t6 c = search needs

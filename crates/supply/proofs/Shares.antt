@@ -12,7 +12,7 @@ use Rattle.meaning.specs.declared.Kw.{Kw}
 use Rattle.meaning.specs.Scaled.{wholeShare, leftOver, missing, scaled}
 use Rattle.meaning.proofs.Shares.{scaled-sum}
 use Rattle.meaning.specs.Columns.{kwAt}
-use Rattle.proposal.specs.Supplies.{Scalable}
+use Rattle.supply.specs.Supply.{Scalable}
 
 pub product-small : (tec demand : ℕ) → tec ≤ 100000000 → demand ≤ 100000000 → tec * demand ≤ 10000000000000000
 product-small tec demand h k = mul-le-mul h k

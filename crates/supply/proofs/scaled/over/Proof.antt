@@ -1,9 +1,9 @@
 use native.Mathlib.Omega.{arith}
 use borrow.Author.Tests.{eq-eqb, ne-eqb}
-use Rattle.proposal.proofs.Shares.{product-small}
+use Rattle.supply.proofs.Shares.{product-small}
 use borrow.Author.Needs.{needs}
-use Rattle.proposal.proofs.scaled.over.Statement.{statement}
-use Rattle.proposal.proofs.scaled.over.Tie as tie
+use Rattle.supply.proofs.scaled.over.Statement.{statement}
+use Rattle.supply.proofs.scaled.over.Tie as tie
 
 mul-if1 : tie.Need-mul-if1
 mul-if1 c = let s = c .before .before in omega (arith, product-small (s .args .tec .0) (s .args .demand .0) (s .pre .0) (s .pre .1))
