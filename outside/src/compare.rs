@@ -318,6 +318,14 @@ impl Compare {
             self.differs(cause, &input.text(), &format!("01 tells {told:?} of this cause"), &outcome_said(&expected));
         }
         self.tally.inputs += 1;
+        if self.tally.inputs % 20_000 == 0 {
+            eprintln!(
+                "outside: {} inputs, {} differences, {:.0} s",
+                self.tally.inputs,
+                self.differences,
+                self.started.elapsed().as_secs_f64()
+            );
+        }
         self.tally.answers[answer[0] as usize] += 1;
         self.tally.met(cause);
         self.programs(&input.file)

@@ -5,8 +5,11 @@ use reference::judge_case;
 use reference::random::Chance;
 use reference::solver::solved;
 
+/// A name, and the ends of the circuits between so many nodes.
+pub type Shape = (&'static str, fn(&mut Chance, usize) -> Vec<(usize, usize)>);
+
 /// How the circuits lie.
-pub const SHAPES: [(&str, fn(&mut Chance, usize) -> Vec<(usize, usize)>); 6] = [
+pub const SHAPES: [Shape; 6] = [
     ("chain", |_, nodes| (1..nodes).map(|node| (node - 1, node)).collect()),
     ("star", |_, nodes| (1..nodes).map(|node| (0, node)).collect()),
     ("tree", tree),
@@ -137,12 +140,7 @@ fn name(number: usize) -> Name {
 }
 
 /// A network of a shape and a taste with so many nodes, circuits in any order, solved.
-pub fn network(
-    chance: &mut Chance,
-    (_, shape): (&str, fn(&mut Chance, usize) -> Vec<(usize, usize)>),
-    taste: &'static str,
-    nodes: usize,
-) -> Case {
+pub fn network(chance: &mut Chance, (_, shape): Shape, taste: &'static str, nodes: usize) -> Case {
     let mut ends = shape(chance, nodes);
     for place in (1..ends.len()).rev() {
         ends.swap(place, chance.within(0, place as u64) as usize);

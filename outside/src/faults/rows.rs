@@ -9,8 +9,11 @@ fn odd_byte(chance: &mut Chance) -> u8 {
     chance.of(b"\0\x01\t\n!-./:;<=>?@[\\]^`abz{\x7f\x80\xc1\xff")
 }
 
+/// What is done to a name, and how.
+type Spoiling = (&'static str, fn(&mut Name, &mut Chance));
+
 /// Ways to spoil a name that is well-formed.
-const MALFORMED: [(&str, fn(&mut Name, &mut Chance)); 4] = [
+const MALFORMED: [Spoiling; 4] = [
     ("of spaces", |name, _| *name = [b' '; 12]),
     ("with a byte that is none of its letters", |name, chance| {
         let length = name.iter().take_while(|byte| **byte != b' ').count() as u64;
