@@ -1,7 +1,7 @@
 // Numbers from their bytes, inside the file and across its end.
 ghost use mathlib.Core.Path.{_≡_};
 ghost use Prim.Native.Nat.{_+_, _≤_, _<_};
-ghost use lib.ListN.{length};
+ghost use lib.ListN.{length, getD};
 ghost use Rattle.meaning.specs.File.{u64};
 ghost use Rattle.fields.specs.Field.{Field, Bytes};
 
@@ -11,16 +11,33 @@ fn wide(x: u8) -> usize
     x as usize
 }
 
+// A byte of the file.
+fn byte(file: &[u8], at: usize) -> usize
+    requires { ⌜ at < length (now file) ⌝ }
+    ensures { λ r. ⌜ (r ≡ getD (now (file .entry)) at 0) × (r < 256) ⌝ }
+{
+    wide(file[at])
+}
+
+// A byte of the file, or 0 past its end.
+fn byte_at(file: &[u8], at: usize) -> usize
+    ensures { λ r. ⌜ (r ≡ getD (now (file .entry)) at 0) × (r < 256) ⌝ }
+{
+    if at < file.len() {
+        return byte(file, at);
+    }
+    0
+}
+
 // All four bytes are in the file.
 pub fn whole_u32(file: &[u8], at: usize) -> usize
     requires { ⌜ at + 4 ≤ length (now file) ⌝ }
     ensures { λ r. ⌜ Field (now (file .entry)) at r × Bytes (now (file .entry)) at 4 ⌝ }
 {
-    let a = wide(file[at]);
-    let b = wide(file[at + 1]);
-    let c = wide(file[at + 2]);
-    let d = wide(file[at + 3]);
-    a + 256 * b + 65536 * c + 16777216 * d
+    byte(file, at)
+        + 256 * byte(file, at + 1)
+        + 65536 * byte(file, at + 2)
+        + 16777216 * byte(file, at + 3)
 }
 
 // All eight bytes are in the file.
@@ -36,15 +53,5 @@ pub fn last_u32(file: &[u8], at: usize) -> usize
     requires { ⌜ (at < length (now file)) × (length (now file) < at + 4) ⌝ }
     ensures { λ r. ⌜ Field (now (file .entry)) at r ⌝ }
 {
-    let left = file.len() - at;
-    let a = wide(file[at]);
-    if left < 2 {
-        return a;
-    }
-    let b = wide(file[at + 1]);
-    if left < 3 {
-        return a + 256 * b;
-    }
-    let c = wide(file[at + 2]);
-    a + 256 * b + 65536 * c
+    byte(file, at) + 256 * byte_at(file, at + 1) + 65536 * byte_at(file, at + 2)
 }
