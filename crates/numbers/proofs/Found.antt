@@ -56,13 +56,29 @@ row-past test n = go (failing test n) (lowest-is (λ j. not (test j)) n)
     go o (nothing g) h = (refl, record { each = λ j k. not-false (test j) (g j k) })
     go o (first i k t g) h = absurd (omega arith)
 
--- a stage that looks for the lowest row: what it answers
-pub row-stops : (test : ℕ → Bool) (n row : ℕ) (answer : ℕ → Answer) → row ≡ rowOf (failing test n) n → row < n → answer (row + 1) ≡ at (failing test n) answer
-unfolding at
-row-stops test n row answer e h =
-    let f : failing test n ≡ some row = row-is test n (omega arith) ∙ ap some (sym e) in
-    rw (add-one, f) refl
+-- a row that was found among more rows
+module _ (test : ℕ → Bool) (n more row : ℕ) (h : n ≤ more) where
+  pub row-below : row ≡ rowOf (failing test more) more → row < n → failing test n ≡ some row
+  unfolding rowOf
+  row-below = go (failing test more) (lowest-is (λ j. not (test j)) more)
+    where
+      go : (o : Option ℕ) → Lowest (λ j. not (test j)) more o → row ≡ rowOf o more → row < n → failing test n ≡ some row
+      go o (nothing g) e l = absurd (omega arith)
+      go o (first i k t g) e l = lowest-stops (λ j. not (test j)) n i (omega arith) t g ∙ ap some (sym e)
 
-pub row-passes : (test : ℕ → Bool) (n row : ℕ) (answer : ℕ → Answer) → row ≡ rowOf (failing test n) n → n ≤ row → passed ≡ at (failing test n) answer
+  pub row-beyond : row ≡ rowOf (failing test more) more → n ≤ row → failing test n ≡ none
+  unfolding rowOf
+  row-beyond = go (failing test more) (lowest-is (λ j. not (test j)) more)
+    where
+      go : (o : Option ℕ) → Lowest (λ j. not (test j)) more o → row ≡ rowOf o more → n ≤ row → failing test n ≡ none
+      go o (nothing g) e l = lowest-none (λ j. not (test j)) n (λ j k. g j (omega arith))
+      go o (first i k t g) e l = lowest-none (λ j. not (test j)) n (λ j k. g j (omega arith))
+
+-- a stage that looks for the lowest row: what it answers
+pub row-stops : (test : ℕ → Bool) (n row : ℕ) (answer : ℕ → Answer) → failing test n ≡ some row → answer (row + 1) ≡ at (failing test n) answer
 unfolding at
-row-passes test n row answer e h = rw (row-past test n (omega arith) .0) refl
+row-stops test n row answer f = rw (add-one, f) refl
+
+pub row-passes : (test : ℕ → Bool) (n : ℕ) (answer : ℕ → Answer) → failing test n ≡ none → passed ≡ at (failing test n) answer
+unfolding at
+row-passes test n answer f = rw f refl

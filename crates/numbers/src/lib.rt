@@ -8,7 +8,7 @@ ghost use Rattle.meaning.specs.Rows.{failing};
 ghost use Rattle.meaning.specs.Proposal.{numberInRange};
 ghost use Rattle.meaning.specs.Direction.{direction, inDoubt};
 ghost use Rattle.meaning.specs.Systems.{limitOf};
-ghost use Rattle.numbers.specs.Numbers.{pinned, rowOf};
+ghost use Rattle.numbers.specs.Numbers.{clearBy, evenIn, pinned, rowOf};
 use meaning::Direction;
 use meaning::System;
 
@@ -85,6 +85,58 @@ pub fn doubtful(flow: i64) -> bool
         Direction::Backward => false,
         Direction::InDoubt => true,
     }
+}
+
+// Whether circuit c has no length, or its base flow is not in doubt; a flow past the run's end is none.
+fn clear(n: usize, lengths: &[u64; 512], base: &[i64], c: usize) -> bool
+    requires { ⌜ c < 512 ⌝ }
+    ensures { λ r. ⌜ r ≡ clearBy n (now (lengths .entry)) (now (base .entry)) c ⌝ }
+{
+    if lengths[c] < 1 {
+        return true;
+    }
+    if base.len() <= c {
+        return true;
+    }
+    if base.len() - c <= n {
+        return true;
+    }
+    let flow = base[n + c];
+    if doubtful(flow) {
+        return false;
+    }
+    true
+}
+
+// 01, 11: the lowest of 512 circuits with a length whose base flow is in doubt, or 512.
+pub fn first_in_doubt(n: usize, lengths: &[u64; 512], base: &[i64]) -> usize
+    ensures { λ r. ⌜ r ≡ rowOf (failing (clearBy n (now (lengths .entry)) (now (base .entry))) 512) 512 ⌝ }
+{
+    let mut c: usize = 0;
+    while c < 512 {
+        if clear(n, lengths, base, c) {
+            c += 1;
+        } else {
+            return c;
+        }
+    }
+    c
+}
+
+// 01, 9: the lowest of 256 rows in which two columns differ, or 256.
+pub fn first_apart(a: [i64; 256], b: [i64; 256]) -> usize
+    ensures { λ r. ⌜ r ≡ rowOf (failing (evenIn a b) 256) 256 ⌝ }
+{
+    let mut v: usize = 0;
+    while v < 256 {
+        let got = a[v];
+        let want = b[v];
+        if got != want {
+            return v;
+        }
+        v += 1;
+    }
+    v
 }
 
 // 01, Quantities: the largest potential of a system.

@@ -4,7 +4,6 @@ pub mod Net
 pub mod MissSum
 pub mod Stages
 pub mod Same
-pub mod Directions
 pub mod Marks
 pub mod Cases
 pub mod Told

@@ -99,11 +99,11 @@ module _ (first second : ℕ → ℕ) (f : ℕ → ℤ) (c : ℕ) (net : List �
   side-small end v =
       omega (arith, t .few, Σ-bound 100000000000000 c (λ k. only (end k) v (f k)) (λ k l. only-small (end k) v _ (f k) (t .small k (omega arith))))
 
-  pub movable : Movable net (first c) (second c) (f c)
-  movable = record {
+  pub movable : (a b : ℕ) → a < 256 → b < 256 → Movable net a b (f c)
+  movable a b h k = record {
     long = t .netted .long;
-    firstIn = t .firstIn;
-    secondIn = t .secondIn;
+    firstIn = h;
+    secondIn = k;
     small = t .small c (omega arith);
     netSmall = λ v l. rw (t .netted .at v l) (omega (arith, abs-sub (Σ c (λ k. only (first k) v (f k))) (Σ c (λ k. only (second k) v (f k))), side-small first v, side-small second v));
   }

@@ -1,34 +1,14 @@
 -- Sizes: what is within a limit, and what fits 64 bits.
 use mathlib.Core.Path.{_≡_, _∙_, ap}
-use mathlib.Core.Logic.{_≢_}
-use mathlib.Core.Bool.{true, false}
 use Prim.Native.Nat.{ℕ, _≤_, _<_}
 use native.Mathlib.Omega.{arith}
 use lib.IntN.{ℤ, pos, negℤ, natAbs, _-ℤ_, _*ℤ_}
 use lib.Signed.{_≤ℤ_, _<ℤ_}
-use borrow.Author.Tests.{eq-eqb, ne-eqb}
 use mir.Syntax.{w64}
 use mir.Val.{SFits}
-use Rattle.integers.proofs.Core.{P, N, Z, ext, abs-parts}
+use Rattle.integers.proofs.Core.{Z}
 use Rattle.integers.proofs.Laws.{abs-sub, abs-neg, abs-mul-le, sfits-abs}
-use Rattle.meaning.specs.Proposal.{same}
 use Rattle.proposal.specs.Columns.{SmallMiss}
-
--- ---- equal numbers
-pub same-yes : (y z : ℤ) → y ≡ z → same y z ≡ true
-same-yes y z e = eq-eqb (natAbs (y -ℤ z)) 0 (omega (arith, abs-parts (y -ℤ z), ap P (same-is y z e), ap N (same-is y z e)))
-  where
-    same-is : (y z : ℤ) → y ≡ z → y -ℤ z ≡ pos 0
-    same-is y z = simp Z (omega arith)
-
-pub same-no : (y z : ℤ) → y ≢ z → same y z ≡ false
-same-no y z d = ne-eqb (natAbs (y -ℤ z)) 0 (λ e. d (equal y z (parts-zero (y -ℤ z) e)))
-  where
-    parts-zero : (w : ℤ) → natAbs w ≡ 0 → w ≡ pos 0
-    parts-zero w e = ext w (pos 0) (omega (arith, abs-parts w)) (omega (arith, abs-parts w))
-
-    equal : (y z : ℤ) → y -ℤ z ≡ pos 0 → y ≡ z
-    equal y z = simp Z (omega arith)
 
 -- ---- a magnitude
 pub less-fits : (z : ℤ) → natAbs z < 9223372036854775808 → SFits w64 (pos 0 -ℤ z)

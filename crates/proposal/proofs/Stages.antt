@@ -21,9 +21,9 @@ use Rattle.meaning.proofs.Says.{says-le}
 use Rattle.meaning.proofs.Answers.{passed-passes, orElse-stops, orElse-passes}
 use Rattle.meaning.proofs.Rows.{rows-at}
 use Rattle.columns.proofs.PlaceLaws.{lowest-same}
-use Rattle.numbers.specs.Numbers.{pinned, rowOf}
-use Rattle.proposal.specs.Columns.{number, netFlow, evenIn, Ranged}
-use Rattle.numbers.proofs.Found.{AllPass, row-is}
+use Rattle.numbers.specs.Numbers.{evenIn, pinned, rowOf}
+use Rattle.proposal.specs.Columns.{number, netFlow, Ranged}
+use Rattle.numbers.proofs.Found.{AllPass, row-is, row-below, row-beyond}
 use Rattle.numbers.proofs.Range.{flow-in-range, reference-in-range, potential-in-range}
 
 -- ---- the tests of a proposal's rows
@@ -47,12 +47,20 @@ module _ (N : Network) (P : Proposed) where
   unfolding numberInRange
   number-row row k limit e l h = rw (← e, ← l) h
 
-  pub node-row : (row : ℕ) (net supply : List ℤ) → N .nodes ≤ 256 → P .supply ≡ number supply → net ≡ rows 256 (netFlow N (P .run)) → row ≡ rowOf (failing (evenIn net supply) (N .nodes)) (N .nodes)
-      → row ≡ rowOf (failing (nodes N P) (N .nodes)) (N .nodes)
-  unfolding balanced
-  node-row row net supply few s e h =
-      h ∙ ap (λ o. rowOf o (N .nodes)) (lowest-same (λ v. not (evenIn net supply v)) (λ v. not (nodes N P v)) (N .nodes)
-      (λ v l. ap not (ap₂ same (ap (λ l. number l v) e ∙ rows-at (pos 0) 256 (netFlow N (P .run)) v (omega arith)) (ap (λ f. f v) (sym s)))))
+  -- what was found among 256 rows, of the network's nodes
+  module _ (row : ℕ) (net supply : List ℤ) (few : N .nodes ≤ 256) (s : P .supply ≡ number supply) (e : net ≡ rows 256 (netFlow N (P .run)))
+      (h : row ≡ rowOf (failing (evenIn net supply) 256) 256) where
+    nodes-as : failing (evenIn net supply) (N .nodes) ≡ failing (nodes N P) (N .nodes)
+    unfolding balanced
+    nodes-as =
+        lowest-same (λ v. not (evenIn net supply v)) (λ v. not (nodes N P v)) (N .nodes)
+        (λ v l. ap not (ap₂ same (ap (λ l. number l v) e ∙ rows-at (pos 0) 256 (netFlow N (P .run)) v (omega arith)) (ap (λ f. f v) (sym s))))
+
+    pub node-found : row < N .nodes → failing (nodes N P) (N .nodes) ≡ some row
+    node-found l = sym nodes-as ∙ row-below (evenIn net supply) (N .nodes) 256 row few h l
+
+    pub nodes-even : N .nodes ≤ row → failing (nodes N P) (N .nodes) ≡ none
+    nodes-even l = sym nodes-as ∙ row-beyond (evenIn net supply) (N .nodes) 256 row few h l
 
 -- ---- a run that has passed 8
 pub limit-small : (system : System) → limitOf system ≤ 2000000000000000000
@@ -86,11 +94,9 @@ module _ (N : Network) (P : Proposed) where
   passes-numbers f = rw f (orElse-passes passed (balanceStage N P orElse missStage N P) passed-passes)
 
   -- 9 stops at a node
-  pub stops-node : failing (numbers N P) (count N) ≡ none → (row : ℕ) → row ≡ rowOf (failing (nodes N P) (N .nodes)) (N .nodes) → row < N .nodes → Unbalanced (P .system) (row + 1) ≡ systemStage N P
+  pub stops-node : failing (numbers N P) (count N) ≡ none → (row : ℕ) → failing (nodes N P) (N .nodes) ≡ some row → Unbalanced (P .system) (row + 1) ≡ systemStage N P
   unfolding balanceStage at stops values refusal
-  stops-node g row e h =
-      let f : failing (nodes N P) (N .nodes) ≡ some row = row-is (nodes N P) (N .nodes) (omega arith) ∙ ap some (sym e) in
-      rw (add-one, passes-numbers g, f) (sym (orElse-stops (Unbalanced (P .system) (suc row)) (missStage N P) refl))
+  stops-node g row f = rw (add-one, passes-numbers g, f) (sym (orElse-stops (Unbalanced (P .system) (suc row)) (missStage N P) refl))
 
   -- 9 passes, and 10 decides
   pub stops-misses : failing (numbers N P) (count N) ≡ none → failing (nodes N P) (N .nodes) ≡ none → low N P ≡ false → MissesTooHigh (P .system) ≡ systemStage N P

@@ -28,7 +28,8 @@ use Rattle.meaning.proofs.Rows.{rows-at, length-rows}
 use Rattle.columns.proofs.PlaceLaws.{lowest-same}
 use Rattle.proposal.specs.declared.case.Case.{Case}
 use Rattle.proposal.specs.Columns.{number, Filled}
-use Rattle.proposal.specs.Offsets.{offsetIn, offsetAt, clearBy}
+use Rattle.numbers.specs.Numbers.{clearBy}
+use Rattle.proposal.specs.Offsets.{offsetIn, offsetAt}
 use Rattle.meaning.specs.Columns.{kilowatts}
 use Rattle.supply.specs.Supply.{supplyIn}
 use Rattle.proposal.specs.Case.{netIn, offeredIn, solutionIn, doubtIn, proposalsIn}

@@ -12,11 +12,12 @@ use Rattle.meaning.specs.Rows.{failing}
 use Rattle.meaning.specs.Network.{Network}
 use Rattle.meaning.specs.Proposal.{Proposed, systemStage}
 use Rattle.meaning.specs.Systems.{limitOf}
+use Rattle.numbers.specs.Numbers.{clearBy}
 use Rattle.tables.specs.declared.Opened.{Opened}
 use Rattle.supply.specs.Supply.{baseSupply, supplyIn}
 use Rattle.proposal.specs.declared.case.Case.{Case}
 use Rattle.proposal.specs.Columns.{number, netOf, Shaped, Ended, Measured}
-use Rattle.proposal.specs.Offsets.{offsetAt, clearBy, Lengths}
+use Rattle.proposal.specs.Offsets.{offsetAt, Lengths}
 
 -- the case of a file that was opened: the reference counted from 0, and the supply of step 3
 unfoldable pub caseOf : Opened → Case

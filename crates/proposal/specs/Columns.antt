@@ -1,13 +1,12 @@
 -- A network and a proposal in columns, as code has them: a number a node or a circuit, read past the end as 0.
 use mathlib.Core.Path.{_≡_}
-use mathlib.Core.Bool.{Bool}
 use mathlib.Core.List.{List}
 use Prim.Native.Nat.{ℕ, _+_, _≤_, _<_}
 use lib.IntN.{ℤ, pos, natAbs, _+ℤ_, _-ℤ_}
 use lib.ListN.{length, getD, set}
 use Rattle.meaning.specs.Network.{Network}
 use Rattle.meaning.specs.Columns.{numberAt}
-use Rattle.meaning.specs.Proposal.{potential, flow, flowOut, flowIn, same, miss, missSum}
+use Rattle.meaning.specs.Proposal.{potential, flow, flowOut, flowIn, miss, missSum}
 
 -- number i of a column
 abbrev pub number : List ℤ → ℕ → ℤ
@@ -39,10 +38,6 @@ abbrev pub moved : (net : List ℤ) (a b : ℕ) → ℤ → List ℤ
 moved net a b z =
     let left = set net a (number net a +ℤ z) in
     set left b (number left b -ℤ z)
-
--- 9: whether the net flow of node v is its supply, both in columns
-abbrev pub evenIn : (net supply : List ℤ) → ℕ → Bool
-evenIn net supply v = same (number net v) (number supply v)
 
 -- step 2: the miss of circuit c, and the sum of their magnitudes, with the offset in a column
 abbrev pub missBy : Network → (offset run : List ℤ) → ℕ → ℤ

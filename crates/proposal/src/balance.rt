@@ -1,10 +1,8 @@
 // 01, 9: balance broken at a node.
 use crate::case::Case;
 ghost use mathlib.Core.Path.{_≡_};
-ghost use Prim.Native.Nat.{_≤_};
-ghost use Rattle.meaning.specs.Rows.{failing, rows};
-ghost use Rattle.numbers.specs.Numbers.{rowOf};
-ghost use Rattle.proposal.specs.Columns.{netFlow, evenIn, moved, Movable, Shaped, Ended, Ranged};
+ghost use Rattle.meaning.specs.Rows.{rows};
+ghost use Rattle.proposal.specs.Columns.{netFlow, moved, Movable, Shaped, Ended, Ranged};
 ghost use Rattle.proposal.specs.Case.{netIn};
 
 // A flow out of node a and into node b.
@@ -30,21 +28,4 @@ pub fn net_flows(k: Case, run: &[i64]) -> [i64; 256]
         c += 1;
     }
     net
-}
-
-// The lowest node whose net flow is not its supply, or n.
-pub fn lowest_unbalanced(n: usize, net: [i64; 256], supply: [i64; 256]) -> usize
-    requires { ⌜ n ≤ 256 ⌝ }
-    ensures { λ r. ⌜ r ≡ rowOf (failing (evenIn net supply) n) n ⌝ }
-{
-    let mut v: usize = 0;
-    while v < n {
-        let got = net[v];
-        let want = supply[v];
-        if got != want {
-            return v;
-        }
-        v += 1;
-    }
-    n
 }

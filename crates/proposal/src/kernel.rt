@@ -24,7 +24,7 @@ pub fn judge_system(
     if row < run.len() {
         return Answer::BadNumber(system, row + 1);
     }
-    let node = balance::lowest_unbalanced(n, balance::net_flows(k, run), supply);
+    let node = numbers::first_apart(balance::net_flows(k, run), supply);
     if node < n {
         return Answer::Unbalanced(system, node + 1);
     }

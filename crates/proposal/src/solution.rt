@@ -1,6 +1,5 @@
 // One system's proposed solution, judged over its supply and offset: 01, steps 1 to 5, refusals 8 to 11.
 use crate::case::Case;
-use crate::direction;
 use crate::kernel;
 use crate::offsets;
 use meaning::Answer;
@@ -26,7 +25,7 @@ pub fn doubt(k: Case, base: &[i64]) -> Answer
     ensures { λ r. ⌜ r ≡ doubtIn k (now (base .entry)) ⌝ }
 {
     let m = k.circuits;
-    let row = direction::lowest_in_doubt(k.nodes, m, &k.length, base);
+    let row = numbers::first_in_doubt(k.nodes, &k.length, base);
     if row < m {
         return Answer::DirectionInDoubt(row + 1);
     }

@@ -71,7 +71,7 @@ shared-slice-copy-out-move-flow : tie.Need-shared-slice-copy-out-move-flow Inv-l
 shared-slice-copy-out-move-flow c = omega arith
 
 move-flow-requires : tie.Need-move-flow-requires Inv-loop μ-loop
-move-flow-requires c κs = let t = c .before .before .before .before in simp (bf t) (movable _ _ _ _ _ (turn t))
+move-flow-requires c κs = let t = c .before .before .before .before in simp (bf t) (movable _ _ _ _ _ (turn t) _ _ (omega (arith, turn t .firstIn, turn t .secondIn)) (omega (arith, turn t .firstIn, turn t .secondIn)))
 
 add-c : tie.Need-add-c Inv-loop μ-loop
 add-c c = omega arith

@@ -1,5 +1,6 @@
 use mathlib.Core.Path.{_≡_, refl, sym, _∙_}
-use mathlib.Core.Option.{none}
+use mathlib.Core.Option.{none, some}
+use Prim.Native.Nat.{_≤_, _<_}
 use native.Mathlib.Omega.{arith}
 use borrow.Author.Needs.{needs}
 use Rattle.meaning.specs.Rows.{failing}
@@ -10,7 +11,7 @@ use Rattle.numbers.specs.Numbers.{rowOf}
 use Rattle.numbers.proofs.Found.{AllPass, row-past}
 use Rattle.proposal.specs.Columns.{Ranged}
 use Rattle.proposal.specs.Case.{netIn, proposedIn}
-use Rattle.proposal.proofs.Stages.{numbers, nodes, count, number-row, node-row, limit-small, ranged, stops-number, stops-node, stops-misses, passes-all}
+use Rattle.proposal.proofs.Stages.{numbers, nodes, count, number-row, node-found, nodes-even, limit-small, ranged, stops-number, stops-node, stops-misses, passes-all}
 use Rattle.proposal.proofs.kernel.judge_system.Statement.{statement}
 use Rattle.proposal.proofs.kernel.judge_system.Tie as tie
 
@@ -39,19 +40,18 @@ module _ (c : tie.Else1) where
   small : Ranged (s9 .args .k .nodes) (s9 .args .k .circuits) (s9 .args .run .now)
   small = ranged (net s9) (limitOf (s9 .args .system)) (s9 .args .run .now) (limit-small (s9 .args .system)) (in-range .1)
 
-module _ (c : tie.After-lowest-unbalanced) where
+module _ (c : tie.After-first-apart) where
   abbrev s : tie.Start
   s = s9 (c .before .before)
 
-  node : c .lowest-unbalanced .result ≡ rowOf (failing (nodes (net s) (offered s)) (s .args .k .nodes)) (s .args .k .nodes)
-  node = node-row (net s) (offered s) _ _ (s .args .supply) (s .pre .shaped .nodes) refl (c .before .net-flows .ensures) (c .lowest-unbalanced .ensures)
+  node : c .first-apart .result < s .args .k .nodes → failing (nodes (net s) (offered s)) (s .args .k .nodes) ≡ some (c .first-apart .result)
+  node = node-found (net s) (offered s) _ _ (s .args .supply) (s .pre .shaped .nodes) refl (c .before .net-flows .ensures) (c .first-apart .ensures)
 
-module _ (c : tie.Else2) where
-  abbrev s10 : tie.Start
-  s10 = s (c .before)
+  even : s .args .k .nodes ≤ c .first-apart .result → failing (nodes (net s) (offered s)) (s .args .k .nodes) ≡ none
+  even = nodes-even (net s) (offered s) _ _ (s .args .supply) (s .pre .shaped .nodes) refl (c .before .net-flows .ensures) (c .first-apart .ensures)
 
-  even : failing (nodes (net s10) (offered s10)) (s10 .args .k .nodes) ≡ none
-  even = row-past (nodes (net s10) (offered s10)) (s10 .args .k .nodes) (omega (arith, node (c .before))) .0
+abbrev s10 : tie.Else2 → tie.Start
+s10 c = s (c .before)
 
 limit-of-requires : tie.Need-limit-of-requires
 limit-of-requires c κs = search needs
@@ -68,8 +68,8 @@ returns c = let s = s8 (c .before) in stops-number (net s) (offered s) _ (number
 net-flows-requires : tie.Need-net-flows-requires
 net-flows-requires c κs = let p = s9 c .pre in (p .shaped, p .ended, small c)
 
-lowest-unbalanced-requires : tie.Need-lowest-unbalanced-requires
-lowest-unbalanced-requires c κs = search needs
+first-apart-requires : tie.Need-first-apart-requires
+first-apart-requires c κs = search needs
 
 add-t14 : tie.Need-add-t14
 add-t14 c = search needs
@@ -77,7 +77,7 @@ add-t14 c = search needs
 returns-2 : tie.Need-returns-2
 returns-2 c =
     let b = c .before .before .before in
-    stops-node (net (s9 b)) (offered (s9 b)) (in-range b .0) _ (node (c .before)) (omega arith)
+    stops-node (net (s9 b)) (offered (s9 b)) (in-range b .0) _ (node (c .before) (c .if2 .taken))
 
 misses-low-requires : tie.Need-misses-low-requires
 misses-low-requires c κs = let p = s10 c .pre in (p .shaped, p .ended, p .measured, small (c .before .before .before))
@@ -85,12 +85,12 @@ misses-low-requires c κs = let p = s10 c .pre in (p .shaped, p .ended, p .measu
 returns-3 : tie.Need-returns-3
 returns-3 c =
     let d = c .before .before in
-    passes-all (net (s10 d)) (offered (s10 d)) (in-range (d .before .before .before) .0) (even d) (sym (c .before .misses-low .ensures) ∙ c .if3 .taken)
+    passes-all (net (s10 d)) (offered (s10 d)) (in-range (d .before .before .before) .0) (even (d .before) (d .if2 .left)) (sym (c .before .misses-low .ensures) ∙ c .if3 .taken)
 
 returns-4 : tie.Need-returns-4
 returns-4 c =
     let d = c .before .before in
-    stops-misses (net (s10 d)) (offered (s10 d)) (in-range (d .before .before .before) .0) (even d) (sym (c .before .misses-low .ensures) ∙ c .if3 .left)
+    stops-misses (net (s10 d)) (offered (s10 d)) (in-range (d .before .before .before) .0) (even (d .before) (d .if2 .left)) (sym (c .before .misses-low .ensures) ∙ c .if3 .left)
 
 pub judge-system-spec : {M : Type 1} → statement M
 judge-system-spec =
@@ -101,7 +101,7 @@ judge-system-spec =
     add-t12
     returns
     net-flows-requires
-    lowest-unbalanced-requires
+    first-apart-requires
     add-t14
     returns-2
     misses-low-requires

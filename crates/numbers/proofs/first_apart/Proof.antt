@@ -3,21 +3,22 @@ use mathlib.Core.Logic.{_≢_}
 use mathlib.Core.Bool.{true, false}
 use Prim.Native.Nat.{ℕ, _-_, _≤_}
 use native.Mathlib.Omega.{arith}
-use lib.IntN.{ℤ}
+use lib.IntN.{ℤ, pos}
+use lib.ListN.{getD}
 use mir.Syntax.{w64}
 use mir.Val.{toZ, ofZ}
 use Rattle.integers.proofs.Machine.{Back, back}
 use Rattle.numbers.proofs.Found.{AllPass, pass-none, pass-more, row-here, row-none}
-use Rattle.proposal.specs.Columns.{number, evenIn}
-use Rattle.proposal.proofs.Sizes.{same-yes, same-no}
-use Rattle.proposal.proofs.balance.lowest_unbalanced.Statement.{statement}
-use Rattle.proposal.proofs.balance.lowest_unbalanced.Tie as tie
+use Rattle.numbers.specs.Numbers.{evenIn}
+use Rattle.numbers.proofs.Equal.{same-yes, same-no}
+use Rattle.numbers.proofs.first_apart.Statement.{statement}
+use Rattle.numbers.proofs.first_apart.Tie as tie
 
 abbrev Inv-loop : tie.InvT-loop
-Inv-loop n net supply v₀ v = (v ≤ n) × AllPass (evenIn net supply) v
+Inv-loop a b v₀ v = (v ≤ 256) × AllPass (evenIn a b) v
 
 abbrev μ-loop : tie.MeasureT-loop
-μ-loop n net supply v₀ v = n - v
+μ-loop a b v₀ v = 256 - v
 
 loop-holds : tie.Need-loop-holds Inv-loop μ-loop
 loop-holds c = (omega arith, pass-none _)
@@ -43,10 +44,10 @@ module _ (c : tie.After-want Inv-loop μ-loop) where
   v = c .before .before .before .loop .v
 
   abbrev got : ℤ
-  got = number (s .args .t2) v
+  got = getD (s .args .t1) v (pos 0)
 
   abbrev want : ℤ
-  want = number (s .args .t3) v
+  want = getD (s .args .t2) v (pos 0)
 
   bg : Back got
   bg = back _ (c .before .got .given)
@@ -54,10 +55,10 @@ module _ (c : tie.After-want Inv-loop μ-loop) where
   bw : Back want
   bw = back _ (c .want .given)
 
-  uneven : ofZ w64 got ≢ ofZ w64 want → evenIn (s .args .t2) (s .args .t3) v ≡ false
+  uneven : ofZ w64 got ≢ ofZ w64 want → evenIn (s .args .t1) (s .args .t2) v ≡ false
   uneven d = same-no got want (λ e. d (ap (ofZ w64) e))
 
-  even : ofZ w64 got ≡ ofZ w64 want → evenIn (s .args .t2) (s .args .t3) v ≡ true
+  even : ofZ w64 got ≡ ofZ w64 want → evenIn (s .args .t1) (s .args .t2) v ≡ true
   even e = same-yes got want (sym bg ∙ ap (toZ w64) e ∙ bw)
 
 returns : tie.Need-returns Inv-loop μ-loop
@@ -74,11 +75,11 @@ loop-again c = (omega arith, pass-more (c .before .before .before .before .loop 
 
 returns-2 : tie.Need-returns-2 Inv-loop μ-loop
 returns-2 c =
-    let e : c .before .loop .v ≡ c .before .before .args .n = omega arith in
-    row-none _ _ (rw e at (c .before .loop .inv .1))
+    let e : c .before .loop .v ≡ 256 = omega arith in
+    e ∙ row-none _ _ (rw e at (c .before .loop .inv .1))
 
-pub lowest-unbalanced-spec : {M : Type 1} → statement M
-lowest-unbalanced-spec =
+pub first-apart-spec : {M : Type 1} → statement M
+first-apart-spec =
     tie.close
     (tie.spec
     Inv-loop

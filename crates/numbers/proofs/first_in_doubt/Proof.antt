@@ -1,22 +1,22 @@
 use mathlib.Core.Path.{_≡_, sym, _∙_}
 use Prim.Native.Nat.{_-_, _≤_}
 use native.Mathlib.Omega.{arith}
-use Rattle.proposal.specs.Offsets.{clearBy}
+use Rattle.numbers.specs.Numbers.{clearBy}
 use Rattle.numbers.proofs.Found.{AllPass, pass-none, pass-more, row-here, row-none}
-use Rattle.proposal.proofs.direction.lowest_in_doubt.Statement.{statement}
-use Rattle.proposal.proofs.direction.lowest_in_doubt.Tie as tie
+use Rattle.numbers.proofs.first_in_doubt.Statement.{statement}
+use Rattle.numbers.proofs.first_in_doubt.Tie as tie
 
 abbrev Inv-loop : tie.InvT-loop
-Inv-loop n m lengths base c₀ c = (c ≤ m) × AllPass (clearBy n lengths base) c
+Inv-loop n lengths base c₀ c = (c ≤ 512) × AllPass (clearBy n lengths base) c
 
 abbrev μ-loop : tie.MeasureT-loop
-μ-loop n m lengths base c₀ c = m - c
+μ-loop n lengths base c₀ c = 512 - c
 
 loop-holds : tie.Need-loop-holds Inv-loop μ-loop
 loop-holds c = (omega arith, pass-none _)
 
 clear-requires : tie.Need-clear-requires Inv-loop μ-loop
-clear-requires c κs = (omega arith, omega arith, omega arith)
+clear-requires c κs = omega arith
 
 add-c : tie.Need-add-c Inv-loop μ-loop
 add-c c = omega arith
@@ -34,11 +34,11 @@ returns c =
 
 returns-2 : tie.Need-returns-2 Inv-loop μ-loop
 returns-2 c =
-    let e : c .before .loop .c ≡ c .before .before .args .m = omega arith in
-    row-none _ _ (rw e at (c .before .loop .inv .1))
+    let e : c .before .loop .c ≡ 512 = omega arith in
+    e ∙ row-none _ _ (rw e at (c .before .loop .inv .1))
 
-pub lowest-in-doubt-spec : {M : Type 1} → statement M
-lowest-in-doubt-spec =
+pub first-in-doubt-spec : {M : Type 1} → statement M
+first-in-doubt-spec =
     tie.close
     (tie.spec
     Inv-loop
