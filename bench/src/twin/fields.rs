@@ -44,10 +44,6 @@ pub fn repeated(file: &[u8], start: usize, stride: usize, count: usize) -> usize
 
 /// The lowest row that has a name; the count of rows where there is none.
 pub fn place(file: &[u8], start: usize, stride: usize, count: usize, name: (u64, u32)) -> usize {
-    for row in 0..count {
-        if key_at(file, start + stride * row) == name {
-            return row;
-        }
-    }
-    count
+    let rows = file[start..start + stride * count].chunks_exact(stride);
+    rows.map(|row| key_at(row, 0)).position(|row| row == name).unwrap_or(count)
 }
