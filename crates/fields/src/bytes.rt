@@ -29,7 +29,7 @@ fn byte_at(file: &[u8], at: usize) -> usize
     0
 }
 
-// All four bytes are in the file.
+// A u32 whose four bytes are in the file.
 pub fn whole_u32(file: &[u8], at: usize) -> usize
     requires { ⌜ at + 4 ≤ length (now file) ⌝ }
     ensures { λ r. ⌜ Field (now (file .entry)) at r × Bytes (now (file .entry)) at 4 ⌝ }
@@ -40,7 +40,7 @@ pub fn whole_u32(file: &[u8], at: usize) -> usize
         + 16777216 * byte(file, at + 3)
 }
 
-// All eight bytes are in the file.
+// A u64 whose eight bytes are in the file.
 pub fn whole_u64(file: &[u8], at: usize) -> usize
     requires { ⌜ at + 8 ≤ length (now file) ⌝ }
     ensures { λ r. ⌜ (r ≡ u64 (now (file .entry)) at) × Bytes (now (file .entry)) at 8 ⌝ }
@@ -48,7 +48,7 @@ pub fn whole_u64(file: &[u8], at: usize) -> usize
     whole_u32(file, at) + 4294967296 * whole_u32(file, at + 4)
 }
 
-// The file ends after one to three of them.
+// A u32 that the file's end cuts after one to three bytes.
 pub fn last_u32(file: &[u8], at: usize) -> usize
     requires { ⌜ (at < length (now file)) × (length (now file) < at + 4) ⌝ }
     ensures { λ r. ⌜ Field (now (file .entry)) at r ⌝ }

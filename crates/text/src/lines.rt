@@ -12,8 +12,6 @@ use meaning::MicroPerKw;
 use meaning::Side;
 use meaning::Values;
 use meaning::ZoneFigures;
-ghost use mathlib.Core.List.{[], _∷_};
-ghost use mathlib.Core.Path.{_≡_};
 ghost use Prim.Native.Nat.{_+_, _≤_};
 ghost use lib.ListN.{length};
 ghost use Rattle.meaning.specs.Name.{unpadded};
@@ -23,12 +21,13 @@ ghost use Rattle.text.specs.Writing.{Line};
 ghost use Rattle.text.specs.SheetText.{zoneText, zoneHead, zoneRest, zoneEnd, distancesOf, pricesOf, localText, nodeEnd, constantText, remainderText, refusedText, placeText};
 
 // The letter of a side.
-fn letter_of(side: Side) -> u8
-    ensures { λ r. ⌜ (r ∷ []) ≡ letter side ⌝ }
+fn put_letter(out: &mut [u8], at: usize, side: Side) -> usize
+    requires { ⌜ at + 1 ≤ length (now out) ⌝ }
+    ensures { λ r. ⌜ Line 1 (now (out .entry)) at (letter side) (now (out .exit)) r ⌝ }
 {
     match side {
-        Side::Generation => b'G',
-        Side::Demand => b'D',
+        Side::Generation => put_bytes(out, at, b"G"),
+        Side::Demand => put_bytes(out, at, b"D"),
     }
 }
 
@@ -37,7 +36,7 @@ fn put_head(out: &mut [u8], at: usize, side: Side, zone: usize) -> usize
     requires { ⌜ at + 22 ≤ length (now out) ⌝ }
     ensures { λ r. ⌜ Line 22 (now (out .entry)) at (zoneHead side zone) (now (out .exit)) r ⌝ }
 {
-    let p = put_byte(out, at, letter_of(side));
+    let p = put_letter(out, at, side);
     put_count(out, p, zone)
 }
 
@@ -128,7 +127,7 @@ pub fn put_constant(out: &mut [u8], at: usize, c: Metres) -> usize
     requires { ⌜ at + 23 ≤ length (now out) ⌝ }
     ensures { λ r. ⌜ Line 23 (now (out .entry)) at (constantText c) (now (out .exit)) r ⌝ }
 {
-    let p1 = put_byte(out, at, b'C');
+    let p1 = put_bytes(out, at, b"C");
     let p2 = put_metres(out, p1, c);
     put_byte(out, p2, b'\n')
 }
@@ -138,7 +137,7 @@ pub fn put_remainders(out: &mut [u8], at: usize, generation: i64, demand: i64) -
     requires { ⌜ at + 44 ≤ length (now out) ⌝ }
     ensures { λ r. ⌜ Line 44 (now (out .entry)) at (remainderText generation demand) (now (out .exit)) r ⌝ }
 {
-    let p1 = put_byte(out, at, b'R');
+    let p1 = put_bytes(out, at, b"R");
     let p2 = put_field(out, p1, generation);
     let p3 = put_field(out, p2, demand);
     put_byte(out, p3, b'\n')

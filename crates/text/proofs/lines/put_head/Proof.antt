@@ -1,16 +1,12 @@
--- `text::lines::put_head` meets its contract: the letter is one byte, and the number follows.
-use mathlib.Core.Path.{sym}
+-- `text::lines::put_head` meets its contract: each call writes the next part of the text.
 use Rattle.text.specs.SheetText.{zoneHead}
 use Rattle.text.proofs.Writing.{both}
 use borrow.Author.Needs.{needs}
 use Rattle.text.proofs.lines.put_head.Statement.{statement}
 use Rattle.text.proofs.lines.put_head.Tie as tie
 
-letter-of-requires : tie.Need-letter-of-requires
-letter-of-requires c κs = search needs
-
-put-byte-requires : tie.Need-put-byte-requires
-put-byte-requires c κs = search needs
+put-letter-requires : tie.Need-put-letter-requires
+put-letter-requires c κs = search needs
 
 put-count-requires : tie.Need-put-count-requires
 put-count-requires c κs = search needs
@@ -21,9 +17,9 @@ same-length c = search needs
 returns : tie.Need-returns
 unfolding zoneHead
 returns c =
-    let q = c .before .before in
-    let p = q .before .before .before .before in
-    rw (sym (p .before .letter-of .ensures)) (both (p .put-byte .ensures) (q .put-count .ensures))
+    let c2 = c .before .before in
+    let c1 = c2 .before .before .before .before in
+    both (c1 .put-letter .ensures) (c2 .put-count .ensures)
 
 pub put-head-spec : {M : Type 1} → statement M
-put-head-spec = tie.close (tie.spec letter-of-requires put-byte-requires put-count-requires same-length returns)
+put-head-spec = tie.close (tie.spec put-letter-requires put-count-requires same-length returns)
