@@ -31,10 +31,16 @@ fn name(node: usize) -> [u8; 12] {
 pub fn sized(nodes: usize, circuits: usize, stations: usize) -> Case {
     let pattern = largest();
     let case = Case {
-        nodes: (0..nodes).map(|v| NodeRow { name: name(v), demand: 100_000 + 300 * v as u32, ..pattern.nodes[v].clone() }).collect(),
+        nodes: (0..nodes)
+            .map(|v| NodeRow { name: name(v), demand: 100_000 + 300 * v as u32, ..pattern.nodes[v].clone() })
+            .collect(),
         circuits: (0..circuits).map(|c| chord(&pattern.circuits[c], c, nodes)).collect(),
         stations: (0..stations)
-            .map(|k| StationRow { node: name(k % nodes), tec: (90_000_000 / stations) as u32, ..pattern.stations[k].clone() })
+            .map(|k| StationRow {
+                node: name(k % nodes),
+                tec: (90_000_000 / stations) as u32,
+                ..pattern.stations[k].clone()
+            })
             .collect(),
         settings: reference::file::Settings { reference: 1, ..pattern.settings },
         runs: Default::default(),

@@ -90,13 +90,19 @@ fn line(label: &str, input: &Input) {
 }
 
 fn heading(what: &str) {
-    println!("\n{what:<28} {:>3} {:>9} {:>9} {:>9} {:>9} {:>9}", "no.", "ours", "twin", "textbook", "/ twin", "/ textb.");
+    println!(
+        "\n{what:<28} {:>3} {:>9} {:>9} {:>9} {:>9} {:>9}",
+        "no.", "ours", "twin", "textbook", "/ twin", "/ textb."
+    );
 }
 
 /// The largest case, at length.
 fn largest(input: &Input, seconds: u64) {
     let (answer, _) = agreed(input, 16384);
-    println!("largest case: 256 nodes, 512 circuits, 512 stations, 32 + 32 zones; sheet of {} bytes; microseconds a call\n", answer.length);
+    println!(
+        "largest case: 256 nodes, 512 circuits, 512 stations, 32 + 32 zones; sheet of {} bytes; microseconds a call\n",
+        answer.length
+    );
     let times = timed(input, Duration::from_secs(seconds));
     println!("{:<10} {:>9} {:>9} {:>12} {:>12}", "", "least", "middle", "least/ours", "middle/ours");
     for ((name, _), t) in ENTRIES.iter().zip(&times) {
@@ -104,7 +110,9 @@ fn largest(input: &Input, seconds: u64) {
         println!("{name:<10} {:>9.1} {:>9.1} {a:>12.2} {b:>12.2}", t.least, t.middle);
     }
     let (twin, textbook) = (times[0].middle / times[1].middle, times[0].middle / times[2].middle);
-    println!("\nours / twin {twin:.2} (goal: at most 1), ours / textbook {textbook:.2} (goal: at most 0.5), by the middle");
+    println!(
+        "\nours / twin {twin:.2} (goal: at most 1), ours / textbook {textbook:.2} (goal: at most 0.5), by the middle"
+    );
 }
 
 fn memory(input: &Input) {
@@ -141,6 +149,7 @@ fn growth() {
 fn main() {
     let seconds = std::env::args().nth(1).and_then(|word| word.parse().ok()).unwrap_or(10);
     let input = Input::of(&cases::greatest());
+    // A second word: only ours, a thousand calls a second, for a profiler.
     if std::env::args().nth(2).is_some() {
         let mut out = vec![0; 16384];
         (0..seconds * 1000).for_each(|_| {

@@ -142,8 +142,7 @@ fn circuit(row: &[u8], settings: &Settings, places: &HashMap<Name, usize>) -> Op
         _ => return None,
     };
     let (x, overhead, cable, mark) = (u32_at(row, 28), u32_at(row, 32), u32_at(row, 36), u32_at(row, 40));
-    let sound =
-        first != second && (1..=10_000).contains(&x) && overhead <= 500_000 && cable <= 500_000 && mark <= 1;
+    let sound = first != second && (1..=10_000).contains(&x) && overhead <= 500_000 && cable <= 500_000 && mark <= 1;
     sound.then(|| Circuit {
         first,
         second,

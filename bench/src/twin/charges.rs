@@ -33,12 +33,19 @@ pub struct Figures {
     pub local: [LocalFigures; 256],
 }
 
-/// The zones of a side: kilowatts that weigh and that pay, and metres.
+/// What a zone's nodes add up to: kilowatts that weigh, metres times those, and kilowatts that pay.
+#[derive(Clone, Copy, Default)]
+struct ZoneSums {
+    weight: u64,
+    weighed: i64,
+    paying: u64,
+}
+
+/// The zones of a side; over them, metres times the kilowatts that pay, and those kilowatts.
 struct Zones {
     count: usize,
-    weight: [u64; 32],
-    paying: [u64; 32],
-    metres: [i64; 32],
+    sums: [ZoneSums; 32],
+    metres: i64,
     total: u64,
 }
 
@@ -68,49 +75,37 @@ fn tariff(metres: i64, constant: usize, factor: usize) -> i64 {
     nearest(metres * constant as i64 * factor as i64, 100_000)
 }
 
-fn zone_kilowatts(kilowatts: &[u64], zones: &[usize], zone: usize) -> u64 {
-    let mut total = 0;
-    for v in 0..zones.len() {
-        if zones[v] == zone {
-            total += kilowatts[v];
-        }
+impl ZoneSums {
+    fn metres(&self) -> i64 {
+        nearest(self.weighed, self.weight)
     }
-    total
 }
 
-fn zone_sum(side: &Side, wider: &[i64], zone: usize) -> i64 {
-    let mut total = 0;
+/// The sums of each zone, in one pass over the nodes.
+fn sums_by_zone(side: &Side, wider: &[i64]) -> [ZoneSums; 32] {
+    let mut sums = [ZoneSums::default(); 32];
     for v in 0..side.zone.len() {
-        if side.zone[v] == zone {
-            total += side.sign * metres(wider[v]) * side.weight[v] as i64;
-        }
+        let zone = &mut sums[side.zone[v] - 1];
+        zone.weight += side.weight[v];
+        zone.weighed += side.sign * metres(wider[v]) * side.weight[v] as i64;
+        zone.paying += side.paying[v];
     }
-    total
+    sums
 }
 
 fn zones_of(side: &Side, wider: &[i64]) -> Zones {
-    let mut zones = Zones {
-        count: side.zones,
-        weight: [0; 32],
-        paying: [0; 32],
-        metres: [0; 32],
-        total: side.paying.iter().sum(),
-    };
-    for k in 0..side.zones {
-        zones.weight[k] = zone_kilowatts(side.weight, side.zone, k + 1);
-        zones.paying[k] = zone_kilowatts(side.paying, side.zone, k + 1);
-        zones.metres[k] = nearest(zone_sum(side, wider, k + 1), zones.weight[k]);
+    let sums = sums_by_zone(side, wider);
+    let (mut metres, mut total) = (0, 0);
+    for zone in &sums[..side.zones] {
+        metres += zone.metres() * zone.paying as i64;
+        total += zone.paying;
     }
-    zones
-}
-
-fn metres_over_zones(zones: &Zones) -> i64 {
-    (0..zones.count).map(|k| zones.metres[k] * zones.paying[k] as i64).sum()
+    Zones { count: side.zones, sums, metres, total }
 }
 
 fn c_of(p: u64, generation: &Zones, demand: &Zones) -> i64 {
     let q = 1000 - p;
-    let above = q as i64 * metres_over_zones(demand) - p as i64 * metres_over_zones(generation);
+    let above = q as i64 * demand.metres - p as i64 * generation.metres;
     nearest(above, p * generation.total + q * demand.total)
 }
 
@@ -126,18 +121,19 @@ fn local_by_node(case: &Columns, local: &[i64]) -> [LocalFigures; 256] {
 
 fn side_figures(case: &Columns, zones: &Zones, shift: i64, target: i64) -> SideFigures {
     let settings = &case.settings;
-    let mut lines = [ZoneFigures::default(); 32];
+    let tariff_of = |zone: &ZoneSums| tariff(zone.metres() + shift, settings.constant, settings.wider_factor);
     let mut income = 0;
-    for k in 0..zones.count {
-        let after_c = zones.metres[k] + shift;
-        let tariff = tariff(after_c, settings.constant, settings.wider_factor);
-        income += tariff * zones.paying[k] as i64;
-        lines[k] = ZoneFigures { weight: zones.weight[k], metres: zones.metres[k], after_c, tariff, total: 0 };
+    for zone in &zones.sums[..zones.count] {
+        income += tariff_of(zone) * zone.paying as i64;
     }
     let rest = target - income;
     let residual = rest.div_euclid(zones.total as i64);
-    for line in &mut lines[..zones.count] {
-        line.total = line.tariff + residual;
+    let mut lines = [ZoneFigures::default(); 32];
+    for k in 0..zones.count {
+        let zone = &zones.sums[k];
+        let (metres, tariff) = (zone.metres(), tariff_of(zone));
+        lines[k] =
+            ZoneFigures { weight: zone.weight, metres, after_c: metres + shift, tariff, total: tariff + residual };
     }
     SideFigures { zones: zones.count, residual, remainder: rest - residual * zones.total as i64, zone: lines }
 }

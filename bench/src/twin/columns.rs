@@ -1,6 +1,6 @@
 //! What later steps need of a case file's tables, read once. A file that is not whole reads as one without rows.
 
-use super::fields::{name_at, place, u32_at, u64_at};
+use super::fields::{key_at, place, u32_at, u64_at};
 
 pub struct Settings {
     pub generation_zones: usize,
@@ -29,13 +29,15 @@ pub struct Columns {
     pub x: [u64; 512],
     pub length: [u64; 512],
     pub mark: [u64; 512],
-    pub station_node: [usize; 512],
-    pub plant: [usize; 512],
-    pub station_tec: [u64; 512],
-    /// TEC by node v and plant type t at 7 v + t - 1.
-    pub by_type: [u64; 1792],
     pub scaling: [u64; 256],
     pub paying: [u64; 256],
+}
+
+/// Each station's node, plant type and TEC: for judging and adding up alone.
+pub struct Stations {
+    pub node: [usize; 512],
+    plant: [usize; 512],
+    tec: [u64; 512],
 }
 
 fn word(file: &[u8], field: usize) -> usize {
@@ -104,7 +106,8 @@ fn expanded_length(file: &[u8], at: usize, factors: &[usize; 6]) -> u64 {
     (overhead * over + cable * under) as u64
 }
 
-pub fn read(file: &[u8]) -> Columns {
+pub fn read(file: &[u8]) -> (Columns, Stations) {
+    let mut s = Stations { node: [0; 512], plant: [0; 512], tec: [0; 512] };
     let mut c = Columns {
         whole: whole(file),
         nodes: 0,
@@ -119,10 +122,6 @@ pub fn read(file: &[u8]) -> Columns {
         x: [0; 512],
         length: [0; 512],
         mark: [0; 512],
-        station_node: [0; 512],
-        plant: [0; 512],
-        station_tec: [0; 512],
-        by_type: [0; 1792],
         scaling: [0; 256],
         paying: [0; 256],
     };
@@ -130,10 +129,10 @@ pub fn read(file: &[u8]) -> Columns {
         (c.nodes, c.circuits, c.stations) = (word(file, 3), word(file, 5), word(file, 7));
         read_nodes(&mut c, file);
         read_circuits(&mut c, file);
-        read_stations(&mut c, file);
-        add_tec(&mut c);
+        read_stations(&c, &mut s, file);
+        add_tec(&mut c, &s);
     }
-    c
+    (c, s)
 }
 
 fn read_nodes(c: &mut Columns, file: &[u8]) {
@@ -148,32 +147,34 @@ fn read_nodes(c: &mut Columns, file: &[u8]) {
 fn read_circuits(c: &mut Columns, file: &[u8]) {
     for i in 0..c.circuits {
         let at = 64 + 24 * c.nodes + 44 * i;
-        c.first[i] = place(file, 64, 24, c.nodes, name_at(file, at));
-        c.second[i] = place(file, 64, 24, c.nodes, name_at(file, at + 12));
+        c.first[i] = place(file, 64, 24, c.nodes, key_at(file, at));
+        c.second[i] = place(file, 64, 24, c.nodes, key_at(file, at + 12));
         c.x[i] = u32_at(file, at + 28) as u64;
         c.length[i] = expanded_length(file, at, &c.settings.factors);
         c.mark[i] = u32_at(file, at + 40) as u64;
     }
 }
 
-fn read_stations(c: &mut Columns, file: &[u8]) {
+fn read_stations(c: &Columns, s: &mut Stations, file: &[u8]) {
     for k in 0..c.stations {
         let at = 64 + 24 * c.nodes + 44 * c.circuits + 32 * k;
-        c.station_node[k] = place(file, 64, 24, c.nodes, name_at(file, at + 12));
-        c.plant[k] = u32_at(file, at + 24);
-        c.station_tec[k] = u32_at(file, at + 28) as u64;
+        s.node[k] = place(file, 64, 24, c.nodes, key_at(file, at + 12));
+        s.plant[k] = u32_at(file, at + 24);
+        s.tec[k] = u32_at(file, at + 28) as u64;
     }
 }
 
-fn add_tec(c: &mut Columns) {
+/// TEC by node v and plant type t at 7 v + t - 1, then through the types by node.
+fn add_tec(c: &mut Columns, s: &Stations) {
+    let mut by_type = [0; 1792];
     for k in 0..c.stations {
-        let (node, plant) = (c.station_node[k], c.plant[k]);
+        let (node, plant) = (s.node[k], s.plant[k]);
         if node < c.nodes && (1..=7).contains(&plant) {
-            c.by_type[7 * node + plant - 1] += c.station_tec[k];
+            by_type[7 * node + plant - 1] += s.tec[k];
         }
     }
     for cell in 0..1792 {
-        c.scaling[cell / 7] += c.by_type[cell];
-        c.paying[cell / 7] += c.by_type[cell];
+        c.scaling[cell / 7] += by_type[cell];
+        c.paying[cell / 7] += by_type[cell];
     }
 }

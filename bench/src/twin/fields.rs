@@ -26,25 +26,24 @@ pub fn name_formed(name: &Name) -> bool {
     letters >= 1 && name[letters..].iter().all(|byte| *byte == b' ')
 }
 
+/// A name as two numbers: its last eight bytes, where names of a table mostly differ, and its first four.
+pub fn key_at(file: &[u8], at: usize) -> (u64, u32) {
+    let name = name_at(file, at);
+    (u64::from_le_bytes(name[4..].try_into().unwrap()), u32::from_le_bytes(name[..4].try_into().unwrap()))
+}
+
 /// The lowest row whose name an earlier row has; the count of rows where there is none.
 pub fn repeated(file: &[u8], start: usize, stride: usize, count: usize) -> usize {
     for row in 0..count {
-        let later = name_at(file, start + stride * row);
-        for early in 0..row {
-            if name_at(file, start + stride * early) == later {
-                return row;
-            }
+        if place(file, start, stride, row, key_at(file, start + stride * row)) < row {
+            return row;
         }
     }
     count
 }
 
 /// The lowest row that has a name; the count of rows where there is none.
-pub fn place(file: &[u8], start: usize, stride: usize, count: usize, name: &Name) -> usize {
-    for row in 0..count {
-        if name_at(file, start + stride * row) == name {
-            return row;
-        }
-    }
-    count
+pub fn place(file: &[u8], start: usize, stride: usize, count: usize, name: (u64, u32)) -> usize {
+    let rows = file[start..start + stride * count].chunks_exact(stride);
+    rows.map(|row| key_at(row, 0)).position(|row| row == name).unwrap_or(count)
 }

@@ -1,46 +1,10 @@
-//! The text of a sheet: its length first, then its bytes.
+//! The text of a sheet, written aside and copied where it fits.
 
 use super::charges::{Figures, SideFigures, ZoneFigures};
-
-fn natural_len(n: u64) -> usize {
-    if n < 10 {
-        1
-    } else {
-        natural_len(n / 10) + 1
-    }
-}
-
-fn number_len(z: i64) -> usize {
-    natural_len(z.unsigned_abs()) + (z < 0) as usize
-}
 
 fn name_len(file: &[u8], from: usize) -> usize {
     let name = &file[from..from + 12];
     name.iter().position(|byte| *byte == b' ').unwrap_or(12)
-}
-
-fn zones_len(side: &SideFigures) -> usize {
-    let mut sum = 0;
-    for k in 0..side.zones {
-        let z = &side.zone[k];
-        sum += natural_len(k as u64 + 1);
-        sum += match z.weight {
-            0 => 5,
-            _ => [z.metres, z.after_c, z.tariff, side.residual, z.total].iter().map(|n| number_len(*n)).sum::<usize>() + 8,
-        };
-    }
-    sum
-}
-
-pub fn length(figures: &Figures, file: &[u8]) -> usize {
-    let mut sum = number_len(figures.c) + zones_len(&figures.generation) + zones_len(&figures.demand);
-    for v in 0..figures.nodes {
-        let l = &figures.local[v];
-        if l.tec > 0 {
-            sum += name_len(file, 64 + 24 * v) + number_len(l.metres) + number_len(l.tariff) + 5;
-        }
-    }
-    sum + number_len(figures.generation.remainder) + number_len(figures.demand.remainder) + 7
 }
 
 /// Where the next byte goes.
@@ -92,7 +56,20 @@ impl Writer<'_> {
     }
 }
 
+/// Room for any sheet.
+const ROOM: usize = 22851;
+
+/// The sheet's length; its bytes where the buffer holds them.
 pub fn write(figures: &Figures, file: &[u8], out: &mut [u8]) -> usize {
+    let mut aside = [0; ROOM];
+    let length = put(figures, file, &mut aside);
+    if length <= out.len() {
+        out[..length].copy_from_slice(&aside[..length]);
+    }
+    length
+}
+
+fn put(figures: &Figures, file: &[u8], out: &mut [u8]) -> usize {
     let mut writer = Writer { out, at: 0 };
     writer.bytes(b"C");
     writer.field(figures.c);

@@ -1,7 +1,7 @@
 //! The case file judged: refusals 1 to 7.
 
-use super::columns::{Columns, Settings};
-use super::fields::{name_at, name_formed, repeated, u32_at};
+use super::columns::{Columns, Settings, Stations};
+use super::fields::{key_at, name_at, name_formed, repeated, u32_at};
 use crate::answer::Answer;
 
 type Judged = Result<(), Answer>;
@@ -10,7 +10,9 @@ fn refuse(number: u64, row: usize) -> Judged {
     Err(Answer::refused(number, 0, row))
 }
 
-pub fn judge(file: &[u8], c: &Columns, runs: [usize; 3]) -> Judged {
+/// Circuits and stations are judged with what was read of them, and answered for in their turn.
+pub fn judge(file: &[u8], c: &Columns, s: &Stations, runs: [usize; 3]) -> Judged {
+    let (circuit, station) = (circuits(file, c), stations(file, c, s));
     if !c.whole || runs.iter().any(|run| *run != c.nodes + c.circuits) {
         return refuse(1, 0);
     }
@@ -18,8 +20,8 @@ pub fn judge(file: &[u8], c: &Columns, runs: [usize; 3]) -> Judged {
         return refuse(2, 0);
     }
     nodes(file, c)?;
-    circuits(file, c)?;
-    stations(file, c)?;
+    circuit?;
+    station?;
     reach(c)?;
     totals(c)
 }
@@ -58,7 +60,7 @@ fn sound_circuit(file: &[u8], at: usize, nodes: usize, first: usize, second: usi
         && name_formed(name_at(file, at + 12))
         && first < nodes
         && second < nodes
-        && name_at(file, at) != name_at(file, at + 12)
+        && key_at(file, at) != key_at(file, at + 12)
         && matches!(u32_at(file, at + 24), 132 | 275 | 400)
         && (1..=10_000).contains(&u32_at(file, at + 28))
         && u32_at(file, at + 32) <= 500_000
@@ -83,9 +85,9 @@ fn sound_station(file: &[u8], at: usize, nodes: usize, node: usize) -> bool {
         && u32_at(file, at + 28) <= 20_000_000
 }
 
-fn stations(file: &[u8], c: &Columns) -> Judged {
+fn stations(file: &[u8], c: &Columns, s: &Stations) -> Judged {
     let start = 64 + 24 * c.nodes + 44 * c.circuits;
-    let sound = |k: usize| sound_station(file, start + 32 * k, c.nodes, c.station_node[k]);
+    let sound = |k: usize| sound_station(file, start + 32 * k, c.nodes, s.node[k]);
     let unsound = (0..c.stations).find(|k| !sound(*k)).unwrap_or(c.stations);
     let row = unsound.min(repeated(file, start, 32, c.stations));
     if row < c.stations {
