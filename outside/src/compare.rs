@@ -121,7 +121,7 @@ impl Compare {
             self.started.elapsed().as_secs_f64()
         );
         rare.iter().for_each(|what| println!("too rare: {what}"));
-        Ok(self.differences == 0 && rare.is_empty())
+        Ok(self.library.end()? && self.differences == 0 && rare.is_empty())
     }
 
     /// The cases of the replay, with what they tell.

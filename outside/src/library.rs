@@ -58,6 +58,13 @@ impl Library {
         (0..count).map(|_| self.number()).collect()
     }
 
+    /// No more calls: whether the caller ended well.
+    pub fn end(self) -> Result<bool> {
+        let Library { mut child, to, .. } = self;
+        drop(to);
+        Ok(child.wait()?.success())
+    }
+
     /// How the caller ended, and a new one in its place.
     pub fn again(&mut self) -> Result<String> {
         let status = self.child.wait()?;

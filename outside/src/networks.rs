@@ -256,9 +256,10 @@ pub fn spread_tec(case: &mut Case, total: u64) -> bool {
     left == 0
 }
 
-/// On half of the cases a node of 201 to 400 kW behind a circuit without length: with a length its direction would be in doubt.
+/// On half of the cases a node of 200 to 401 kW behind a circuit of its own: idle at 200 and directed at 401; between them the
+/// circuit has no length, and with one its direction would be in doubt.
 fn add_spur(chance: &mut Chance, case: &mut Case) {
-    let demand = chance.of(&[201, 400, chance.0 % 200 + 201]) as u32;
+    let demand = chance.of(&[200, 401, 201, 400, chance.0 % 200 + 201]) as u32;
     let room =
         case.nodes.len() < 255 && case.circuits.len() < 512 && total_tec(case) >= total_demand(case) + demand as u64;
     if !room || chance.within(0, 1) == 0 {
@@ -267,12 +268,13 @@ fn add_spur(chance: &mut Chance, case: &mut Case) {
     let at = case.nodes[chance.within(0, case.nodes.len() as u64 - 1) as usize].name;
     let spur = padded(b"SPUR");
     let (first, second) = if chance.within(0, 1) == 0 { (at, spur) } else { (spur, at) };
+    let overhead = if demand == 200 || demand == 401 { 1_000 } else { 0 };
     let circuit = CircuitRow {
         first,
         second,
         voltage: 400,
-        x: chance.spread(1, 10_000).max(1),
-        overhead: 0,
+        x: chance.spread(1, 10_000),
+        overhead,
         cable: 0,
         mark: chance.within(0, 1) as u32,
     };

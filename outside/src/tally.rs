@@ -74,6 +74,7 @@ fn features(case: &Case, sheet: &[u8]) -> Vec<(String, bool)> {
     let mut add = |name: &str, met| list.push((format!("accepted with {name}"), met));
     add("a 275 kV circuit", circuits.iter().any(|(row, _)| row.voltage == 275));
     add("an idle circuit", circuits.iter().any(|(_, flow)| idle(**flow)));
+    add("an idle circuit of 200,000,000 mW", circuits.iter().any(|(_, flow)| flow.abs() == 200_000_000));
     add("a circuit backward", circuits.iter().any(|(_, flow)| !idle(**flow) && **flow < 0));
     add("a marked circuit that is not idle", circuits.iter().any(|(row, flow)| !idle(**flow) && row.mark == 1));
     add("a zone without kilowatts", sheet.windows(3).any(|bytes| bytes == b" -\n"));
