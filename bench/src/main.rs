@@ -149,7 +149,7 @@ fn growth() {
 fn main() {
     let seconds = std::env::args().nth(1).and_then(|word| word.parse().ok()).unwrap_or(10);
     let input = Input::of(&cases::greatest());
-    // A second word: only ours, a thousand calls a second, for a profiler.
+    // With a second word: ours alone, a thousand calls for each second, for a profiler.
     if std::env::args().nth(2).is_some() {
         let mut out = vec![0; 16384];
         (0..seconds * 1000).for_each(|_| {
