@@ -18,7 +18,7 @@ use Rattle.meaning.specs.Grid.{Grid, plantOf, scales, pays, place, tecAt, capac
 use Rattle.meaning.specs.declared.Kw.{Kw}
 use Rattle.meaning.specs.declared.Plant.{Plant}
 use Rattle.meaning.proofs.Rows.{rows-at, rows-past, rows-same, rows-set, rows-none}
-use Rattle.meaning.proofs.Says.{Says, says-as, _also_, says-eq, says-between}
+use Rattle.meaning.proofs.Says.{Says, says-as, _also_, says-eq, says-between, agree}
 use Rattle.layout.specs.Readable.{readable}
 use Rattle.meaning.specs.Columns.{kilowatts, numberAt, kwAt}
 use Rattle.columns.specs.Columns.{stationsOf}
@@ -28,15 +28,6 @@ use Rattle.columns.specs.declared.TecColumns.{TecColumns}
 use Rattle.layout.proofs.FileLaws.{is-true, says-lt}
 use Rattle.columns.proofs.ColumnAt.{station-node-at, plant-at, tec-at, by-type-at}
 use Rattle.layout.proofs.Rows.{station-row}
-
--- tests that say the same are the same
-same : {a b : Bool} {P : Type 0} → Says a P → Says b P → a ≡ b
-same {a} {b} s t = go a b (λ e. t .1 (s .0 e)) (λ e. s .1 (t .0 e))
-  where
-    go : (x y : Bool) → (x ≡ true → y ≡ true) → (y ≡ true → x ≡ true) → x ≡ y
-    go true y f g = sym (f refl)
-    go false true f g = g refl
-    go false false f g = refl
 
 -- ---- a cell
 pub record Cell (nodes v plantType : ℕ) : Type 0 where
@@ -68,7 +59,7 @@ module _ (nodes v t c : ℕ) (h : c < 1792) where
       go false k e = absurd (omega arith)
 
   pub cell-test : c / 7 < nodes → eqb (cellOf nodes v t) c ≡ (eqb v (c / 7) && eqb t (suc (c % 7)))
-  cell-test l = same (says-as says-eq (λ e. let b = cell-back e in (b .1, b .2), there)) (says-eq also says-eq)
+  cell-test l = agree _ _ (says-as says-eq (λ e. let b = cell-back e in (b .1, b .2), there)) (says-eq also says-eq)
     where
       there : (v ≡ c / 7) × (t ≡ suc (c % 7)) → cellOf nodes v t ≡ c
       there p = sym (cell-some nodes v t (record { known = omega (arith, p .0); least = omega (arith, p .1); most = omega (arith, p .1) })) ∙ omega (arith, p .0, p .1)

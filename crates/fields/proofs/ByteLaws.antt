@@ -10,7 +10,7 @@ use native.Mathlib.Omega.{arith}
 use borrow.Author.Tests.{ltb-true, ltb-false}
 use Rattle.meaning.specs.Name.{sameName}
 use Rattle.meaning.specs.File.{u32, u64, nameAt}
-use Rattle.meaning.proofs.Says.{Says, says-as, _also_, says-eq}
+use Rattle.meaning.proofs.Says.{Says, says-as, _also_, says-eq, agree}
 use Rattle.fields.specs.Field.{Field, Bytes}
 use Rattle.fields.specs.Rest.{rest}
 use Rattle.fields.proofs.NameLaws.{rest-cons, rest-none, rest-whole}
@@ -42,12 +42,6 @@ module _ (file : List ℕ) (at : ℕ) where
   little-name : little 0 12 ≡ u32 file at + 4294967296 * u64 file (at + 4)
   unfolding little u32 u64
   little-name = simp (add-zero, add-assoc) (omega arith)
-
--- two tests of one thing
-agree : (a b : Bool) {P : Type 0} → Says a P → Says b P → a ≡ b
-agree true b h k = sym (k .1 (h .0 refl))
-agree false true h k = h .1 (k .0 refl)
-agree false false h k = refl
 
 module _ (file : List ℕ) (a b : ℕ) (h : a + 12 ≤ length file) (i : b + 12 ≤ length file) where
   says-rest : Bytes file a 12 → Bytes file b 12 → (n k : ℕ) → k + n ≡ 12

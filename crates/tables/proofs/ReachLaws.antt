@@ -12,7 +12,7 @@ use Rattle.meaning.specs.Rows.{lowest}
 use Rattle.meaning.specs.Study.{circuit}
 use Rattle.meaning.specs.Grid.{gridOf, place}
 use Rattle.meaning.specs.Network.{Network, networkOf, Reached, here, ahead, back, marked, reachedNodes, reachStage}
-use Rattle.meaning.proofs.Says.{says-as}
+use Rattle.meaning.proofs.Says.{says-as, agree}
 use Rattle.meaning.proofs.Walk.{Placed, reached-is}
 use Rattle.meaning.proofs.Tables.{Rowwise, placed}
 use Rattle.meaning.proofs.Rows.{rows-at}
@@ -24,7 +24,6 @@ use Rattle.tables.specs.declared.read.Read.{Read}
 use Rattle.tables.specs.Reads.{Reads, endsOf}
 use Rattle.tables.specs.Walk.{endsNetwork, Walks}
 use Rattle.tables.proofs.ReadLaws.{reference-is}
-use Rattle.tables.proofs.WalkLaws.{agree}
 
 -- the same nodes, reference and ends
 record Same (N M : Network) : Type 0 where

@@ -1,8 +1,8 @@
 use native.Mathlib.Omega.{arith}
 use borrow.Author.Needs.{needs}
 use Rattle.fields.proofs.RowLaws.{row-low}
-use Rattle.fields.proofs.rows.row_at.Statement.{statement}
-use Rattle.fields.proofs.rows.row_at.Tie as tie
+use Rattle.fields.proofs.name_rows.row_at.Statement.{statement}
+use Rattle.fields.proofs.name_rows.row_at.Tie as tie
 
 mul-result : tie.Need-mul-result
 mul-result c = omega (arith, row-low {stride = c .args .stride} {i = c .args .i} (omega arith) (omega arith))
