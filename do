@@ -15,8 +15,9 @@ check) shift && exec rt check "$@" ;;                   # prove these crates and
 dev) shift && exec rt dev "$@" ;;                       # the edit loop on one crate, in seconds
 edits) shift && exec rt must-fail "$@" ;;               # try the must-fail edits of these crates
 library) exec clients/run ;;                            # the static library; build and run the C and Rust clients
-fuzz) exec outside/fuzz/run ;;                           # coverage-guided fuzzing of the library, FUZZ_SECONDS long
+fuzz) exec outside/fuzz/run ;;                          # coverage-guided fuzzing of the library, FUZZ_SECONDS long
 compare) shift && exec outside/run "$@" ;;              # library and program against the reference: short, or `compare long`; `--seed N`
+bench) shift && exec bench/run "$@" ;;                  # time the library beside a Rust twin and a textbook Rust
 fmt) exec rt fmt ;;                                     # lay every file out
 *) sed -n 's/^\([a-z]*\)).*# \(.*\)$/.\/do \1: \2/p' "$0" ;;
 esac

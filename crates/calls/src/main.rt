@@ -34,7 +34,7 @@ fn sevens(out: &[u8]) -> usize {
 // One call: what it answers, and how much of the buffer is as it was.
 fn call(file: &[u8], base: &[i64], wider: &[i64], local: &[i64], out: &mut [u8]) {
     let answer = sheet::write(file, base, wider, local, out);
-    let carried = tables::values(answer);
+    let carried = answers::values(answer);
     io::print_decimal(STDOUT_FILENO, carried.number as u64);
     io::write_all(STDOUT_FILENO, b" ");
     io::print_decimal(STDOUT_FILENO, carried.system as u64);

@@ -2,8 +2,7 @@
 use mathlib.Core.Path.{_≡_, refl, sym, _∙_, ap}
 use mathlib.Core.Bool.{Bool, true, false}
 use mathlib.Core.List.{List}
-use Prim.Native.Nat.{ℕ, _≤_}
-use lib.ListN.{length}
+use Prim.Native.Nat.{ℕ}
 use Rattle.meaning.specs.Answers.{stops}
 use Rattle.meaning.specs.Study.{Runs}
 use Rattle.meaning.specs.File.{studyOf}
@@ -13,16 +12,15 @@ use Rattle.meaning.specs.Proposal.{potential}
 use Rattle.meaning.proofs.Answers.{Passes}
 use Rattle.tables.specs.declared.Opened.{Opened}
 use Rattle.proposal.specs.Judges.{Judges}
-use Rattle.charges.specs.declared.figures.Figures.{Figures}
-use Rattle.charges.specs.declared.sides.MoneySettings.{MoneySettings}
-use Rattle.charges.specs.declared.zones.SideColumns.{SideColumns}
+use Rattle.meaning.specs.declared.Figures.{Figures}
 use Rattle.charges.specs.declared.Charged.{Charged}
 use Rattle.charges.specs.Sides.{figuresFrom, CaseFits}
-use Rattle.charges.specs.Case.{figuresOf, CaseOf}
+use Rattle.charges.specs.Case.{CaseOf}
 use Rattle.charges.specs.Inputs.{generationIn, demandIn, moneyIn}
-use Rattle.charges.specs.Charged.{noFigures, chargedOf}
+use Rattle.charges.specs.Charged.{chargedOf}
+use Rattle.steps.specs.Nothing.{noFigures}
 use Rattle.charges.proofs.OfCase.{case-is, case-fits}
-use Rattle.charges.proofs.OfFile.{runs-reach, case-of-file}
+use Rattle.charges.proofs.OfFile.{case-of-file}
 
 module _ (file : List ℕ) (runs : Runs) (o : Opened) (j : Judges file runs o) (told : Bool) (e : told ≡ stops (o .answer)) where
   told-judged : stops (judged file runs) ≡ told
@@ -32,21 +30,17 @@ module _ (file : List ℕ) (runs : Runs) (o : Opened) (j : Judges file runs o) (
   unfolding chargedOf
   stopped h ef = rw (j .answer, told-judged, h, ef) refl
 
-  module _ (h : told ≡ false) {g d : SideColumns} {s : MoneySettings} (eg : g ≡ generationIn (o .settings) (o .nodes) (o .tec))
-      (ed : d ≡ demandIn (o .settings) (o .nodes)) (em : s ≡ moneyIn (o .settings)) where
+  module _ (h : told ≡ false) where
     passes : Passes (judged file runs)
     passes = told-judged ∙ h
 
-    of-grid : CaseOf (gridOf (studyOf file)) runs g d (o .counts .nodes) s
-    of-grid = rw (eg, ed, em) (case-of-file file runs passes o j)
+    of-grid : CaseOf (gridOf (studyOf file)) runs (generationIn o) (demandIn o) (moneyIn o)
+    of-grid = case-of-file file runs passes o j
 
-    pub fitting : (o .counts .nodes ≤ length (runs .wider)) × (o .counts .nodes ≤ length (runs .local))
-        × CaseFits g d (o .counts .nodes) s (potential (runs .wider)) (potential (runs .local))
-    fitting =
-        let r = runs-reach file runs passes o j in
-        (r .0, r .1, case-fits (gridOf (studyOf file)) runs g d (o .counts .nodes) s of-grid)
+    pub fitting : CaseFits (generationIn o) (demandIn o) (moneyIn o) (runs .wider) (runs .local)
+    fitting = case-fits (gridOf (studyOf file)) runs (generationIn o) (demandIn o) (moneyIn o) of-grid
 
-    pub charged : {f : Figures} → f ≡ figuresFrom g d (o .counts .nodes) s (potential (runs .wider)) (potential (runs .local))
+    pub charged : {f : Figures} → f ≡ figuresFrom (generationIn o) (demandIn o) (moneyIn o) (potential (runs .wider)) (potential (runs .local))
         → _≡_ {A = Charged} (record { answer = o .answer; figures = f }) (chargedOf file runs)
     unfolding chargedOf
-    charged ef = rw (j .answer, passes, ef) (rw (case-is (gridOf (studyOf file)) runs g d (o .counts .nodes) s of-grid) refl)
+    charged ef = rw (j .answer, passes, ef) (rw (case-is (gridOf (studyOf file)) runs (generationIn o) (demandIn o) (moneyIn o) of-grid) refl)

@@ -12,8 +12,9 @@ use Rattle.integers.proofs.Laws.{abs-add, abs-sub, abs-neg, abs-mul-le}
 use Rattle.integers.proofs.Sum.{sum-part, sum-item, Σ-weighted}
 use Rattle.meaning.specs.declared.Side.{Side}
 use Rattle.meaning.specs.declared.Side.the-variants.{Generation, Demand}
-use Rattle.charges.specs.Sums.{turned}
-use Rattle.charges.specs.Steps.{shifted, shareOf, restFrom}
+use Rattle.steps.specs.Steps.{turned}
+use Rattle.charges.specs.Tariffs.{shifted}
+use Rattle.charges.specs.Rests.{shareOf, restFrom}
 
 pub abs-fits : (z : ℤ) → natAbs z ≤ 9000000000000000000 → SFits w64 z
 abs-fits z h = simp Z (omega (arith, simp Z at h))

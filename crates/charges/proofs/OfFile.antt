@@ -1,5 +1,5 @@
 -- The columns of a file that nothing stops are those of its grid: all that the figures ask of a case.
-use mathlib.Core.Path.{_≡_, ap}
+use mathlib.Core.Path.{_≡_, refl, ap}
 use mathlib.Core.List.{List}
 use Prim.Native.Nat.{ℕ, _≤_, _<_}
 use native.Mathlib.Omega.{arith}
@@ -18,20 +18,20 @@ use Rattle.meaning.proofs.Rows.{rows-at}
 use Rattle.meaning.proofs.Starts as starts
 use Rattle.sizes.proofs.Accepted.{solved-in-range}
 use Rattle.claims.proofs.Accepted.{judged-pass}
-use Rattle.columns.specs.declared.RowCounts.{RowCounts}
-use Rattle.columns.specs.declared.StudySettings.{StudySettings}
+use Rattle.layout.specs.declared.RowCounts.{RowCounts}
 use Rattle.columns.specs.declared.NodeColumns.{NodeColumns}
 use Rattle.columns.specs.declared.TecColumns.{TecColumns}
-use Rattle.columns.specs.Readable.{readable}
-use Rattle.columns.specs.Columns.{countsOf, settingsIn, nodesOf}
+use Rattle.layout.specs.Readable.{readable}
+use Rattle.layout.specs.Frame.{countsOf, settingsIn}
+use Rattle.columns.specs.Columns.{nodesOf}
 use Rattle.columns.specs.Tec.{tecOf}
-use Rattle.columns.proofs.Rows.{readable-whole}
+use Rattle.layout.proofs.Rows.{readable-whole}
 use Rattle.tables.specs.declared.Opened.{Opened}
 use Rattle.tables.proofs.Sound.{passes-whole}
 use Rattle.proposal.specs.Judges.{Judges}
-use Rattle.charges.specs.Columns.{kilowatts, numberAt, kwAt}
+use Rattle.meaning.specs.Columns.{kilowatts, numberAt, kwAt}
 use Rattle.charges.specs.Inputs.{generationIn, demandIn, moneyIn}
-use Rattle.charges.specs.Case.{SideOf, MoneyOf, CaseOf}
+use Rattle.charges.specs.Case.{moneyOf, SideOf, CaseOf}
 use Rattle.charges.proofs.OfTables.{case-of}
 
 -- row v of a column
@@ -42,35 +42,33 @@ kw-row : {column : List Kw} (f : ℕ → ℕ) (v : ℕ) → column ≡ rows 256 
 kw-row f v e h = rw e (ap (λ (k : Kw). k .0) (rows-at (kilowatts 0) 256 (λ i. kilowatts (f i)) v h))
 
 -- ---- the columns of a study
-module _ (S : Study) (few : length (S .nodes) ≤ 256) (s : StudySettings) (n : NodeColumns) (t : TecColumns)
-    (es : settingsIn s ≡ S .settings) (en : n ≡ nodesOf S) (et : t ≡ tecOf S) where
-  generation-of : SideOf (gridOf S) Generation (generationIn s n t)
+module _ (S : Study) (few : length (S .nodes) ≤ 256) (o : Opened) (ec : o .counts .nodes ≡ length (S .nodes))
+    (es : settingsIn (o .settings) ≡ S .settings) (en : o .nodes ≡ nodesOf S) (et : o .tec ≡ tecOf S) where
+  generation-of : SideOf (gridOf S) Generation (generationIn o)
   unfolding gridOf generationIn settingsIn nodesOf tecOf zones zoneOf weight paying
   generation-of = record {
+    which = refl;
+    nodes = ec;
     count = ap (λ (x : Settings). x .generationZones) es;
     inZone = λ v h. number-row _ v (ap (λ (x : NodeColumns). x .«generation_zone») en) (omega arith);
     weighs = λ v h. kw-row _ v (ap (λ (x : TecColumns). x .scaling) et) (omega arith);
     pays = λ v h. kw-row _ v (ap (λ (x : TecColumns). x .paying) et) (omega arith);
   }
 
-  demand-of : SideOf (gridOf S) Demand (demandIn s n)
+  demand-of : SideOf (gridOf S) Demand (demandIn o)
   unfolding gridOf demandIn settingsIn nodesOf zones zoneOf weight paying
   demand-of = record {
+    which = refl;
+    nodes = ec;
     count = ap (λ (x : Settings). x .demandZones) es;
     inZone = λ v h. number-row _ v (ap (λ (x : NodeColumns). x .«demand_zone») en) (omega arith);
     weighs = λ v h. kw-row _ v (ap (λ (x : NodeColumns). x .demand) en) (omega arith);
     pays = λ v h. kw-row _ v (ap (λ (x : NodeColumns). x .demand) en) (omega arith);
   }
 
-  money-of : MoneyOf (gridOf S) (moneyIn s)
-  unfolding gridOf moneyIn settingsIn
-  money-of = record {
-    p = ap (λ (x : Settings). x .p) es;
-    constant = ap (λ (x : Settings). x .constant) es;
-    widerFactor = ap (λ (x : Settings). x .widerFactor) es;
-    localFactor = ap (λ (x : Settings). x .localFactor) es;
-    revenue = ap (λ (x : Settings). x .revenue) es;
-  }
+  money-of : moneyIn o ≡ moneyOf (S .settings)
+  unfolding moneyIn settingsIn
+  money-of = ap moneyOf es
 
 -- ---- the columns of a file that nothing stops
 module _ (file : List ℕ) (runs : Runs) (p : Passes (judged file runs)) where
@@ -93,23 +91,20 @@ module _ (file : List ℕ) (runs : Runs) (p : Passes (judged file runs)) where
     unfolding countsOf
     node-count = ap (λ (c : RowCounts). c .nodes) (rw read at (j .counts))
 
-    -- a potential for each node
-    pub runs-reach : (o .counts .nodes ≤ length (runs .wider)) × (o .counts .nodes ≤ length (runs .local))
-    runs-reach =
-        let w = accepted .whole in
-        let e = starts.counts file runs w .0 in
-        let wider = w .solutions 5 (record { least = omega arith; most = omega arith }) in
-        let local = w .solutions 6 (record { least = omega arith; most = omega arith }) in
-        (omega (arith, node-count, e, wider, w .widerRun), omega (arith, node-count, e, local, w .localRun))
-
-    pub case-of-file : CaseOf (gridOf (studyOf file)) runs (generationIn (o .settings) (o .nodes) (o .tec)) (demandIn (o .settings) (o .nodes)) (o .counts .nodes) (moneyIn (o .settings))
+    pub case-of-file : CaseOf (gridOf (studyOf file)) runs (generationIn o) (demandIn o) (moneyIn o)
     case-of-file =
         let S = studyOf file in
         let es = rw read at (j .settings) in
         let en = rw read at (j .nodes) in
         let et = rw read at (j .tec) in
-        case-of S (accepted .tables) runs _ _ (o .counts .nodes) _ (solved-in-range S runs (accepted .solved)) node-count
-        (omega (arith, node-count, few-nodes))
-        (generation-of S few-nodes (o .settings) (o .nodes) (o .tec) es en et)
-        (demand-of S few-nodes (o .settings) (o .nodes) (o .tec) es en et)
-        (money-of S few-nodes (o .settings) (o .nodes) (o .tec) es en et)
+        let w = accepted .whole in
+        let e = starts.counts file runs w .0 in
+        let wider = w .solutions 5 (record { least = omega arith; most = omega arith }) in
+        let local = w .solutions 6 (record { least = omega arith; most = omega arith }) in
+        case-of S (accepted .tables) runs _ _ _ (solved-in-range S runs (accepted .solved))
+        few-nodes
+        (omega (arith, e, wider, w .widerRun))
+        (omega (arith, e, local, w .localRun))
+        (generation-of S few-nodes o node-count es en et)
+        (demand-of S few-nodes o node-count es en et)
+        (money-of S few-nodes o node-count es en et)

@@ -2,27 +2,14 @@
 use mathlib.Core.Bool.{cond}
 use mathlib.Core.List.{List}
 use Prim.Native.Nat.{ℕ}
-use lib.IntN.{pos}
-use lib.ListN.{replicate}
 use Rattle.meaning.specs.Study.{Runs}
 use Rattle.meaning.specs.File.{studyOf}
 use Rattle.meaning.specs.Grid.{gridOf}
 use Rattle.meaning.specs.Answers.{stops}
 use Rattle.meaning.specs.Outcome.{judged}
-use Rattle.charges.specs.declared.figures.SideFigures.{SideFigures}
-use Rattle.charges.specs.declared.figures.Figures.{Figures}
+use Rattle.steps.specs.Nothing.{noFigures}
 use Rattle.charges.specs.declared.Charged.{Charged}
-use Rattle.charges.specs.Columns.{distance, price}
-use Rattle.charges.specs.Steps.{noLocal}
-use Rattle.charges.specs.Sides.{noLine}
 use Rattle.charges.specs.Case.{figuresOf}
-
--- all zero: no zones, no nodes
-unfoldable pub noSide : SideFigures
-noSide = record { zones = 0; residual = price (pos 0); remainder = pos 0; zone = replicate 32 noLine }
-
-unfoldable pub noFigures : Figures
-noFigures = record { c = distance (pos 0); generation = noSide; demand = noSide; nodes = 0; local = replicate 256 noLocal }
 
 -- What stops a case, "Order", 1 to 11: what stops the case first, and then no figures; else the figures of steps 6 to 10
 unfoldable pub chargedOf : (file : List ℕ) → Runs → Charged

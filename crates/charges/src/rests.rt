@@ -4,8 +4,8 @@ use meaning::Side;
 ghost use mathlib.Core.Path.{_≡_};
 ghost use Prim.Native.Nat.{_≤_};
 ghost use lib.IntN.{natAbs, _+ℤ_};
-ghost use Rattle.meaning.specs.Figures.{residualOf, remainderOf};
-ghost use Rattle.charges.specs.Steps.{shareOf, restFrom};
+ghost use Rattle.meaning.specs.Figures.{remainderOf};
+ghost use Rattle.charges.specs.Rests.{shareOf, restFrom};
 
 // Step 10: the thousandths of the revenue that a side brings in.
 pub fn share_of(side: Side, p: u64) -> u64
@@ -25,13 +25,6 @@ pub fn rest_of(side: Side, p: u64, revenue: u64, income: i64, local_income: i64)
 {
     let target = revenue * share_of(side, p) * 1000;
     (target as i64) - income - local_income
-}
-
-// Step 10: what is left for each kilowatt, rounded down.
-pub fn residual_of(rest: i64, kw: Kw) -> MicroPerKw
-    ensures { λ r. ⌜ r .0 ≡ residualOf rest (kw .0) ⌝ }
-{
-    MicroPerKw(integers::floor_div(rest, kw.0))
 }
 
 // Step 10: what is left then.

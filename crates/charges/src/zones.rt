@@ -1,68 +1,83 @@
-use crate::distances::metres_by_zone;
-use crate::distances::times;
-use crate::kilowatts::kilowatts_by_zone;
-use crate::kilowatts::total_kilowatts;
+use crate::sums::SideColumns;
+use crate::sums::ZoneSums;
+use crate::sums::sums_by_zone;
+use crate::sums::times;
 use meaning::Kw;
 use meaning::Metres;
 use meaning::Side;
 ghost use mathlib.Core.Path.{_≡_};
 ghost use Prim.Native.Nat.{_≤_};
+ghost use lib.IntN.{natAbs};
 ghost use lib.ListN.{length};
 ghost use Rattle.meaning.specs.Proposal.{potential};
-ghost use Rattle.charges.specs.Steps.{zonesFrom, metresOver, ColumnsFit, ZonesFit};
+ghost use Rattle.charges.specs.Sums.{ColumnsFit};
+ghost use Rattle.charges.specs.Zones.{metresFrom, withZone, overFrom, zonesFrom, SumsFit, OverFits};
 
-// What a side's charges are made of: how many zones it has; each node's zone, the kilowatts that weigh and those that pay.
-pub struct SideColumns {
-    pub zones: usize,
-    pub zone: [usize; 256],
-    pub weight: [Kw; 256],
-    pub paying: [Kw; 256],
-}
-
-// Step 7 of a side: each zone's kilowatts and metres, and the kilowatts that pay in all.
-pub struct Zones {
-    pub count: usize,
-    pub weight: [Kw; 32],
-    pub paying: [Kw; 32],
-    pub metres: [Metres; 32],
+// Step 8: over the zones of a side, metres times the kilowatts that pay, and those kilowatts.
+pub struct Over {
+    pub metres: i64,
     pub total: Kw,
 }
 
-// The zones of a side.
-pub fn zones_of(side: Side, columns: SideColumns, wider: &[i64], nodes: usize) -> Zones
-    requires { ⌜ (nodes ≤ length (now wider)) × ColumnsFit side columns nodes (potential (now wider)) ⌝ }
-    ensures { λ r. ⌜ r ≡ zonesFrom side columns nodes (potential (now (wider .entry))) ⌝ }
+// Steps 7 and 8 of a side: the sums of each of its zones, and what they come to.
+pub struct Zones {
+    pub side: Side,
+    pub count: usize,
+    pub sums: [ZoneSums; 32],
+    pub over: Over,
+}
+
+// Step 7: zonal metres.
+pub fn metres_of(zone: ZoneSums) -> Metres
+    ensures { λ r. ⌜ r .0 ≡ metresFrom zone ⌝ }
 {
-    let count = columns.zones;
-    let of = columns.zone;
-    let weighing = columns.weight;
-    let payers = columns.paying;
-    let weight = kilowatts_by_zone(weighing, of, nodes, count);
-    let paying = kilowatts_by_zone(payers, of, nodes, count);
-    let metres = metres_by_zone(side, weighing, of, wider, nodes, count, weight);
-    let total = total_kilowatts(payers, nodes);
-    Zones {
-        count: count,
-        weight: weight,
-        paying: paying,
+    steps::average(zone.weighed, zone.weight)
+}
+
+// What zones come to with one zone more.
+pub fn with_zone(over: Over, zone: ZoneSums) -> Over
+    requires { ⌜ OverFits over × (natAbs (metresFrom zone) ≤ 10000000) × (zone .paying .0 ≤ 100000000) ⌝ }
+    ensures { λ r. ⌜ r ≡ withZone over zone ⌝ }
+{
+    let total = over.total;
+    let paying = zone.paying;
+    let metres = over.metres + times(metres_of(zone), paying);
+    let kw = total.0 + paying.0;
+    Over {
         metres: metres,
-        total: total,
+        total: Kw(kw),
     }
 }
 
-// Step 8: the zones' metres times the kilowatts that pay.
-pub fn metres_over_zones(zones: Zones) -> i64
-    requires { ⌜ ZonesFit zones ⌝ }
-    ensures { λ r. ⌜ r ≡ metresOver zones ⌝ }
+// Step 8: what zones 1 to count come to.
+pub fn over_zones(sums: [ZoneSums; 32], count: usize) -> Over
+    requires { ⌜ SumsFit sums count ⌝ }
+    ensures { λ r. ⌜ r ≡ overFrom sums count ⌝ }
 {
-    let metres = zones.metres;
-    let paying = zones.paying;
-    let count = zones.count;
-    let mut total: i64 = 0;
+    let mut over = Over {
+        metres: 0,
+        total: Kw(0),
+    };
     let mut k = 0;
     while k < count {
-        total += times(metres[k], paying[k]);
+        over = with_zone(over, sums[k]);
         k += 1;
     }
-    total
+    over
+}
+
+// The zones of a side.
+pub fn zones_of(columns: SideColumns, wider: &[i64]) -> Zones
+    requires { ⌜ ColumnsFit columns (potential (now wider)) × (columns .nodes ≤ length (now wider)) × SumsFit (zonesFrom columns (potential (now wider)) .sums) (columns .zones) ⌝ }
+    ensures { λ r. ⌜ r ≡ zonesFrom columns (potential (now (wider .entry))) ⌝ }
+{
+    let side = columns.side;
+    let sums = sums_by_zone(columns, wider);
+    let over = over_zones(sums, columns.zones);
+    Zones {
+        side: side,
+        count: columns.zones,
+        sums: sums,
+        over: over,
+    }
 }

@@ -15,9 +15,9 @@ use Rattle.meaning.proofs.Rows.{lowest-none}
 use Rattle.meaning.proofs.Starts as starts
 use Rattle.fields.specs.Search.{nameRow, firstNamed}
 use Rattle.fields.proofs.NameLaws.{name-long}
-use Rattle.columns.specs.Readable.{noStudy, readable}
-use Rattle.columns.proofs.FileLaws.{whole-file}
-use Rattle.columns.proofs.Rows.{either, node-row}
+use Rattle.layout.specs.Readable.{noStudy, readable}
+use Rattle.layout.proofs.FileLaws.{whole-file}
+use Rattle.layout.proofs.Rows.{either, node-row}
 
 -- tests that agree find the same row
 pub lowest-same : (f g : ℕ → Bool) (n : ℕ) → ((i : ℕ) → i < n → f i ≡ g i) → lowest f n ≡ lowest g n

@@ -10,17 +10,17 @@ use Rattle.meaning.specs.File.{u32, nameAt, nodeAt, circuitAt, stationAt}
 use Rattle.meaning.specs.Grid.{place}
 use Rattle.meaning.specs.declared.Kw.{Kw}
 use Rattle.fields.specs.Search.{firstNamed}
-use Rattle.columns.specs.Readable.{readable}
-use Rattle.columns.specs.Column.{kilowatts, column}
+use Rattle.layout.specs.Readable.{readable}
+use Rattle.meaning.specs.Columns.{kilowatts, column}
 use Rattle.columns.specs.Lengths.{lengthIfInRange}
 use Rattle.columns.specs.Columns.{nodesOf, circuitsOf, stationsOf}
 use Rattle.columns.specs.declared.NodeColumns.{NodeColumns}
 use Rattle.columns.specs.declared.CircuitColumns.{CircuitColumns}
 use Rattle.columns.specs.declared.StationColumns.{StationColumns}
-use Rattle.columns.proofs.ColumnLaws.{column-table}
+use Rattle.meaning.proofs.Columns.{column-table}
 use Rattle.columns.proofs.LengthLaws.{length-none}
 use Rattle.columns.proofs.PlaceLaws.{place-read, place-none}
-use Rattle.columns.proofs.Rows.{node-row, circuit-row, station-row}
+use Rattle.layout.proofs.Rows.{node-row, circuit-row, station-row}
 
 module _ (file : List ℕ) where
   abbrev S : Study

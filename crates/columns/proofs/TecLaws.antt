@@ -7,37 +7,27 @@ use Prim.Native.Nat.{ℕ, suc, _+_, _*_, _-_, _/_, _%_, _^_, _≤_, _<_, min}
 use native.Mathlib.Decide.{decLt}
 use native.Mathlib.Omega.{arith}
 use borrow.Author.Tests.{eq-eqb, ne-eqb}
-use lib.Dec.{eqb, ltb}
+use lib.Dec.{eqb, leb, ltb}
 use lib.ListN.{length, getD, set, replicate, List·getD-eq-default}
 use Rattle.integers.specs.Numbers.{sum}
 use Rattle.integers.proofs.Sum.{sum-zero, sum-suc, sum-more, sum-same, sum-bound, sum-none}
 use Rattle.meaning.specs.Rows.{_between_and_, rows}
-use Rattle.meaning.specs.Study.{Study, Station, node, station, noNode, noStation}
-use Rattle.meaning.specs.File.{u32, nodeAt, stationAt}
-use Rattle.meaning.specs.Grid.{Grid, plantOf, scales, pays, place, tecAt, capacityOf, gridOf, nodeTec, payingTec, tecOf as tecOfTest}
+use Rattle.meaning.specs.Study.{Study, Station, station, noStation}
+use Rattle.meaning.specs.File.{u32, stationAt}
+use Rattle.meaning.specs.Grid.{Grid, plantOf, scales, pays, place, tecAt, capacityOf, gridOf, tecOf as tecOfTest}
 use Rattle.meaning.specs.declared.Kw.{Kw}
 use Rattle.meaning.specs.declared.Plant.{Plant}
-use Rattle.meaning.proofs.Rows.{rows-at, rows-past, rows-same}
-use Rattle.meaning.proofs.Says.{Says, says-as, _also_, says-eq, says-between}
-use Rattle.columns.specs.Readable.{readable}
-use Rattle.columns.specs.Column.{kilowatts}
+use Rattle.meaning.proofs.Rows.{rows-at, rows-past, rows-same, rows-set, rows-none}
+use Rattle.meaning.proofs.Says.{Says, says-as, _also_, says-eq, says-between, agree}
+use Rattle.layout.specs.Readable.{readable}
+use Rattle.meaning.specs.Columns.{kilowatts, numberAt, kwAt}
 use Rattle.columns.specs.Columns.{stationsOf}
-use Rattle.columns.specs.Tec.{numberAt, kwAt, cellOf, cellTec, typesTec, tecIn, tecOf}
+use Rattle.columns.specs.Tec.{cellOf, cellTec, typesTec, tecIn, tecOf, typesOf}
 use Rattle.columns.specs.declared.StationColumns.{StationColumns}
 use Rattle.columns.specs.declared.TecColumns.{TecColumns}
-use Rattle.columns.proofs.FileLaws.{is-true, is-false, says-lt}
-use Rattle.columns.proofs.ColumnLaws.{rows-set, rows-none}
+use Rattle.layout.proofs.FileLaws.{is-true, says-lt}
 use Rattle.columns.proofs.ColumnAt.{station-node-at, plant-at, tec-at, by-type-at}
-use Rattle.columns.proofs.Rows.{stations-few, node-row, station-row}
-
--- tests that say the same are the same
-same : {a b : Bool} {P : Type 0} → Says a P → Says b P → a ≡ b
-same {a} {b} s t = go a b (λ e. t .1 (s .0 e)) (λ e. s .1 (t .0 e))
-  where
-    go : (x y : Bool) → (x ≡ true → y ≡ true) → (y ≡ true → x ≡ true) → x ≡ y
-    go true y f g = sym (f refl)
-    go false true f g = g refl
-    go false false f g = refl
+use Rattle.layout.proofs.Rows.{station-row}
 
 -- ---- a cell
 pub record Cell (nodes v plantType : ℕ) : Type 0 where
@@ -50,11 +40,11 @@ says-cell nodes v t =
     says-as (says-lt also says-between)
     (λ p. record { known = p .0; least = p .1 .least; most = p .1 .most }, λ c. (c .known, record { least = c .least; most = c .most }))
 
-pub cell-none : (nodes v plantType : ℕ) → (Cell nodes v plantType → ⊥) → 1792 ≡ cellOf nodes v plantType
-unfolding cellOf
-cell-none nodes v t n = rw (sym (is-false (says-cell nodes v t) n)) refl
+pub cell-known : (nodes v plantType : ℕ) → (ltb v nodes && (leb 1 plantType && leb plantType 7)) ≡ true → Cell nodes v plantType
+unfolding _between_and_
+cell-known nodes v t = says-cell nodes v t .0
 
-pub cell-some : (nodes v plantType : ℕ) → Cell nodes v plantType → 7 * v + plantType - 1 ≡ cellOf nodes v plantType
+cell-some : (nodes v plantType : ℕ) → Cell nodes v plantType → 7 * v + plantType - 1 ≡ cellOf nodes v plantType
 unfolding cellOf
 cell-some nodes v t c = rw (sym (is-true (says-cell nodes v t) c)) refl
 
@@ -69,7 +59,7 @@ module _ (nodes v t c : ℕ) (h : c < 1792) where
       go false k e = absurd (omega arith)
 
   pub cell-test : c / 7 < nodes → eqb (cellOf nodes v t) c ≡ (eqb v (c / 7) && eqb t (suc (c % 7)))
-  cell-test l = same (says-as says-eq (λ e. let b = cell-back e in (b .1, b .2), there)) (says-eq also says-eq)
+  cell-test l = agree _ _ (says-as says-eq (λ e. let b = cell-back e in (b .1, b .2), there)) (says-eq also says-eq)
     where
       there : (v ≡ c / 7) × (t ≡ suc (c % 7)) → cellOf nodes v t ≡ c
       there p = sym (cell-some nodes v t (record { known = omega (arith, p .0); least = omega (arith, p .1); most = omega (arith, p .1) })) ∙ omega (arith, p .0, p .1)
@@ -172,15 +162,15 @@ module _ (test : Plant → Bool) (by : List Kw) where
         → kwAt sums (c / 7) + w < 2 ^ 64
     types-fit l w q = omega (arith, types-here, types-low l (c % 7) (c / 7), part-low (test (plantOf (c % 7 + 1))) (kwAt by c) (l c))
 
-  types-done : {sums : List Kw} → sums ≡ typeSums 1792 → sums ≡ rows 256 (λ v. kilowatts (typesTec test by 7 v))
-  types-done e = e ∙ rows-same 256 _ _ (λ v l. let m : min 7 (1792 - 7 * v) ≡ 7 = omega arith in rw m refl)
+  pub types-done : {sums : List Kw} (c : ℕ) → sums ≡ typeSums c → c ≤ 1792 → 1792 ≤ c → sums ≡ rows 256 (λ v. kilowatts (typesTec test by 7 v))
+  types-done c e h l =
+      let q : c ≡ 1792 = omega arith in
+      (rw q at e) ∙ rows-same 256 _ _ (λ v l. let m : min 7 (1792 - 7 * v) ≡ 7 = omega arith in rw m refl)
 
-pub types-are : (by s p : List Kw) (c : ℕ) → s ≡ typeSums scales by c → p ≡ typeSums pays by c → c ≤ 1792 → 1792 ≤ c
-    → record { «by_type» = by; scaling = s; paying = p } ≡ tecIn by
+pub types-are : (by s p : List Kw) → s ≡ rows 256 (λ v. kilowatts (typesTec scales by 7 v)) → p ≡ rows 256 (λ v. kilowatts (typesTec pays by 7 v))
+    → record { scaling = s; paying = p } ≡ tecIn by
 unfolding tecIn
-types-are by s p c e f h l =
-    let q : c ≡ 1792 = omega arith in
-    rw (types-done scales by (rw q at e), types-done pays by (rw q at f)) refl
+types-are by s p e f = rw (e, f) refl
 
 -- ---- of a study
 module _ (S : Study) where
@@ -222,14 +212,14 @@ module _ (S : Study) where
           ∙ sym (capacity-past (c / 7) (c % 7) (omega arith))
 
   pub by-type-is : (nodes count : ℕ) (columns : StationColumns) (by : List Kw) → nodes ≡ length (S .nodes) → count ≡ length (S .stations) → columns ≡ C
-      → count ≤ 512 → by ≡ cells nodes (columns .node) (columns .plant) (columns .tec) count → by ≡ tecOf S .«by_type»
-  unfolding tecOf
+      → count ≤ 512 → by ≡ cells nodes (columns .node) (columns .plant) (columns .tec) count → by ≡ typesOf S
+  unfolding typesOf
   by-type-is nodes count columns by n k e few q =
       q ∙ rw (n, k, e) (rows-same 1792 _ _ (λ c l. ap kilowatts (cell-is c (omega arith) l)))
 
   -- the TEC of a node through its types
-  types-is : (test : Plant → Bool) (by : List Kw) → by ≡ tecOf S .«by_type» → (v : ℕ) → v < 256 → typesTec test by 7 v ≡ tecOfTest test (gridOf S) v
-  unfolding typesTec tecOf tecOfTest
+  types-is : (test : Plant → Bool) (by : List Kw) → by ≡ typesOf S → (v : ℕ) → v < 256 → typesTec test by 7 v ≡ tecOfTest test (gridOf S) v
+  unfolding typesTec tecOfTest
   types-is test by e v l = sum-same 7 _ _ (λ t m. ap (λ x. cond (test (plantOf (suc t))) x 0) (here t m))
     where
       here : (t : ℕ) → t < 7 → kwAt by (7 * v + t) ≡ capacity v t
@@ -238,42 +228,18 @@ module _ (S : Study) where
           let r : (7 * v + t) % 7 ≡ t = omega arith in
           rw e (by-type-at S (7 * v + t) (omega arith) ∙ rw (q, r) refl)
 
-  pub tec-is : (by : List Kw) → by ≡ tecOf S .«by_type» → tecIn by ≡ tecOf S
+  pub tec-is : (by : List Kw) → by ≡ typesOf S → tecIn by ≡ tecOf S
   unfolding tecIn tecOf
   tec-is by e =
-      rw (rows-same 256 _ _ (λ v l. ap kilowatts (types-is scales by e v l)), rows-same 256 _ _ (λ v l. ap kilowatts (types-is pays by e v l)), e) refl
+      rw (rows-same 256 _ _ (λ v l. ap kilowatts (types-is scales by e v l)), rows-same 256 _ _ (λ v l. ap kilowatts (types-is pays by e v l))) refl
 
-  -- a node's TEC is the sum of at most 512 u32 a plant type, whatever the test
-  module _ (few : length (S .stations) ≤ 512) (below : (k : ℕ) → station (S .stations) k .tec < 2 ^ 32) where
-    capacity-low : (v t : ℕ) → t < 7 → capacity v t ≤ 2199023255040
-    unfolding capacityOf tecAt
-    capacity-low v t h = go (decLt v (length (S .nodes)))
-      where
-        at-most : (b : Bool) (x : ℕ) → x < 2 ^ 32 → cond b x 0 ≤ 4294967295
-        at-most true x l = omega arith
-        at-most false x l = omega arith
-
-        go : Dec (v < length (S .nodes)) → capacity v t ≤ 2199023255040
-        go (yes l) =
-            omega (
-              arith,
-              capacity-at v t l h,
-              sum-bound 4294967295 (length (S .stations)) (λ k. tecAt (S .nodes) (station (S .stations) k) v (suc t))
-                  (λ k m. at-most (eqb (place (S .nodes) (station (S .stations) k .node)) v && eqb (station (S .stations) k .plantType) (suc t)) _ (below k)),
-            )
-        go (no l) = omega (arith, capacity-past v t (omega arith))
-
-    pub node-tec-low : (test : Plant → Bool) (v : ℕ) → tecOfTest test (gridOf S) v ≤ 15393162785280
-    unfolding tecOfTest
-    node-tec-low test v = sum-bound 2199023255040 7 _ (λ t l. part-low (test (plantOf (suc t))) (capacity v t) (capacity-low v t l))
-
--- ---- of a file: a demand and a station's TEC are u32
+-- ---- of a file: a station's TEC is a u32
 u32-below : (file : List ℕ) (at : ℕ) → ((i : ℕ) → getD file i 0 < 256) → u32 file at < 2 ^ 32
 unfolding u32
 u32-below file at h = omega (arith, h at, h (at + 1), h (at + 2), h (at + 3))
 
 module _ (file : List ℕ) (bytes : (i : ℕ) → getD file i 0 < 256) where
-  pub station-below : (k : ℕ) → station (readable file .stations) k .tec < 2 ^ 32
+  station-below : (k : ℕ) → station (readable file .stations) k .tec < 2 ^ 32
   unfolding stationAt
   station-below k = go (decLt k (length (readable file .stations)))
     where
@@ -282,20 +248,6 @@ module _ (file : List ℕ) (bytes : (i : ℕ) → getD file i 0 < 256) where
       go (no h) =
           let l : length (readable file .stations) ≤ k = omega arith in
           rw (List·getD-eq-default (readable file .stations) noStation l) (omega arith)
-
-  pub demand-below : (v : ℕ) → node (readable file .nodes) v .demand < 2 ^ 32
-  unfolding nodeAt
-  demand-below v = go (decLt v (length (readable file .nodes)))
-    where
-      go : Dec (v < length (readable file .nodes)) → node (readable file .nodes) v .demand < 2 ^ 32
-      go (yes h) = rw (node-row file v h) (u32-below file _ bytes)
-      go (no h) =
-          let l : length (readable file .nodes) ≤ v = omega arith in
-          rw (List·getD-eq-default (readable file .nodes) noNode l) (omega arith)
-
-  -- what scales or pays at a node, so that 256 of them fit 64 bits
-  pub node-tec-below : (test : Plant → Bool) (v : ℕ) → tecOfTest test (gridOf (readable file)) v ≤ 15393162785280
-  node-tec-below = node-tec-low (readable file) (stations-few file) station-below
 
   pub tec-below : {columns : StationColumns} → columns ≡ stationsOf (readable file) → (k : ℕ) → kwAt (columns .tec) k < 2 ^ 32
   unfolding stationsOf

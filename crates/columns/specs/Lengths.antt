@@ -1,6 +1,6 @@
 -- 01, step 4: expanded lengths that fit 64 bits whatever a file says.
 use mathlib.Core.Bool.{Bool, cond, _&&_}
-use Prim.Native.Nat.{ℕ}
+use Prim.Native.Nat.{ℕ, _+_, _*_}
 use lib.Dec.{leb}
 use Rattle.meaning.specs.Study.{Settings, Circuit}
 use Rattle.meaning.specs.Direction.{overheadFactor, cableFactor, expandedLength}
@@ -13,3 +13,7 @@ lengthInRange s c =
 -- the expanded length in mm; 0 where a length or a factor is above its range
 unfoldable pub lengthIfInRange : Settings → Circuit → ℕ
 lengthIfInRange s c = cond (lengthInRange s c) (expandedLength s c) 0
+
+-- the same, from the two lengths and their factors
+abbrev pub sized : (overhead over cable under : ℕ) → ℕ
+sized overhead over cable under = cond (leb overhead 500000 && leb cable 500000 && leb over 30000 && leb under 30000) (overhead * over + cable * under) 0

@@ -1,5 +1,4 @@
--- What the contracts of `columns` cite beside `meaning`.
-pub mod Readable
+-- What the contracts of `columns` cite beside `meaning` and `layout`.
 pub mod Column
 pub mod Lengths
 pub mod Columns

@@ -6,19 +6,12 @@ use lib.Dec.{eqb, ltb}
 use lib.ListN.{getD}
 use Rattle.integers.specs.Numbers.{sum}
 use Rattle.meaning.specs.Rows.{_between_and_, rows}
+use Rattle.meaning.specs.Columns.{kilowatts, numberAt, kwAt}
 use Rattle.meaning.specs.Study.{Study}
 use Rattle.meaning.specs.Grid.{Grid, plantOf, scales, pays, gridOf, nodeTec, payingTec}
 use Rattle.meaning.specs.declared.Kw.{Kw}
 use Rattle.meaning.specs.declared.Plant.{Plant}
-use Rattle.columns.specs.Column.{kilowatts}
 use Rattle.columns.specs.declared.TecColumns.{TecColumns}
-
--- number i of a column
-abbrev pub numberAt : List ℕ → ℕ → ℕ
-numberAt numbers i = getD numbers i 0
-
-abbrev pub kwAt : List Kw → ℕ → ℕ
-kwAt kws i = getD kws i (kilowatts 0) .0
 
 -- seven cells a node, one a plant type; 1,792, which is no cell, where there is no such node or type
 unfoldable pub cellOf : (nodes v plantType : ℕ) → ℕ
@@ -33,20 +26,26 @@ cellTec nodes node plant tec stations cell =
 unfoldable pub typesTec : (Plant → Bool) → (byType : List Kw) (types v : ℕ) → ℕ
 typesTec test byType types v = sum types (λ t. cond (test (plantOf (suc t))) (kwAt byType (7 * v + t)) 0)
 
+-- the test of what pays, and of what scales
+abbrev pub added : (paying : Bool) → Plant → Bool
+added paying plant = cond paying (pays plant) (scales plant)
+
 -- what scales and what pays by node, from the TEC by node and plant type
 unfoldable pub tecIn : (byType : List Kw) → TecColumns
 tecIn byType =
     record {
-      «by_type» = byType;
       scaling = rows 256 (λ v. kilowatts (typesTec scales byType 7 v));
       paying = rows 256 (λ v. kilowatts (typesTec pays byType 7 v));
     }
 
--- by node and plant type at 7 v + type − 1; what scales and what pays by node; 0 past the last node
+-- TEC by node and plant type at 7 v + type − 1; 0 past the last node
+unfoldable pub typesOf : Study → List Kw
+typesOf S = rows 1792 (λ c. kilowatts (getD (getD (gridOf S .capacity) (c / 7) []) (c % 7) 0))
+
+-- what scales and what pays by node; 0 past the last node
 unfoldable pub tecOf : Study → TecColumns
 tecOf S =
     record {
-      «by_type» = rows 1792 (λ c. kilowatts (getD (getD (gridOf S .capacity) (c / 7) []) (c % 7) 0));
       scaling = rows 256 (λ v. kilowatts (nodeTec (gridOf S) v));
       paying = rows 256 (λ v. kilowatts (payingTec (gridOf S) v));
     }

@@ -1,11 +1,11 @@
 // 01, step 4: the expanded length of a circuit, by voltage.
-use crate::StudySettings;
+use layout::StudySettings;
 ghost use mathlib.Core.Path.{_≡_};
 ghost use Prim.Native.Nat.{_≤_};
 ghost use Rattle.meaning.specs.File.{circuitAt};
 ghost use Rattle.meaning.specs.Direction.{overheadFactor, cableFactor};
-ghost use Rattle.columns.specs.Lengths.{lengthIfInRange};
-ghost use Rattle.columns.specs.Columns.{settingsIn};
+ghost use Rattle.columns.specs.Lengths.{sized, lengthIfInRange};
+ghost use Rattle.layout.specs.Frame.{settingsIn};
 
 // The factor of overhead line; a voltage that no sound row has takes that of 132 kV.
 pub fn overhead_factor(factors: StudySettings, voltage: usize) -> usize
@@ -29,7 +29,17 @@ pub fn cable_factor(factors: StudySettings, voltage: usize) -> usize
     }
 }
 
-// The expanded length in mm of the circuit at a place.
+// The expanded length in mm of two lengths by their factors; 0 where one is above its range.
+pub fn sized(overhead: usize, over: usize, cable: usize, under: usize) -> u64
+    ensures { λ r. ⌜ r ≡ sized overhead over cable under ⌝ }
+{
+    if (overhead <= 500_000) & (cable <= 500_000) & (over <= 30_000) & (under <= 30_000) {
+        return (overhead * over + cable * under) as u64;
+    }
+    0
+}
+
+// The expanded length of the circuit at a place.
 pub fn length_at(file: &[u8], at: usize, factors: StudySettings) -> u64
     requires { ⌜ at ≤ 131072 ⌝ }
     ensures { λ r. ⌜ r ≡ lengthIfInRange (settingsIn factors) (circuitAt (now (file .entry)) at) ⌝ }
@@ -39,17 +49,5 @@ pub fn length_at(file: &[u8], at: usize, factors: StudySettings) -> u64
     let cable = fields::u32_at(file, at + 36);
     let over = overhead_factor(factors, voltage);
     let under = cable_factor(factors, voltage);
-    if overhead > 500_000 {
-        return 0;
-    }
-    if cable > 500_000 {
-        return 0;
-    }
-    if over > 30_000 {
-        return 0;
-    }
-    if under > 30_000 {
-        return 0;
-    }
-    (overhead * over + cable * under) as u64
+    sized(overhead, over, cable, under)
 }

@@ -1,43 +1,15 @@
 // What later steps need of a case file's tables, read once. Every slice has its answer: a file that is not whole reads as one without rows.
 mod fill;
 mod lengths;
-mod section;
 mod tec;
-mod trailer;
 
 use meaning::Kw;
 use meaning::Plant;
 ghost use mathlib.Core.Path.{_≡_};
-ghost use Rattle.meaning.specs.File.{fileWhole};
-ghost use Rattle.columns.specs.Readable.{readable};
-ghost use Rattle.columns.specs.Columns.{countsOf, settingsIn, nodesOf, circuitsOf, stationsOf};
+ghost use Rattle.layout.specs.Readable.{readable};
+ghost use Rattle.columns.specs.Columns.{nodesOf, circuitsOf, stationsOf};
 ghost use Rattle.columns.specs.Tec.{tecOf};
 ghost use Rattle.meaning.specs.Grid.{plantOf, scales as scalesIn, pays as paysIn};
-
-// Rows of each table.
-pub struct RowCounts {
-    pub nodes: usize,
-    pub circuits: usize,
-    pub stations: usize,
-}
-
-// 01, The case file: the settings, in its order.
-pub struct StudySettings {
-    pub generation_zones: usize,
-    pub demand_zones: usize,
-    pub p: usize,
-    pub constant: usize,
-    pub wider_factor: usize,
-    pub local_factor: usize,
-    pub overhead400: usize,
-    pub cable400: usize,
-    pub overhead275: usize,
-    pub cable275: usize,
-    pub overhead132: usize,
-    pub cable132: usize,
-    pub reference: usize,
-    pub revenue: u64,
-}
 
 // Zones and demand of each node.
 pub struct NodeColumns {
@@ -62,9 +34,8 @@ pub struct StationColumns {
     pub tec: [Kw; 512],
 }
 
-// TEC by node v and plant type t at 7 v + t - 1; by node, what scales and weighs and what pays.
+// TEC by node: what scales and weighs, and what pays.
 pub struct TecColumns {
-    pub by_type: [Kw; 1792],
     pub scaling: [Kw; 256],
     pub paying: [Kw; 256],
 }
@@ -75,64 +46,15 @@ pub struct CapacityColumns {
     pub tec: TecColumns,
 }
 
-// Whether the file is not refused as 1: length, version, counts, chain, the settings' zero.
-pub fn whole(file: &[u8]) -> bool
-    ensures { λ r. ⌜ r ≡ fileWhole (now (file .entry)) ⌝ }
-{
-    if file.len() < 128 {
-        return false;
-    }
-    if trailer::word(file, 14) != 1 {
-        return false;
-    }
-    if trailer::word(file, 15) != file.len() {
-        return false;
-    }
-    if trailer::counted(file) {
-        if trailer::chained(file) {
-            if fields::u32_at(file, 52) != 0 {
-                return false;
-            }
-            return true;
-        }
-        return false;
-    }
-    false
-}
-
-// The counts of the tables, from the trailer.
-pub fn counts(file: &[u8]) -> RowCounts
-    ensures { λ r. ⌜ r ≡ countsOf (readable (now (file .entry))) ⌝ }
-{
-    if whole(file) {
-        return trailer::row_counts(file);
-    }
-    RowCounts {
-        nodes: 0,
-        circuits: 0,
-        stations: 0,
-    }
-}
-
-// The settings.
-pub fn settings(file: &[u8]) -> StudySettings
-    ensures { λ r. ⌜ settingsIn r ≡ readable (now (file .entry)) .settings ⌝ }
-{
-    if whole(file) {
-        return section::settings(file);
-    }
-    section::no_settings()
-}
-
 // The columns of the nodes.
 pub fn nodes(file: &[u8]) -> NodeColumns
     ensures { λ r. ⌜ r ≡ nodesOf (readable (now (file .entry))) ⌝ }
 {
-    let rows = counts(file);
+    let rows = layout::counts(file);
     let count = rows.nodes;
-    let generation_zone = fill::numbers_256(file, 76, 24, count);
-    let demand_zone = fill::numbers_256(file, 80, 24, count);
-    let demand = fill::kilowatts_256(file, 84, 24, count);
+    let generation_zone = fill::of_nodes(file, 76, count);
+    let demand_zone = fill::of_nodes(file, 80, count);
+    let demand = fill::demands(file, count);
     NodeColumns {
         generation_zone,
         demand_zone,
@@ -144,16 +66,16 @@ pub fn nodes(file: &[u8]) -> NodeColumns
 pub fn circuits(file: &[u8]) -> CircuitColumns
     ensures { λ r. ⌜ r ≡ circuitsOf (readable (now (file .entry))) ⌝ }
 {
-    let rows = counts(file);
+    let rows = layout::counts(file);
     let nodes = rows.nodes;
     let count = rows.circuits;
-    let factors = settings(file);
+    let factors = layout::settings(file);
     let start = 64 + 24 * nodes;
-    let first = fill::places_512(file, start, 44, count, nodes);
-    let second = fill::places_512(file, start + 12, 44, count, nodes);
-    let x = fill::words_512(file, start + 28, 44, count);
-    let length = fill::lengths_512(file, start, count, factors);
-    let mark = fill::words_512(file, start + 40, 44, count);
+    let first = fill::places(file, start, 44, count, nodes);
+    let second = fill::places(file, start + 12, 44, count, nodes);
+    let x = fill::of_circuits(file, start + 28, count);
+    let length = fill::lengths(file, start, count, factors);
+    let mark = fill::of_circuits(file, start + 40, count);
     CircuitColumns {
         first,
         second,
@@ -167,13 +89,13 @@ pub fn circuits(file: &[u8]) -> CircuitColumns
 pub fn stations(file: &[u8]) -> StationColumns
     ensures { λ r. ⌜ r ≡ stationsOf (readable (now (file .entry))) ⌝ }
 {
-    let rows = counts(file);
+    let rows = layout::counts(file);
     let nodes = rows.nodes;
     let count = rows.stations;
     let start = 64 + 24 * nodes + 44 * rows.circuits;
-    let node = fill::places_512(file, start + 12, 32, count, nodes);
-    let plant = fill::numbers_512(file, start + 24, 32, count);
-    let tec = fill::kilowatts_512(file, start + 28, 32, count);
+    let node = fill::places(file, start + 12, 32, count, nodes);
+    let plant = fill::plants(file, start + 24, count);
+    let tec = fill::tecs(file, start + 28, count);
     StationColumns { node, plant, tec }
 }
 
@@ -226,7 +148,7 @@ pub fn pays(plant: Plant) -> bool
 pub fn capacity(file: &[u8]) -> CapacityColumns
     ensures { λ r. ⌜ (r .stations ≡ stationsOf (readable (now (file .entry)))) × (r .tec ≡ tecOf (readable (now (file .entry)))) ⌝ }
 {
-    let rows = counts(file);
+    let rows = layout::counts(file);
     let columns = stations(file);
     let by_type = tec::by_type(columns, rows.nodes, rows.stations);
     let sums = tec::by_node(by_type);

@@ -2,30 +2,23 @@
 use crate::StationColumns;
 use crate::TecColumns;
 use meaning::Kw;
-use meaning::Plant;
 ghost use mathlib.Core.Path.{_≡_};
 ghost use mathlib.Core.Bool.{cond};
-ghost use Prim.Native.Nat.{ℕ, _≤_, _<_, _^_};
+ghost use Prim.Native.Nat.{ℕ, _+_, _%_, _≤_, _<_, _^_};
 ghost use Rattle.meaning.specs.Rows.{rows};
-ghost use Rattle.meaning.specs.Grid.{scales, pays};
-ghost use Rattle.columns.specs.Column.{kilowatts};
-ghost use Rattle.columns.specs.Tec.{kwAt, cellOf, cellTec, tecIn};
+ghost use Rattle.meaning.specs.Grid.{plantOf};
+ghost use Rattle.meaning.specs.Columns.{kilowatts, kwAt};
+ghost use Rattle.columns.specs.Tec.{cellOf, cellTec, added, typesTec, tecIn};
 
 // The cell of a node and a plant type.
 pub fn cell_of(nodes: usize, node: usize, plant: usize) -> usize
     requires { ⌜ nodes ≤ 256 ⌝ }
     ensures { λ r. ⌜ r ≡ cellOf nodes node plant ⌝ }
 {
-    if node >= nodes {
-        return 1792;
+    if (node < nodes) & ((1 <= plant) & (plant <= 7)) {
+        return 7 * node + plant - 1;
     }
-    if plant < 1 {
-        return 1792;
-    }
-    if plant > 7 {
-        return 1792;
-    }
-    7 * node + plant - 1
+    1792
 }
 
 // TEC by node and plant type, in one pass over the stations.
@@ -33,66 +26,62 @@ pub fn by_type(stations: StationColumns, nodes: usize, count: usize) -> [Kw; 179
     requires { ⌜ (nodes ≤ 256) × (count ≤ 512) × ((k : ℕ) → kwAt (stations .tec) k < 2 ^ 32) ⌝ }
     ensures { λ r. ⌜ r ≡ rows 1792 (λ c. kilowatts (cellTec nodes (stations .node) (stations .plant) (stations .tec) count c)) ⌝ }
 {
-    let node = stations.node;
-    let plant = stations.plant;
     let tec = stations.tec;
     let mut sums = [Kw(0); 1792];
     let mut k = 0;
     while k < count {
-        let cell = cell_of(nodes, node[k], plant[k]);
-        let more = tec[k];
+        let cell = cell_of(nodes, stations.node[k], stations.plant[k]);
+        let more = tec[k].0;
         k += 1;
         if cell < 1792 {
-            let sum = sums[cell];
-            sums[cell] = Kw(sum.0 + more.0);
+            sums[cell].0 += more;
         }
     }
     sums
 }
 
-// A plant type's TEC, if it scales.
-pub fn if_scales(plant: Plant, tec: Kw) -> Kw
-    ensures { λ r. ⌜ r .0 ≡ cond (scales plant) (tec .0) 0 ⌝ }
+// Whether a cell's TEC is added up: if its plant type pays, or if it scales.
+pub fn is_added(paying: bool, cell: usize) -> bool
+    ensures { λ r. ⌜ r ≡ added paying (plantOf (cell % 7 + 1)) ⌝ }
 {
-    if crate::scales(plant) {
+    let plant = crate::plant_of(cell % 7 + 1);
+    if paying {
+        return crate::pays(plant);
+    }
+    crate::scales(plant)
+}
+
+// What is added up of a cell's TEC.
+pub fn part(paying: bool, cell: usize, tec: Kw) -> Kw
+    ensures { λ r. ⌜ r .0 ≡ cond (added paying (plantOf (cell % 7 + 1))) (tec .0) 0 ⌝ }
+{
+    if is_added(paying, cell) {
         return tec;
     }
     Kw(0)
 }
 
-// A plant type's TEC, if it pays.
-pub fn if_pays(plant: Plant, tec: Kw) -> Kw
-    ensures { λ r. ⌜ r .0 ≡ cond (pays plant) (tec .0) 0 ⌝ }
+// TEC by node: what pays, or what scales.
+pub fn sums_of(by_type: [Kw; 1792], paying: bool) -> [Kw; 256]
+    requires { ⌜ ((c : ℕ) → kwAt «by_type» c ≤ 2199023255040) ⌝ }
+    ensures { λ r. ⌜ r ≡ rows 256 (λ v. kilowatts (typesTec (added paying) «by_type» 7 v)) ⌝ }
 {
-    if crate::pays(plant) {
-        return tec;
+    let mut sums = [Kw(0); 256];
+    let mut cell = 0;
+    while cell < 1792 {
+        let more = part(paying, cell, by_type[cell]);
+        sums[cell / 7].0 += more.0;
+        cell += 1;
     }
-    Kw(0)
+    sums
 }
 
-// TEC by node: what scales, and what pays.
+// Both.
 pub fn by_node(by_type: [Kw; 1792]) -> TecColumns
     requires { ⌜ ((c : ℕ) → kwAt «by_type» c ≤ 2199023255040) ⌝ }
     ensures { λ r. ⌜ r ≡ tecIn «by_type» ⌝ }
 {
-    let mut scaling = [Kw(0); 256];
-    let mut paying = [Kw(0); 256];
-    let mut cell = 0;
-    while cell < 1792 {
-        let v = cell / 7;
-        let plant = crate::plant_of(cell % 7 + 1);
-        let tec = by_type[cell];
-        let scaled = if_scales(plant, tec);
-        let paid = if_pays(plant, tec);
-        let s = scaling[v];
-        let p = paying[v];
-        scaling[v] = Kw(s.0 + scaled.0);
-        paying[v] = Kw(p.0 + paid.0);
-        cell += 1;
-    }
-    TecColumns {
-        by_type,
-        scaling,
-        paying,
-    }
+    let scaling = sums_of(by_type, false);
+    let paying = sums_of(by_type, true);
+    TecColumns { scaling, paying }
 }

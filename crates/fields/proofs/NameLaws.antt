@@ -2,13 +2,13 @@
 use mathlib.Core.Path.{_≡_, refl, sym, ap, _∙_}
 use mathlib.Core.Bool.{Bool, true, false, cond, true≢false, _&&_, and-assoc}
 use mathlib.Core.List.{List, [], _∷_}
-use Prim.Native.Nat.{ℕ, suc, _+_, _-_, _≤_, _<_, min, max}
+use Prim.Native.Nat.{ℕ, suc, _+_, _-_, _≤_, _<_, min}
 use lib.Dec.{eqb, leb}
 use lib.ListN.{length, getD, take, drop, length-take, length-drop, drop-of-length-le}
 use lib.Seq.{drop-cons}
 use native.Mathlib.Nat.{add-zero}
 use native.Mathlib.Omega.{arith}
-use borrow.Author.Tests.{eq-eqb, ne-eqb, eqb-true, eqb-false, lt-leb, le-leb}
+use borrow.Author.Tests.{eq-eqb, ne-eqb, eqb-true, eqb-false, le-leb}
 use Rattle.meaning.specs.Rows.{_between_and_}
 use Rattle.meaning.specs.Name.{Name, nameByte, unpadded, every, wellFormed, sameName}
 use Rattle.meaning.specs.File.{nameAt}
@@ -47,26 +47,6 @@ space-out b e = rw (eqb-true b 32 e) refl
 
 no-space : (b : ℕ) → eqb b 32 ≡ false → eqb 32 b ≡ false
 no-space b e = ne-eqb 32 b (λ q. eqb-false b 32 e (sym q))
-
-pub byte-low : (b : ℕ) → b < 48 → nameByte b ≡ false
-unfolding nameByte _between_and_
-byte-low b h = simp (lt-leb 65 b (omega arith), lt-leb 48 b h, ne-eqb b 95 (λ e. omega arith))
-
-pub byte-digit : (b : ℕ) → 48 ≤ b → b ≤ 57 → nameByte b ≡ true
-unfolding nameByte _between_and_
-byte-digit b h k = simp (lt-leb 65 b (omega arith), le-leb 48 b h, le-leb b 57 k)
-
-pub byte-gap : (b : ℕ) → 57 < b → b < 65 → nameByte b ≡ false
-unfolding nameByte _between_and_
-byte-gap b h k = simp (lt-leb 65 b k, le-leb 48 b (omega arith), lt-leb b 57 h, ne-eqb b 95 (λ e. omega arith))
-
-pub byte-letter : (b : ℕ) → 65 ≤ b → b ≤ 90 → nameByte b ≡ true
-unfolding nameByte _between_and_
-byte-letter b h k = simp (le-leb 65 b h, le-leb b 90 k)
-
-pub byte-high : (b : ℕ) → 90 < b → nameByte b ≡ eqb b 95
-unfolding nameByte _between_and_
-byte-high b h = simp (le-leb 65 b (omega arith), lt-leb b 90 h, le-leb 48 b (omega arith), lt-leb b 57 (omega arith))
 
 -- ---- name bytes and then spaces: the definition goes through what stands before the first space
 padded-is : (l : Name) → (every nameByte (unpadded l) && every (eqb 32) (drop (length (unpadded l)) l)) ≡ padded l
@@ -160,21 +140,3 @@ module _ (file : List ℕ) (a b : ℕ) where
   -- names of different length differ
   pub same-never : (min 12 (length file - a) ≡ min 12 (length file - b) → ⊥) → sameName (nameAt file a) (nameAt file b) ≡ false
   same-never n = names-differ _ _ (λ e. n (sym (name-long file a) ∙ ap length e ∙ name-long file b))
-
-  -- byte by byte
-  pub same-start : sameName (nameAt file a) (nameAt file b) ≡ sameName (rest file a 0) (rest file b 0)
-  same-start = rw (rest-whole file a, rest-whole file b)
-
-  module _ (k : ℕ) (h : a + 12 ≤ length file) (i : b + 12 ≤ length file) where
-    pub same-stop : k < 12 → (getD file (a + k) 0 ≡ getD file (b + k) 0 → ⊥) → sameName (rest file a k) (rest file b k) ≡ false
-    unfolding sameName
-    same-stop l n = rw (rest-cons file a k l h, rest-cons file b k l i) (simp (ne-eqb (getD file (a + k) 0) (getD file (b + k) 0) n))
-
-    pub same-on : k < 12 → getD file (a + k) 0 ≡ getD file (b + k) 0
-        → sameName (rest file a k) (rest file b k) ≡ sameName (rest file a (k + 1)) (rest file b (k + 1))
-    unfolding sameName
-    same-on l e = rw (rest-cons file a k l h, rest-cons file b k l i) (simp (eq-eqb (getD file (a + k) 0) (getD file (b + k) 0) e))
-
-  pub same-done : (k : ℕ) → 12 ≤ k → sameName (rest file a k) (rest file b k) ≡ true
-  unfolding sameName
-  same-done k h = rw (rest-none file a k h, rest-none file b k h) refl

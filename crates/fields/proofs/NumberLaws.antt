@@ -11,25 +11,17 @@ use mir.Val.{SFits}
 use Rattle.integers.proofs.Core.{Z}
 use Rattle.meaning.specs.File.{u32, u64, i64}
 
-module _ (file : List ℕ) (at : ℕ) where
-  past : (k : ℕ) → length file ≤ k → getD file k 0 ≡ 0
-  past k h = List·getD-eq-default file 0 h
+pub past : (file : List ℕ) (k : ℕ) → length file ≤ k → getD file k 0 ≡ 0
+past file k h = List·getD-eq-default file 0 h
 
+module _ (file : List ℕ) (at : ℕ) where
   pub u32-past : length file ≤ at → u32 file at ≡ 0
   unfolding u32
-  u32-past h = omega (arith, past at h, past (at + 1) (omega arith), past (at + 2) (omega arith), past (at + 3) (omega arith))
-
-  pub u32-one : length file ≤ at + 1 → u32 file at ≡ getD file at 0
-  unfolding u32
-  u32-one h = omega (arith, past (at + 1) (omega arith), past (at + 2) (omega arith), past (at + 3) (omega arith))
-
-  pub u32-two : length file ≤ at + 2 → u32 file at ≡ getD file at 0 + 256 * getD file (at + 1) 0
-  unfolding u32
-  u32-two h = omega (arith, past (at + 2) (omega arith), past (at + 3) (omega arith))
+  u32-past h = omega (arith, past file at h, past file (at + 1) (omega arith), past file (at + 2) (omega arith), past file (at + 3) (omega arith))
 
   pub u32-three : length file ≤ at + 3 → u32 file at ≡ getD file at 0 + 256 * getD file (at + 1) 0 + 65536 * getD file (at + 2) 0
   unfolding u32
-  u32-three h = omega (arith, past (at + 3) (omega arith))
+  u32-three h = omega (arith, past file (at + 3) (omega arith))
 
 -- the two's complement of a word, and what it asks
 complement : (m : ℕ) → negsuc 0 -ℤ pos m ≡ negsuc m

@@ -1,7 +1,7 @@
 // Total readers of a case file: every slice and every place has its answer, and a byte past the end reads as 0.
 mod bytes;
+mod name_rows;
 mod names;
-mod rows;
 
 ghost use mathlib.Core.Path.{_≡_};
 ghost use Rattle.meaning.specs.Name.{wellFormed, sameName};
@@ -87,15 +87,20 @@ pub fn same_name(file: &[u8], a: usize, b: usize) -> bool
 pub fn repeated(file: &[u8], start: u32, stride: u32, count: u32) -> usize
     ensures { λ r. ⌜ r ≡ firstRepeated (now (file .entry)) start stride count ⌝ }
 {
+    let known = name_rows::inside(
+        file,
+        name_rows::row_at(start, stride, count),
+        start as usize,
+    );
     let mut row = 0u32;
     'rows: loop {
         if row >= count {
             break 'rows count as usize;
         }
-        let later = rows::row_at(start, stride, row);
+        let later = name_rows::row_at(start, stride, row);
         let mut early = 0u32;
         while early < row {
-            if rows::row_is(file, start, stride, early, later) {
+            if name_rows::row_is(file, name_rows::row_at(start, stride, early), later, known) {
                 break 'rows row as usize;
             }
             early += 1;
@@ -108,9 +113,10 @@ pub fn repeated(file: &[u8], start: u32, stride: u32, count: u32) -> usize
 pub fn place(file: &[u8], start: u32, stride: u32, count: u32, at: usize) -> usize
     ensures { λ r. ⌜ r ≡ firstNamed (now (file .entry)) start stride count at ⌝ }
 {
+    let known = name_rows::inside(file, name_rows::row_at(start, stride, count), at);
     let mut row = 0u32;
     while row < count {
-        if rows::row_is(file, start, stride, row, at) {
+        if name_rows::row_is(file, name_rows::row_at(start, stride, row), at, known) {
             return row as usize;
         }
         row += 1;

@@ -1,4 +1,6 @@
 // Name fields: 12 bytes that are all in the file, or cut by its end.
+use crate::bytes::whole_u32;
+use crate::bytes::whole_u64;
 ghost use mathlib.Core.Path.{_≡_};
 ghost use Prim.Native.Nat.{_+_, _≤_, _<_, max};
 ghost use lib.Dec.{eqb};
@@ -11,19 +13,7 @@ ghost use Rattle.fields.specs.Rest.{rest, padded};
 pub fn is_name_byte(b: u8) -> bool
     ensures { λ r. ⌜ r ≡ nameByte b ⌝ }
 {
-    if b < b'0' {
-        return false;
-    }
-    if b <= b'9' {
-        return true;
-    }
-    if b < b'A' {
-        return false;
-    }
-    if b <= b'Z' {
-        return true;
-    }
-    b == b'_'
+    ((b'A' <= b) & (b <= b'Z')) | ((b'0' <= b) & (b <= b'9')) | (b == b'_')
 }
 
 // Whether a name field is spaces from its byte k on.
@@ -58,19 +48,12 @@ pub fn padded_from(file: &[u8], at: usize, k: usize) -> bool
     true
 }
 
-// Whether two names that are in the file are the same.
+// Whether two names that are in the file are the same: the last eight bytes, where names of a table mostly differ, then the first four.
 pub fn same_whole(file: &[u8], a: usize, b: usize) -> bool
     requires { ⌜ (a + 12 ≤ length (now file)) × (b + 12 ≤ length (now file)) ⌝ }
     ensures { λ r. ⌜ r ≡ sameName (nameAt (now (file .entry)) a) (nameAt (now (file .entry)) b) ⌝ }
 {
-    let mut k = 0;
-    while k < 12 {
-        if file[a + k] != file[b + k] {
-            return false;
-        }
-        k += 1;
-    }
-    true
+    (whole_u64(file, a + 4) == whole_u64(file, b + 4)) & (whole_u32(file, a) == whole_u32(file, b))
 }
 
 // Whether two names are the same of which the file's end cuts one: at one place, or both past the end.

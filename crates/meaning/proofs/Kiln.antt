@@ -4,11 +4,12 @@ use mathlib.Core.List.{List, [], _∷_, _++_}
 use Prim.Native.Nat.{ℕ, _*_, _-_}
 use Prim.Native.String.{String}
 use lib.IntN.{ℤ, pos, negℤ}
-use lib.ListN.{length, replicate}
+use lib.ListN.{length, replicate, set}
 use Rattle.meaning.specs.Text.{text}
 use Rattle.meaning.specs.Study.{Settings, Node, Circuit, Station, Study, Runs}
 use Rattle.meaning.specs.File.{studyOf}
-use Rattle.meaning.specs.declared.Answer.the-variants.{Accepted}
+use Rattle.meaning.specs.declared.System.the-variants.{Wider}
+use Rattle.meaning.specs.declared.Answer.the-variants.{Accepted, BadNumber, ShortBuffer}
 use Rattle.meaning.specs.Answers.{passed}
 use Rattle.meaning.specs.Outcome.{judged, prints, Settled, settle}
 use Rattle.meaning.specs.declared.Side.the-variants.{Generation, Demand}
@@ -110,3 +111,17 @@ kiln-income = refl
 kiln-remainders : (printedRemainder Generation kilnSheet ≡ pos 200000) × (printedRemainder Demand kilnSheet ≡ pos 50000)
 unfolding opened
 kiln-remainders = (refl, refl)
+
+-- 8: the reference's potential is 1 in the wider run
+ground : judged kiln (record { base = kilnBase; wider = set kilnWider 2 (pos 1); local = kilnLocal }) ≡ BadNumber Wider 3
+unfolding opened
+ground = refl
+
+-- 12: a buffer one byte short is refused and stays as it was; an exact fit is written
+shortened : settle kiln kilnRuns (replicate 116 7) ≡ record { answer = ShortBuffer; buffer = replicate 116 7 }
+unfolding opened
+shortened = refl
+
+exact : settle kiln kilnRuns (replicate 117 7) ≡ record { answer = Accepted 117; buffer = kilnSheet }
+unfolding opened
+exact = refl

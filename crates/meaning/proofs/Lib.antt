@@ -1,5 +1,6 @@
 -- laws of the definitions
 pub mod Rows
+pub mod Columns
 pub mod Says
 pub mod Answers
 pub mod Walk
@@ -11,5 +12,4 @@ pub mod Write
 pub mod Opened
 pub mod Starred
 pub mod Kiln
-pub mod Damaged
 pub mod Small

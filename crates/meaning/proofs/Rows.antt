@@ -1,11 +1,11 @@
 -- The laws of `lowest`, `any` and `rows`: what a loop over rows shows, and what a reader of a refusal learns.
 use mathlib.Core.Path.{_≡_, refl, sym, _∙_, ap, ap₂}
 use mathlib.Core.List.{List, [], _∷_}
-use mathlib.Core.Logic.{_⊎_, inl, inr}
+use mathlib.Core.Logic.{_≢_, _⊎_, inl, inr}
 use mathlib.Core.Bool.{Bool, true, false, cond, true≢false}
 use mathlib.Core.Option.{Option, none, some, Option·none-ne-some}
 use Prim.Native.Nat.{ℕ, zero, suc, _+_, _≤_, _<_}
-use lib.ListN.{length, getD}
+use lib.ListN.{length, getD, set, replicate}
 use native.Mathlib.Nat.{le-of-suc-le-suc, not-suc-le-zero}
 use native.Mathlib.Omega.{arith}
 use native.Mathlib.Decide.{decLt}
@@ -108,6 +108,22 @@ pub rows-same : {A : Type 0} (n : ℕ) (f g : ℕ → A) → ((i : ℕ) → i < 
 unfolding rows
 rows-same zero f g h = refl
 rows-same (suc n) f g h = ap₂ _∷_ (h 0 (omega arith)) (rows-same n (λ j. f (suc j)) (λ j. g (suc j)) (λ i k. h (suc i) (omega arith)))
+
+-- one row set anew
+pub rows-set : {A : Type 0} (n : ℕ) (f g : ℕ → A) (i : ℕ) (v : A) → i < n → v ≡ g i → ((j : ℕ) → j < n → j ≢ i → f j ≡ g j)
+    → set (rows n f) i v ≡ rows n g
+unfolding rows
+rows-set zero f g i v h e o = absurd (omega arith)
+rows-set (suc n) f g zero v h e o = ap₂ _∷_ e (rows-same n _ _ (λ j l. o (suc j) (omega arith) (λ q. omega arith)))
+rows-set (suc n) f g (suc i) v h e o =
+    ap₂ _∷_ (o 0 (omega arith) (λ q. omega arith))
+    (rows-set n (λ j. f (suc j)) (λ j. g (suc j)) i v (omega arith) e (λ j l d. o (suc j) (omega arith) (λ q. d (omega arith))))
+
+-- rows that are all the same
+pub rows-none : {A : Type 0} (n : ℕ) (f : ℕ → A) (a : A) → ((i : ℕ) → i < n → f i ≡ a) → replicate n a ≡ rows n f
+unfolding rows
+rows-none zero f a h = refl
+rows-none (suc n) f a h = ap₂ _∷_ (sym (h 0 (omega arith))) (rows-none n (λ j. f (suc j)) a (λ i l. h (suc i) (omega arith)))
 
 -- ---- a loop over rows: the rows below i have passed by
 pub record Passed (test : ℕ → Bool) (i : ℕ) : Type 0 where

@@ -24,6 +24,12 @@ pub T-true : (b : Bool) → T b → b ≡ true
 T-true true t = refl
 T-true false t = absurd t
 
+-- two tests of one thing
+pub agree : (a b : Bool) {P : Type 0} → Says a P → Says b P → a ≡ b
+agree true b s t = sym (t .1 (s .0 refl))
+agree false true s t = s .1 (t .0 refl)
+agree false false s t = refl
+
 pub says-as : {b : Bool} {P Q : Type 0} → Says b P → (P ↔ Q) → Says b Q
 says-as h k = (λ e. k .0 (h .0 e), λ q. h .1 (k .1 q))
 

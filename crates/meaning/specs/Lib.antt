@@ -20,3 +20,5 @@ pub mod Edges
 pub mod Conditions
 pub mod Read
 pub mod Demands
+-- no words of 01: arrays as code has them
+pub mod Columns

@@ -10,7 +10,7 @@ use lib.Seq.{take-all, length-take-le}
 use Rattle.meaning.specs.File.{fileWhole, runsIn}
 use Rattle.meaning.specs.Outcome.{prints}
 use Rattle.meaning.proofs.Starts.{file-length}
-use Rattle.columns.proofs.FileLaws.{whole-file}
+use Rattle.layout.proofs.FileLaws.{whole-file}
 use Rattle.output.proofs.Printing.{not-whole}
 
 -- 256 nodes, 512 circuits and 512 stations make the longest file

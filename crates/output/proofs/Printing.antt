@@ -14,8 +14,8 @@ use Rattle.meaning.specs.Study.{Runs}
 use Rattle.meaning.specs.File.{fileWhole, runsIn}
 use Rattle.meaning.specs.Outcome.{fileStage, tablesStage, judged, sheetOf, Settled, refused, written, settle, refusedLine, prints}
 use Rattle.meaning.proofs.Says.{says-le}
-use Rattle.sheet.specs.Writing.{Written}
-use Rattle.sheet.specs.Refusing.{Refuses}
+use Rattle.text.specs.Writing.{Written}
+use Rattle.text.specs.Refusing.{Refuses}
 use Rattle.output.specs.declared.Printed.{Printed}
 use Rattle.output.specs.Printing.{Prints}
 use Rattle.claims.proofs.Accepted.{judged-pass}

@@ -17,12 +17,12 @@ use Rattle.meaning.proofs.Starts.{counts, stations-start, file-length}
 use Rattle.proposal.specs.Judges.{runsOf}
 use Rattle.output.specs.declared.runs.Solutions.{Solutions}
 use Rattle.output.specs.Standing.{Stands}
-use Rattle.columns.specs.Column.{column}
-use Rattle.columns.specs.Readable.{readable}
-use Rattle.columns.specs.Columns.{countsOf}
-use Rattle.columns.specs.declared.RowCounts.{RowCounts}
-use Rattle.columns.proofs.FileLaws.{whole-file}
-use Rattle.columns.proofs.Rows.{readable-whole}
+use Rattle.meaning.specs.Columns.{column}
+use Rattle.layout.specs.Readable.{readable}
+use Rattle.layout.specs.Frame.{countsOf}
+use Rattle.layout.specs.declared.RowCounts.{RowCounts}
+use Rattle.layout.proofs.FileLaws.{whole-file}
+use Rattle.layout.proofs.Rows.{readable-whole}
 
 -- the front of an array of rows
 take-rows : {A : Type 0} (n m : ℕ) (f : ℕ → A) → n ≤ m → take n (rows m f) ≡ rows n f

@@ -20,7 +20,7 @@ fn refused(answer: Answer) -> Printed
     ensures { λ r. ⌜ Prints (refusedLine answer) r ⌝ }
 {
     let mut bytes = [0u8; 16384];
-    let length = sheet::refuse(answer, &mut bytes);
+    let length = text::refuse(answer, &mut bytes);
     Printed { length, bytes }
 }
 
@@ -31,7 +31,7 @@ fn with_runs(file: &[u8], base: &[i64], wider: &[i64], local: &[i64]) -> Printed
 {
     let mut bytes = [0u8; 16384];
     let answer = sheet::write(file, base, wider, local, &mut bytes);
-    let carried = tables::values(answer);
+    let carried = answers::values(answer);
     if carried.number >= 1 {
         return refused(answer);
     }
@@ -57,7 +57,7 @@ fn of_whole_file(file: &[u8]) -> Printed
 pub fn print(input: &[u8]) -> Printed
     ensures { λ r. ⌜ Prints (prints (now (input .entry))) r ⌝ }
 {
-    if columns::whole(input) {
+    if layout::whole(input) {
         return of_whole_file(input);
     }
     refused(Answer::BadFile)

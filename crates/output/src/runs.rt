@@ -4,7 +4,7 @@ ghost use mathlib.Core.Bool.{true};
 ghost use Prim.Native.Nat.{_+_, _*_, _≤_};
 ghost use lib.IntN.{pos};
 ghost use Rattle.meaning.specs.File.{i64, fileWhole};
-ghost use Rattle.columns.specs.Column.{column};
+ghost use Rattle.meaning.specs.Columns.{column};
 ghost use Rattle.output.specs.Standing.{Stands};
 
 // Where the solutions start, and how many numbers each has.
@@ -18,7 +18,7 @@ pub fn standing(file: &[u8]) -> Solutions
     requires { ⌜ fileWhole (now file) ≡ true ⌝ }
     ensures { λ r. ⌜ Stands (now (file .entry)) r ⌝ }
 {
-    let rows = columns::counts(file);
+    let rows = layout::counts(file);
     let start = 64 + 24 * rows.nodes + 44 * rows.circuits + 32 * rows.stations;
     let count = rows.nodes + rows.circuits;
     Solutions { start, count }

@@ -1,33 +1,24 @@
 -- A case in columns: what the judge asks, and that it judges what is proposed.
-use mathlib.Core.Path.{_≡_, refl, _∙_}
+use mathlib.Core.Path.{_≡_, refl, ap}
 use mathlib.Core.Bool.{Bool, true, false, cond}
 use mathlib.Core.List.{List}
 use Prim.Native.Nat.{ℕ, _*_, _≤_}
 use native.Mathlib.Omega.{arith}
 use lib.Dec.{eqb}
 use lib.IntN.{ℤ, pos, natAbs}
-use lib.ListN.{length}
 use Rattle.integers.proofs.Laws.{abs-neg}
 use Rattle.meaning.specs.declared.Direction.{Direction}
 use Rattle.meaning.specs.declared.Direction.the-variants.{Idle, Forward, Backward, InDoubt}
 use Rattle.meaning.specs.declared.System.{System}
 use Rattle.meaning.specs.declared.System.the-variants.{Base, Wider, Local}
 use Rattle.meaning.specs.Direction.{direction, signed}
-use Rattle.meaning.specs.declared.Answer.{Answer}
 use Rattle.meaning.specs.Proposal.{systemStage}
-use Rattle.meaning.specs.Systems.{limitOf}
-use Rattle.proposal.specs.declared.solution.Case.{Case}
-use Rattle.proposal.specs.Columns.{proposedIn, Filled, Ready}
+use Rattle.supply.specs.Supply.{supplyIn}
+use Rattle.proposal.specs.declared.case.Case.{Case}
+use Rattle.proposal.specs.Columns.{number, Filled}
 use Rattle.proposal.specs.Offsets.{signedBy, offsetIn, offsetAt}
-use Rattle.proposal.specs.Supplies.{supplyAt}
-use Rattle.proposal.specs.Case.{netIn, offeredIn, solutionIn, Judgeable}
+use Rattle.proposal.specs.Case.{netIn, proposedIn, offeredIn, solutionIn, Ready, Judgeable}
 use Rattle.proposal.proofs.Same.{system-alike}
-
-pub limit-small : (system : System) → limitOf system ≤ 2000000000000000000
-unfolding limitOf
-limit-small Base = omega arith
-limit-small Wider = omega arith
-limit-small Local = omega arith
 
 signed-small : (d : Direction) (long : ℕ) → long ≤ 30000000000 → natAbs (signed d (pos (1000000 * long))) ≤ 30000000000000000
 unfolding signed
@@ -51,33 +42,29 @@ offset-small Local long mark flow h = go (eqb mark 0)
     go false = signed-small (direction flow) long h
 
 module _ (system : System) (k : Case) (base run supply offset : List ℤ) (j : Judgeable k base run)
-    (p : Filled (pos 0) 256 (supplyAt system (k .nodes) (k .tec) (k .demand) (k .«total_demand»)) (k .nodes) supply)
+    (p : supply ≡ supplyIn system (k .supply))
     (q : Filled (pos 0) 512 (offsetAt system (k .nodes) (k .length) (k .mark) base) (k .circuits) offset) where
-  pub ready : (limit : ℕ) → limit ≡ limitOf system → length (k .x) ≡ 512 → Ready (k .nodes) (k .circuits) limit (k .first) (k .second) (k .x) supply offset run
-  ready limit l e = record {
+  pub ready : Ready k offset run
+  ready = record {
     shaped = j .shaped;
     ended = j .ended;
     measured = record {
-      xLong = omega (arith, j .shaped .circuits);
-      offsetLong = omega (arith, j .shaped .circuits, q .long);
       xSmall = j .xSmall;
       offsetSmall = λ c h. rw (q .at c h) (offset-small system _ _ _ (j .lengths .lengthSmall c h));
     };
-    supplied = omega (arith, j .shaped .nodes, p .long);
-    limitSmall = omega (arith, limit-small system);
   }
 
-  pub judged-as : (limit : ℕ) → limit ≡ limitOf system → (r : Answer) → r ≡ systemStage (netIn k) (proposedIn system limit supply offset run) → r ≡ solutionIn system k base run
-  judged-as limit l r h = h ∙ system-alike (netIn k) (netIn k) (proposedIn system limit supply offset run) (offeredIn system k base run) (record {
+  pub judged-as : systemStage (netIn k) (proposedIn system supply offset run) ≡ solutionIn system k base run
+  judged-as = system-alike (netIn k) (netIn k) (proposedIn system supply offset run) (offeredIn system k base run) (record {
     nodes = refl;
     circuits = refl;
     reference = refl;
     system = refl;
-    limit = l;
+    limit = refl;
     run = refl;
     first = λ c h. refl;
     second = λ c h. refl;
     x = λ c h. refl;
     offset = q .at;
-    supply = p .at;
+    supply = λ v h. ap (λ (l : List ℤ). number l v) p;
   })

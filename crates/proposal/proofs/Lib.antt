@@ -1,15 +1,10 @@
 pub mod Sizes
-pub mod Found
 pub mod Filled
-pub mod Numbers
 pub mod Net
 pub mod MissSum
 pub mod Stages
 pub mod Same
-pub mod Directions
 pub mod Marks
-pub mod Shares
-pub mod Supply
 pub mod Cases
 pub mod Told
 pub mod Sound

@@ -16,7 +16,9 @@ use Rattle.integers.specs.Numbers.{Σ}
 use Rattle.meaning.specs.Rows.{rows}
 use Rattle.meaning.proofs.Rows.{rows-at, length-rows}
 use Rattle.integers.proofs.Core.{Z}
+use Rattle.integers.proofs.Laws.{abs-sub, sfits-abs}
 use Rattle.integers.proofs.Sum.{Σ-zero, Σ-more, Σ-bound}
+use Rattle.proposal.specs.Columns.{number, moved, Movable}
 
 -- z at node a, nothing at another
 abbrev pub only : (a v : ℕ) → ℤ → ℤ
@@ -45,10 +47,10 @@ cond-sub : (t : Bool) (y z : ℤ) → cond t (y -ℤ z) y ≡ y -ℤ cond t z (p
 cond-sub true y z = refl
 cond-sub false y z = simp Z (omega arith)
 
-pub set-add : (l : List ℤ) (a : ℕ) (z : ℤ) (v : ℕ) → a < length l → getD (set l a (getD l a (pos 0) +ℤ z)) v (pos 0) ≡ getD l v (pos 0) +ℤ only a v z
+set-add : (l : List ℤ) (a : ℕ) (z : ℤ) (v : ℕ) → a < length l → getD (set l a (getD l a (pos 0) +ℤ z)) v (pos 0) ≡ getD l v (pos 0) +ℤ only a v z
 set-add l a z v h = set-at l a v (λ y. y +ℤ z) h ∙ cond-add (eqb a v) (getD l v (pos 0)) z
 
-pub set-sub : (l : List ℤ) (a : ℕ) (z : ℤ) (v : ℕ) → a < length l → getD (set l a (getD l a (pos 0) -ℤ z)) v (pos 0) ≡ getD l v (pos 0) -ℤ only a v z
+set-sub : (l : List ℤ) (a : ℕ) (z : ℤ) (v : ℕ) → a < length l → getD (set l a (getD l a (pos 0) -ℤ z)) v (pos 0) ≡ getD l v (pos 0) -ℤ only a v z
 set-sub l a z v h = set-at l a v (λ y. y -ℤ z) h ∙ cond-sub (eqb a v) (getD l v (pos 0)) z
 
 -- circuits from `first` to `second` with flow `f`
@@ -60,13 +62,6 @@ module _ (first second : ℕ → ℕ) (f : ℕ → ℤ) where
   pub record Netted (c : ℕ) (net : List ℤ) : Type 0 where
     pub long : length net ≡ 256
     pub at : (v : ℕ) → v < 256 → getD net v (pos 0) ≡ netTo v c
-
--- the list after z is taken out of node a, and then into node b
-abbrev pub left : List ℤ → ℕ → ℤ → List ℤ
-left net a z = set net a (getD net a (pos 0) +ℤ z)
-
-abbrev pub entered : List ℤ → ℕ → ℤ → List ℤ
-entered net b z = set net b (getD net b (pos 0) -ℤ z)
 
 -- what is known where a circuit is taken: its ends are nodes, and flows are small enough that no sum wraps
 pub record Turn (first second : ℕ → ℕ) (f : ℕ → ℤ) (c : ℕ) (net : List ℤ) : Type 0 where
@@ -80,17 +75,20 @@ both-sides : (o i x y : ℤ) → ((o -ℤ i) +ℤ x) -ℤ y ≡ (o +ℤ x) -ℤ 
 both-sides o i x y = simp Z (omega arith)
 
 module _ (first second : ℕ → ℕ) (f : ℕ → ℤ) (c : ℕ) (net : List ℤ) (t : Turn first second f c net) where
-  left-long : length (left net (first c) (f c)) ≡ 256
+  abbrev left : List ℤ
+  left = set net (first c) (number net (first c) +ℤ f c)
+
+  left-long : length left ≡ 256
   left-long = length-set net _ _ ∙ t .netted .long
 
-  left-at : (v : ℕ) → v < 256 → getD (left net (first c) (f c)) v (pos 0) ≡ netTo first second f v c +ℤ only (first c) v (f c)
+  left-at : (v : ℕ) → v < 256 → number left v ≡ netTo first second f v c +ℤ only (first c) v (f c)
   left-at v l =
       set-add net (first c) (f c) v (omega (arith, t .netted .long, t .firstIn)) ∙ ap (λ z. z +ℤ only (first c) v (f c)) (t .netted .at v l)
 
-  pub netted-more : Netted first second f (c + 1) (entered (left net (first c) (f c)) (second c) (f c))
+  pub netted-more : Netted first second f (c + 1) (moved net (first c) (second c) (f c))
   netted-more = record {
-    long = length-set (left net (first c) (f c)) _ _ ∙ left-long;
-    at = λ v l. set-sub (left net (first c) (f c)) (second c) (f c) v (omega (arith, left-long, t .secondIn))
+    long = length-set left _ _ ∙ left-long;
+    at = λ v l. set-sub left (second c) (f c) v (omega (arith, left-long, t .secondIn))
         ∙ ap (λ z. z -ℤ only (second c) v (f c)) (left-at v l)
         ∙ both-sides (Σ c (λ k. only (first k) v (f k))) (Σ c (λ k. only (second k) v (f k))) (only (first c) v (f c)) (only (second c) v (f c))
         ∙ sym (ap₂ _-ℤ_ (Σ-more c (λ k. only (first k) v (f k))) (Σ-more c (λ k. only (second k) v (f k))));
@@ -101,19 +99,28 @@ module _ (first second : ℕ → ℕ) (f : ℕ → ℤ) (c : ℕ) (net : List �
   side-small end v =
       omega (arith, t .few, Σ-bound 100000000000000 c (λ k. only (end k) v (f k)) (λ k l. only-small (end k) v _ (f k) (t .small k (omega arith))))
 
-  pub flow-fits : SFits w64 (f c)
-  flow-fits = simp Z (omega (arith, simp Z at (t .small c (omega arith))))
+  pub movable : (a b : ℕ) → a < 256 → b < 256 → Movable net a b (f c)
+  movable a b h k = record {
+    long = t .netted .long;
+    firstIn = h;
+    secondIn = k;
+    small = t .small c (omega arith);
+    netSmall = λ v l. rw (t .netted .at v l) (omega (arith, abs-sub (Σ c (λ k. only (first k) v (f k))) (Σ c (λ k. only (second k) v (f k))), side-small first v, side-small second v));
+  }
 
-  pub net-fits : (v : ℕ) → v < 256 → SFits w64 (getD net v (pos 0)) × SFits w64 (getD net v (pos 0) +ℤ f c)
-  net-fits v l =
-      rw (t .netted .at v l)
-      (simp Z (omega (arith, simp Z at (side-small first v), simp Z at (side-small second v), simp Z at (t .small c (omega arith)))))
+-- ---- a flow moved: no sum wraps
+module _ (net : List ℤ) (a b : ℕ) (z : ℤ) (m : Movable net a b z) where
+  pub flow-fits : SFits w64 z
+  flow-fits = sfits-abs z (omega (arith, m .small))
 
-  pub left-fits : (v : ℕ) → v < 256 → SFits w64 (getD (left net (first c) (f c)) v (pos 0)) × SFits w64 (getD (left net (first c) (f c)) v (pos 0) -ℤ f c)
-  left-fits v l =
-      let x = simp Z at (only-small (first c) v _ (f c) (t .small c (omega arith))) in
-      rw (left-at v l)
-      (simp Z (omega (arith, x, simp Z at (side-small first v), simp Z at (side-small second v), simp Z at (t .small c (omega arith)))))
+  pub add-fits : SFits w64 (number net a) × SFits w64 (number net a +ℤ z)
+  add-fits = simp Z (omega (arith, simp Z at (m .netSmall a (m .firstIn)), simp Z at (m .small)))
+
+  pub sub-fits : let left = set net a (number net a +ℤ z) in SFits w64 (number left b) × SFits w64 (number left b -ℤ z)
+  sub-fits =
+      let x = simp Z at (only-small a b _ z (m .small)) in
+      rw (set-add net a z b (omega (arith, m .long, m .firstIn)))
+      (simp Z (omega (arith, x, simp Z at (m .netSmall b (m .secondIn)), simp Z at (m .small))))
 
 -- before the first circuit
 pub netted-none : (first second : ℕ → ℕ) (f : ℕ → ℤ) → Netted first second f 0 (replicate 256 (pos 0))

@@ -18,22 +18,18 @@ use Rattle.columns.specs.Tec.{tecOf}
 use Rattle.tables.specs.declared.Opened.{Opened}
 use Rattle.tables.specs.Opens.{Opens}
 use Rattle.tables.proofs.Sound.{SoundOpened, opened-sound}
-use Rattle.proposal.specs.declared.solution.Case.{Case}
-use Rattle.proposal.specs.Case.{caseOf, proposalsIn, Countable, Judgeable}
-use Rattle.proposal.specs.Judges.{Judges}
+use Rattle.proposal.specs.declared.case.Case.{Case}
+use Rattle.proposal.specs.Case.{caseOf, proposalsIn, Judgeable}
+use Rattle.proposal.specs.Judges.{withAnswer, Judges}
 use Rattle.proposal.proofs.Told.{Told, proposals-told}
 use Rattle.proposal.proofs.Sound.{judgeable}
-use Rattle.proposal.proofs.CaseOf.{countable, case-told}
+use Rattle.proposal.proofs.CaseOf.{reference-least, case-told}
 use Rattle.proposal.proofs.Chain.{chain-stops, chain-passes}
-
--- the case of a file that was opened
-abbrev pub caseIn : Opened → Case
-caseIn o = caseOf (o .counts) (o .settings) (o .nodes) (o .circuits) (o .tec .scaling)
 
 module _ (file : List ℕ) (runs : Runs) (o : Opened) (t : Opens file (length (runs .base)) (length (runs .wider)) (length (runs .local)) o) (told : Bool) (e : told ≡ stops (o .answer)) where
   -- the columns stay as they are
   with-answer : (r : Answer) → r ≡ judged file runs
-      → Judges file runs (record { answer = r; counts = o .counts; settings = o .settings; nodes = o .nodes; circuits = o .circuits; tec = o .tec })
+      → Judges file runs (withAnswer o r)
   with-answer r a = record { answer = a; counts = t .counts; settings = t .settings; nodes = t .nodes; circuits = t .circuits; tec = t .tec }
 
   pub tables-stop : told ≡ true → Judges file runs o
@@ -53,29 +49,29 @@ module _ (file : List ℕ) (runs : Runs) (o : Opened) (t : Opens file (length (r
     fewer : length (S .circuits) ≤ 512
     fewer = omega (arith, s .circuitCount, s .circuitsFew)
 
-    pub passed-countable : Countable (o .counts) (o .settings) (o .nodes) (o .tec .scaling)
+    pub passed-reference : 1 ≤ o .settings .reference
     unfolding tecOf
-    passed-countable =
-        countable S (s .tables) few fewer (o .counts) (o .settings) (o .nodes) (o .circuits) (o .tec .scaling) (s .counts) (s .settings) (s .nodes) (s .circuits)
+    passed-reference =
+        reference-least S (s .tables) few fewer o (s .counts) (s .settings) (s .nodes) (s .circuits)
         (ap (λ (c : TecColumns). c .scaling) (s .tec))
 
-    told-case : Told (gridOf S) (caseIn o)
+    told-case : Told (gridOf S) (caseOf o)
     unfolding tecOf
     told-case =
-        case-told S (s .tables) few fewer (o .counts) (o .settings) (o .nodes) (o .circuits) (o .tec .scaling) (s .counts) (s .settings) (s .nodes) (s .circuits)
+        case-told S (s .tables) few fewer o (s .counts) (s .settings) (s .nodes) (s .circuits)
         (ap (λ (c : TecColumns). c .scaling) (s .tec))
 
-    can-judge : (run : List ℤ) → length run ≡ o .counts .nodes + o .counts .circuits → Judgeable (caseIn o) (runs .base) run
+    can-judge : (run : List ℤ) → length run ≡ o .counts .nodes + o .counts .circuits → Judgeable (caseOf o) (runs .base) run
     can-judge run l =
-        judgeable S (caseIn o) told-case (s .tables) few fewer runs run (omega (arith, s .baseRun, s .nodeCount, s .circuitCount)) (omega (arith, s .nodeCount, s .circuitCount))
+        judgeable S (caseOf o) told-case (s .tables) few fewer runs run (omega (arith, s .baseRun, s .nodeCount, s .circuitCount)) (omega (arith, s .nodeCount, s .circuitCount))
 
-    pub passed-judgeable : (k : Case) → k ≡ caseIn o → Judgeable k (runs .base) (runs .base) × Judgeable k (runs .base) (runs .wider) × Judgeable k (runs .base) (runs .local)
+    pub passed-judgeable : (k : Case) → k ≡ caseOf o → Judgeable k (runs .base) (runs .base) × Judgeable k (runs .base) (runs .wider) × Judgeable k (runs .base) (runs .local)
     passed-judgeable k q = rw q (can-judge _ (s .baseRun), can-judge _ (s .widerRun), can-judge _ (s .localRun))
 
-    pub proposals-decide : (k : Case) → k ≡ caseIn o → (r : Answer) → r ≡ proposalsIn k (runs .base) (runs .wider) (runs .local)
-        → Judges file runs (record { answer = r; counts = o .counts; settings = o .settings; nodes = o .nodes; circuits = o .circuits; tec = o .tec })
-    unfolding judged gridOf
-    proposals-decide k q r f =
-        with-answer r
+    pub proposals-decide : (k : Case) → k ≡ caseOf o → (r : Answer) → r ≡ proposalsIn k (runs .base) (runs .wider) (runs .local)
+        → (w : Opened) → w ≡ withAnswer o r → Judges file runs w
+    unfolding judged gridOf caseOf
+    proposals-decide k q r f w g =
+        rw g (with-answer r
         (chain-passes _ (proposalsStage (gridOf S) runs) (o .answer) told (t .answer) e r h
-        (f ∙ ap (λ (c : Case). proposalsIn c (runs .base) (runs .wider) (runs .local)) q ∙ proposals-told (gridOf S) (caseIn o) told-case runs (s .tables .settings)))
+        (f ∙ ap (λ (c : Case). proposalsIn c (runs .base) (runs .wider) (runs .local)) q ∙ proposals-told (gridOf S) (caseOf o) told-case (s .nodesFew .most) runs (s .tables .settings))))

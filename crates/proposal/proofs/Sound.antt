@@ -1,23 +1,20 @@
 -- Sound tables give what the judges ask of a case.
-use mathlib.Core.Path.{_≡_, sym, _∙_, ap}
+use mathlib.Core.Path.{_≡_}
 use mathlib.Core.List.{List}
 use Prim.Native.Nat.{ℕ, _+_, _≤_, _<_}
 use native.Mathlib.Omega.{arith}
 use lib.IntN.{ℤ}
 use lib.ListN.{length, getD}
-use Rattle.integers.specs.Numbers.{sum}
-use Rattle.integers.proofs.Sum.{sum-same}
 use Rattle.meaning.specs.Study.{Study, Runs}
-use Rattle.meaning.specs.Grid.{gridOf, nodeTec}
+use Rattle.meaning.specs.Grid.{gridOf}
 use Rattle.meaning.specs.Conditions.{SoundTables}
 use Rattle.meaning.proofs.Tables.{placed-at}
 use Rattle.sizes.proofs.Scaling.{systems-fit}
-use Rattle.proposal.specs.declared.solution.Case.{Case}
+use Rattle.proposal.specs.declared.case.Case.{Case}
 use Rattle.proposal.specs.Columns.{Shaped, Ended}
 use Rattle.proposal.specs.Offsets.{Lengths}
-use Rattle.proposal.specs.Supplies.{kwAt, Scalable, Demands}
 use Rattle.proposal.specs.Case.{Judgeable}
-use Rattle.proposal.proofs.Told.{Told, kw-at}
+use Rattle.proposal.proofs.Told.{Told}
 
 module _ (S : Study) (k : Case) (t : Told (gridOf S) k) (sound : SoundTables S) (few : length (S .nodes) ≤ 256) (fewer : length (S .circuits) ≤ 512) where
   nodes-in : k .nodes ≡ length (S .nodes)
@@ -34,35 +31,18 @@ module _ (S : Study) (k : Case) (t : Told (gridOf S) k) (sound : SoundTables S) 
   ended : Ended (k .nodes) (k .circuits) (k .first) (k .second)
   unfolding gridOf
   ended = record {
-    firstLong = omega (arith, circuits-in, t .first .long);
-    secondLong = omega (arith, circuits-in, t .second .long);
     firstIn = λ c h. omega (arith, nodes-in, t .first .at c h, placed-at S _ (sound .circuits c (omega (arith, circuits-in)) .first));
     secondIn = λ c h. omega (arith, nodes-in, t .second .at c h, placed-at S _ (sound .circuits c (omega (arith, circuits-in)) .second));
   }
 
-  lengths : (runs : Runs) → Lengths (k .circuits) (k .length) (k .mark)
+  lengths : (runs : Runs) → Lengths (k .circuits) (k .length)
   lengths runs = record {
-    lengthsLong = omega (arith, circuits-in, t .lengths .long);
-    marksLong = omega (arith, circuits-in, t .marks .long);
     lengthSmall = λ c h. omega (arith, t .lengths .at c h, systems-fit S sound runs .expanded c (omega (arith, t .circuits)));
   }
 
   x-small : (c : ℕ) → c < k .circuits → getD (k .x) c 0 ≤ 10000
   unfolding gridOf
   x-small c h = omega (arith, t .x .at c h, sound .circuits c (omega (arith, circuits-in)) .x .most)
-
-  scalable : Scalable (k .nodes) (k .tec) (k .«total_demand») (k .«total_tec»)
-  scalable = record {
-    nodes = omega (arith, nodes-in);
-    all = t .allTec ∙ ap (λ (n : ℕ). sum n (nodeTec (gridOf S))) (sym (t .nodes)) ∙ sym (sum-same (k .nodes) (kwAt (k .tec)) (nodeTec (gridOf S)) (λ v h. kw-at (t .tec .at v h)));
-    least = omega (arith, t .allTec, sound .tecTotal .least);
-    most = omega (arith, t .allTec, sound .tecTotal .most);
-    enough = omega (arith, t .allTec, t .allDemand, sound .enough);
-  }
-
-  demands : Demands (k .nodes) (k .demand)
-  unfolding gridOf
-  demands = record { small = λ v h. omega (arith, kw-at (t .demand .at v h), sound .nodes v (omega (arith, nodes-in)) .demand) }
 
   pub judgeable : (runs : Runs) (run : List ℤ) → length (runs .base) ≡ length (S .nodes) + length (S .circuits) → length run ≡ length (S .nodes) + length (S .circuits) → Judgeable k (runs .base) run
   judgeable runs run e f = record {
@@ -71,6 +51,4 @@ module _ (S : Study) (k : Case) (t : Told (gridOf S) k) (sound : SoundTables S) 
     ended = ended;
     lengths = lengths runs;
     xSmall = x-small;
-    scalable = scalable;
-    demands = demands;
   }

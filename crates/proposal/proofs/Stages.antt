@@ -1,25 +1,30 @@
 -- 8, then 9, then 10: what the chain answers, by what each part found.
-use mathlib.Core.Path.{_≡_, refl, sym, _∙_, ap}
-use mathlib.Core.Bool.{Bool, true, false}
-use mathlib.Core.List.{List, []}
+use mathlib.Core.Path.{_≡_, refl, sym, _∙_, ap, ap₂}
+use mathlib.Core.Bool.{Bool, true, false, not}
+use mathlib.Core.List.{List}
 use mathlib.Core.Option.{none, some}
 use Prim.Native.Nat.{ℕ, suc, _+_, _≤_, _<_}
 use native.Mathlib.Decide.{ℕ-discrete}
 use native.Mathlib.Numerals.{add-one}
 use native.Mathlib.Omega.{arith}
 use lib.Dec.{leb}
-use lib.IntN.{ℤ, natAbs}
-use lib.ListN.{getD}
+use lib.IntN.{ℤ, pos, natAbs}
+use Rattle.meaning.specs.declared.System.{System}
+use Rattle.meaning.specs.declared.System.the-variants.{Base, Wider, Local}
 use Rattle.meaning.specs.declared.Answer.the-variants.{BadNumber, Unbalanced, MissesTooHigh}
 use Rattle.meaning.specs.Answers.{values, refusal, stops, passed, unless, at, _orElse_}
-use Rattle.meaning.specs.Rows.{failing}
+use Rattle.meaning.specs.Rows.{failing, rows}
 use Rattle.meaning.specs.Network.{Network}
-use Rattle.meaning.specs.Proposal.{Proposed, potential, flow, numberInRange, balanced, flowOut, flowIn, miss, missSum, rangeStage, balanceStage, missStage, systemStage}
+use Rattle.meaning.specs.Proposal.{Proposed, potential, flow, same, numberInRange, balanced, missSum, rangeStage, balanceStage, missStage, systemStage}
+use Rattle.meaning.specs.Systems.{limitOf}
 use Rattle.meaning.proofs.Says.{says-le}
 use Rattle.meaning.proofs.Answers.{passed-passes, orElse-stops, orElse-passes}
-use Rattle.proposal.specs.Columns.{netOf, rowOf, Ranged}
-use Rattle.proposal.proofs.Found.{AllPass, row-is}
-use Rattle.proposal.proofs.Numbers.{flow-in-range, reference-in-range, potential-in-range}
+use Rattle.meaning.proofs.Rows.{rows-at}
+use Rattle.columns.proofs.PlaceLaws.{lowest-same}
+use Rattle.numbers.specs.Numbers.{evenIn, pinned, rowOf}
+use Rattle.proposal.specs.Columns.{number, netFlow, Ranged}
+use Rattle.numbers.proofs.Found.{AllPass, row-is, row-below, row-beyond}
+use Rattle.numbers.proofs.Range.{flow-in-range, reference-in-range, potential-in-range}
 
 -- ---- the tests of a proposal's rows
 module _ (N : Network) (P : Proposed) where
@@ -35,26 +40,35 @@ module _ (N : Network) (P : Proposed) where
 abbrev pub count : Network → ℕ
 count N = N .nodes + N .circuits
 
--- a network with another reference and other reactances
-abbrev pub bare : Network → (reference : ℕ) (x : ℕ → ℕ) → Network
-bare N reference x = record { nodes = N .nodes; circuits = N .circuits; reference = reference; first = N .first; second = N .second; x = x }
-
--- ---- a test sees only what it needs of the network
+-- ---- what was found is what the stages look for
 module _ (N : Network) (P : Proposed) where
-  pub number-row : (row k : ℕ) → k ≡ count N → row ≡ rowOf (failing (numbers (netOf (N .nodes) 0 (N .reference) [] [] []) P) k) k
+  pub number-row : (row k limit : ℕ) → k ≡ count N → limit ≡ P .limit → row ≡ rowOf (failing (numberInRange (pinned (N .nodes) (N .reference)) limit (P .run)) k) k
       → row ≡ rowOf (failing (numbers N P) (count N)) (count N)
   unfolding numberInRange
-  number-row row k e h = rw (← e) h
+  number-row row k limit e l h = rw (← e, ← l) h
 
-  pub node-row : (row : ℕ) → row ≡ rowOf (failing (nodes (bare N 0 (λ c. getD [] c 0)) P) (N .nodes)) (N .nodes) → row ≡ rowOf (failing (nodes N P) (N .nodes)) (N .nodes)
-  unfolding balanced flowOut flowIn
-  node-row row h = h
+  -- what was found among 256 rows, of the network's nodes
+  module _ (row : ℕ) (net supply : List ℤ) (few : N .nodes ≤ 256) (s : P .supply ≡ number supply) (e : net ≡ rows 256 (netFlow N (P .run)))
+      (h : row ≡ rowOf (failing (evenIn net supply) 256) 256) where
+    nodes-as : failing (evenIn net supply) (N .nodes) ≡ failing (nodes N P) (N .nodes)
+    unfolding balanced
+    nodes-as =
+        lowest-same (λ v. not (evenIn net supply v)) (λ v. not (nodes N P v)) (N .nodes)
+        (λ v l. ap not (ap₂ same (ap (λ l. number l v) e ∙ rows-at (pos 0) 256 (netFlow N (P .run)) v (omega arith)) (ap (λ f. f v) (sym s))))
 
-  pub miss-answer : (r : Bool) → r ≡ low (bare N 0 (N .x)) P → r ≡ low N P
-  unfolding missSum miss
-  miss-answer r h = h
+    pub node-found : row < N .nodes → failing (nodes N P) (N .nodes) ≡ some row
+    node-found l = sym nodes-as ∙ row-below (evenIn net supply) (N .nodes) 256 row few h l
+
+    pub nodes-even : N .nodes ≤ row → failing (nodes N P) (N .nodes) ≡ none
+    nodes-even l = sym nodes-as ∙ row-beyond (evenIn net supply) (N .nodes) 256 row few h l
 
 -- ---- a run that has passed 8
+pub limit-small : (system : System) → limitOf system ≤ 2000000000000000000
+unfolding limitOf
+limit-small Base = omega arith
+limit-small Wider = omega arith
+limit-small Local = omega arith
+
 pub ranged : (N : Network) (limit : ℕ) (run : List ℤ) → limit ≤ 2000000000000000000 → AllPass (numberInRange N limit run) (N .nodes + N .circuits) → Ranged (N .nodes) (N .circuits) run
 ranged N limit run h p = record {
   potentials = λ v l. go v l (ℕ-discrete v (N .reference));
@@ -80,11 +94,9 @@ module _ (N : Network) (P : Proposed) where
   passes-numbers f = rw f (orElse-passes passed (balanceStage N P orElse missStage N P) passed-passes)
 
   -- 9 stops at a node
-  pub stops-node : failing (numbers N P) (count N) ≡ none → (row : ℕ) → row ≡ rowOf (failing (nodes N P) (N .nodes)) (N .nodes) → row < N .nodes → Unbalanced (P .system) (row + 1) ≡ systemStage N P
+  pub stops-node : failing (numbers N P) (count N) ≡ none → (row : ℕ) → failing (nodes N P) (N .nodes) ≡ some row → Unbalanced (P .system) (row + 1) ≡ systemStage N P
   unfolding balanceStage at stops values refusal
-  stops-node g row e h =
-      let f : failing (nodes N P) (N .nodes) ≡ some row = row-is (nodes N P) (N .nodes) (omega arith) ∙ ap some (sym e) in
-      rw (add-one, passes-numbers g, f) (sym (orElse-stops (Unbalanced (P .system) (suc row)) (missStage N P) refl))
+  stops-node g row f = rw (add-one, passes-numbers g, f) (sym (orElse-stops (Unbalanced (P .system) (suc row)) (missStage N P) refl))
 
   -- 9 passes, and 10 decides
   pub stops-misses : failing (numbers N P) (count N) ≡ none → failing (nodes N P) (N .nodes) ≡ none → low N P ≡ false → MissesTooHigh (P .system) ≡ systemStage N P

@@ -8,7 +8,7 @@ use native.Mathlib.Decide.{decLe}
 use native.Mathlib.Omega.{arith}
 use lib.Dec.{eqb, leb}
 use lib.IntN.{pos, _-ℤ_, _*ℤ_}
-use lib.ListN.{length, getD}
+use lib.ListN.{length, getD, replicate, getD-replicate}
 use borrow.Author.Tests.{le-leb}
 use Rattle.integers.proofs.Sum.{sum-same}
 use Rattle.meaning.specs.declared.Kw.{Kw}
@@ -26,10 +26,12 @@ use Rattle.meaning.specs.Systems.{runOf, net, supply, lengthOf, offset, propose
 use Rattle.meaning.specs.Conditions.{InRange, SoundSettings}
 use Rattle.meaning.proofs.Rows.{rows-at, length-rows}
 use Rattle.columns.proofs.PlaceLaws.{lowest-same}
-use Rattle.proposal.specs.declared.solution.Case.{Case}
-use Rattle.proposal.specs.Columns.{Filled}
-use Rattle.proposal.specs.Offsets.{offsetIn, offsetAt, clearBy}
-use Rattle.proposal.specs.Supplies.{kilowatts, kwAt, supplyAt}
+use Rattle.proposal.specs.declared.case.Case.{Case}
+use Rattle.proposal.specs.Columns.{number, Filled}
+use Rattle.numbers.specs.Numbers.{clearBy}
+use Rattle.proposal.specs.Offsets.{offsetIn, offsetAt}
+use Rattle.meaning.specs.Columns.{kilowatts}
+use Rattle.supply.specs.Supply.{supplyIn}
 use Rattle.proposal.specs.Case.{netIn, offeredIn, solutionIn, doubtIn, proposalsIn}
 use Rattle.proposal.proofs.Same.{system-alike}
 
@@ -50,10 +52,7 @@ pub record Told (G : Grid) (k : Case) : Type 0 where
   pub x : Filled 0 512 (λ c. circuit (G .circuits) c .x) (k .circuits) (k .x)
   pub lengths : Filled 0 512 (λ c. expandedLength (G .settings) (circuit (G .circuits) c)) (k .circuits) (k .length)
   pub marks : Filled 0 512 (λ c. circuit (G .circuits) c .localMark) (k .circuits) (k .mark)
-  pub tec : Filled (kilowatts 0) 256 (λ v. kilowatts (nodeTec G v)) (k .nodes) (k .tec)
-  pub demand : Filled (kilowatts 0) 256 (λ v. kilowatts (nodeDemand G v)) (k .nodes) (k .demand)
-  pub allTec : k .«total_tec» .0 ≡ totalTec G
-  pub allDemand : k .«total_demand» .0 ≡ totalDemand G
+  pub supply : (v : ℕ) → v < k .nodes → number (k .supply) v ≡ supply G Base v
 
 -- ---- step 1 sees the TEC of the n nodes alone
 module _ (n : ℕ) (f g : ℕ → ℕ) (demand : ℕ) (e : (v : ℕ) → v < n → f v ≡ g v) where
@@ -111,16 +110,12 @@ pub kw-at : {a : Kw} {n : ℕ} → a ≡ kilowatts n → a .0 ≡ n
 kw-at e = ap (λ (a : Kw). a .0) e
 
 -- ---- what the columns say is the grid's
-module _ (G : Grid) (k : Case) (t : Told G k) (runs : Runs) where
-  pub supply-told : (system : System) (v : ℕ) → v < k .nodes → supplyAt system (k .nodes) (k .tec) (k .demand) (k .«total_demand») v ≡ supply G system v
-  unfolding supplyAt supply net
-  supply-told Base v h =
-      ap₂ (λ (a d : ℕ). pos 1000000 *ℤ (pos a -ℤ pos d))
-      (scaled-same (k .nodes) (kwAt (k .tec)) (nodeTec G) (k .«total_demand» .0) (λ i l. kw-at (t .tec .at i l)) v h
-      ∙ ap₂ (λ (n d : ℕ). scaled n (nodeTec G) d v) (t .nodes) (t .allDemand))
-      (kw-at (t .demand .at v h))
-  supply-told Wider v h = refl
-  supply-told Local v h = refl
+module _ (G : Grid) (k : Case) (t : Told G k) (few : k .nodes ≤ 256) (runs : Runs) where
+  supply-told : (system : System) (v : ℕ) → v < k .nodes → number (supplyIn system (k .supply)) v ≡ supply G system v
+  unfolding supplyIn supply
+  supply-told Base v h = t .supply v h
+  supply-told Wider v h = getD-replicate 256 v (pos 0) (pos 0) (omega arith)
+  supply-told Local v h = getD-replicate 256 v (pos 0) (pos 0) (omega arith)
 
   pub offset-told : (system : System) (c : ℕ) → c < k .circuits → offsetAt system (k .nodes) (k .length) (k .mark) (runs .base) c ≡ offset G runs system c
   unfolding offsetIn offset lengthOf signedLength networkOf
@@ -141,7 +136,7 @@ module _ (G : Grid) (k : Case) (t : Told G k) (runs : Runs) where
     second = t .second .at;
     x = t .x .at;
     offset = offset-told system;
-    supply = supply-told system;
+    supply = λ v h. supply-told system v h;
   })
 
   -- 11

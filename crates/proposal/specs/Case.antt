@@ -3,12 +3,6 @@ use mathlib.Core.List.{List}
 use Prim.Native.Nat.{ℕ, _-_, _≤_, _<_}
 use lib.IntN.{ℤ}
 use lib.ListN.{length, getD}
-use Rattle.integers.specs.Numbers.{sum}
-use Rattle.columns.specs.declared.RowCounts.{RowCounts}
-use Rattle.columns.specs.declared.StudySettings.{StudySettings}
-use Rattle.columns.specs.declared.NodeColumns.{NodeColumns}
-use Rattle.columns.specs.declared.CircuitColumns.{CircuitColumns}
-use Rattle.meaning.specs.declared.Kw.{Kw}
 use Rattle.meaning.specs.declared.System.{System}
 use Rattle.meaning.specs.declared.System.the-variants.{Base, Wider, Local}
 use Rattle.meaning.specs.declared.Answer.{Answer}
@@ -18,39 +12,48 @@ use Rattle.meaning.specs.Rows.{failing}
 use Rattle.meaning.specs.Network.{Network}
 use Rattle.meaning.specs.Proposal.{Proposed, systemStage}
 use Rattle.meaning.specs.Systems.{limitOf}
-use Rattle.proposal.specs.declared.solution.Case.{Case}
-use Rattle.proposal.specs.Columns.{netOf, Shaped, Ended}
-use Rattle.proposal.specs.Offsets.{offsetAt, clearBy, Lengths}
-use Rattle.proposal.specs.Supplies.{kilowatts, kwAt, supplyAt, Scalable, Demands}
+use Rattle.numbers.specs.Numbers.{clearBy}
+use Rattle.tables.specs.declared.Opened.{Opened}
+use Rattle.supply.specs.Supply.{baseSupply, supplyIn}
+use Rattle.proposal.specs.declared.case.Case.{Case}
+use Rattle.proposal.specs.Columns.{number, netOf, Shaped, Ended, Measured}
+use Rattle.proposal.specs.Offsets.{offsetAt, Lengths}
 
--- the case of a file's columns: the reference counted from 0, and the totals of step 1
-unfoldable pub caseOf : RowCounts → StudySettings → NodeColumns → CircuitColumns → (scaling : List Kw) → Case
-caseOf rows settings nodes ends scaling =
+-- the case of a file that was opened: the reference counted from 0, and the supply of step 3
+unfoldable pub caseOf : Opened → Case
+caseOf o =
     record {
-      nodes = rows .nodes;
-      circuits = rows .circuits;
-      reference = settings .reference - 1;
-      first = ends .first;
-      second = ends .second;
-      x = ends .x;
-      length = ends .length;
-      mark = ends .mark;
-      tec = scaling;
-      demand = nodes .demand;
-      «total_tec» = kilowatts (sum (rows .nodes) (kwAt scaling));
-      «total_demand» = kilowatts (sum (rows .nodes) (kwAt (nodes .demand)));
+      nodes = o .counts .nodes;
+      circuits = o .counts .circuits;
+      reference = o .settings .reference - 1;
+      first = o .circuits .first;
+      second = o .circuits .second;
+      x = o .circuits .x;
+      length = o .circuits .length;
+      mark = o .circuits .mark;
+      supply = baseSupply (o .counts .nodes) (o .tec .scaling) (o .nodes .demand);
     }
-
--- what 2 and 7 have passed: there is a reference, and totals are small
-pub record Countable (rows : RowCounts) (settings : StudySettings) (nodes : NodeColumns) (scaling : List Kw) : Type 0 where
-  pub few : rows .nodes ≤ 256
-  pub reference : 1 ≤ settings .reference
-  pub tecSmall : sum (rows .nodes) (kwAt scaling) ≤ 100000000
-  pub demandSmall : sum (rows .nodes) (kwAt (nodes .demand)) ≤ 100000000
 
 -- the network of a case
 abbrev pub netIn : Case → Network
 netIn k = netOf (k .nodes) (k .circuits) (k .reference) (k .first) (k .second) (k .x)
+
+-- what is proposed for a system, supply and offset in columns
+abbrev pub proposedIn : System → (supply offset run : List ℤ) → Proposed
+proposedIn system supply offset run =
+    record {
+      system = system;
+      limit = limitOf system;
+      supply = number supply;
+      offset = number offset;
+      run = run;
+    }
+
+-- what the judge of a system asks of a case; the run's numbers, the supplies and the reference are any
+pub record Ready (k : Case) (offset run : List ℤ) : Type 0 where
+  pub shaped : Shaped (k .nodes) (k .circuits) run
+  pub ended : Ended (k .nodes) (k .circuits) (k .first) (k .second)
+  pub measured : Measured (k .circuits) (k .x) offset
 
 -- what is proposed for a system, by its run and the base run
 abbrev pub offeredIn : System → Case → (base run : List ℤ) → Proposed
@@ -58,7 +61,7 @@ offeredIn system k base run =
     record {
       system = system;
       limit = limitOf system;
-      supply = supplyAt system (k .nodes) (k .tec) (k .demand) (k .«total_demand»);
+      supply = number (supplyIn system (k .supply));
       offset = offsetAt system (k .nodes) (k .length) (k .mark) base;
       run = run;
     }
@@ -80,7 +83,5 @@ pub record Judgeable (k : Case) (base run : List ℤ) : Type 0 where
   pub based : Shaped (k .nodes) (k .circuits) base
   pub shaped : Shaped (k .nodes) (k .circuits) run
   pub ended : Ended (k .nodes) (k .circuits) (k .first) (k .second)
-  pub lengths : Lengths (k .circuits) (k .length) (k .mark)
+  pub lengths : Lengths (k .circuits) (k .length)
   pub xSmall : (c : ℕ) → c < k .circuits → getD (k .x) c 0 ≤ 10000
-  pub scalable : Scalable (k .nodes) (k .tec) (k .«total_demand») (k .«total_tec»)
-  pub demands : Demands (k .nodes) (k .demand)

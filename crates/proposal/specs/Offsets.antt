@@ -1,13 +1,13 @@
--- 01, steps 4 and 5: the offset of a system, and 11, over columns as code has them.
-use mathlib.Core.Bool.{Bool, cond, not, _||_}
+-- 01, steps 4 and 5: the offset of a system, over columns as code has them.
+use mathlib.Core.Bool.{cond}
 use mathlib.Core.List.{List}
 use Prim.Native.Nat.{ℕ, _+_, _*_, _≤_, _<_}
-use lib.Dec.{eqb, leb}
+use lib.Dec.{eqb}
 use lib.IntN.{ℤ, pos}
-use lib.ListN.{length, getD}
+use lib.ListN.{getD}
 use Rattle.meaning.specs.declared.System.{System}
 use Rattle.meaning.specs.declared.System.the-variants.{Base, Wider, Local}
-use Rattle.meaning.specs.Direction.{direction, inDoubt, signed}
+use Rattle.meaning.specs.Direction.{direction, signed}
 use Rattle.proposal.specs.Columns.{number}
 
 -- step 4: 1,000,000 times the expanded length, with the base flow's sign, or 0 when idle
@@ -20,14 +20,8 @@ offsetIn Base length mark flow = pos 0
 offsetIn Wider length mark flow = cond (eqb mark 0) (signedBy length flow) (pos 0)
 offsetIn Local length mark flow = cond (eqb mark 0) (pos 0) (signedBy length flow)
 
--- 11: circuit c has no length, or its base flow is not in doubt
-unfoldable pub clearBy : (n : ℕ) (lengths : List ℕ) (base : List ℤ) → ℕ → Bool
-clearBy n lengths base c = not (leb 1 (getD lengths c 0)) || not (inDoubt (direction (number base (n + c))))
-
--- the expanded lengths of m circuits, up to 3 x 10^10 mm, and their marks
-pub record Lengths (m : ℕ) (lengths marks : List ℕ) : Type 0 where
-  pub lengthsLong : m ≤ length lengths
-  pub marksLong : m ≤ length marks
+-- the expanded lengths of m circuits, up to 3 x 10^10 mm
+pub record Lengths (m : ℕ) (lengths : List ℕ) : Type 0 where
   pub lengthSmall : (c : ℕ) → c < m → getD lengths c 0 ≤ 30000000000
 
 -- the offset of circuit c in a system

@@ -1,9 +1,12 @@
 // 01, 10: misses sum too high.
+use crate::case::Case;
 ghost use mathlib.Core.Path.{_≡_};
 ghost use Prim.Native.Nat.{_<_};
 ghost use lib.Dec.{leb};
 ghost use lib.IntN.{pos, natAbs, _-ℤ_, _*ℤ_};
-ghost use Rattle.proposal.specs.Columns.{netOf, missBy, missSumBy, Shaped, Ended, Measured, SmallMiss, Ranged};
+ghost use Rattle.meaning.specs.Columns.{numberAt};
+ghost use Rattle.proposal.specs.Columns.{number, missSumBy, Shaped, Ended, Measured, Dropping, SmallMiss, Ranged};
+ghost use Rattle.proposal.specs.Case.{netIn};
 
 // The magnitude of a number that has one in an i64.
 pub fn magnitude(z: i64) -> u64
@@ -16,56 +19,36 @@ pub fn magnitude(z: i64) -> u64
     z as u64
 }
 
-// A circuit's miss. Potentials come to 4 x 10^18, x times flow to 10^18, the offset to 3 x 10^16: nothing wraps.
-pub fn miss_of(p: i64, q: i64, x: u64, flow: i64, offset: i64) -> i64
-    requires { ⌜ SmallMiss p q x flow offset ⌝ }
-    ensures { λ r. ⌜ r ≡ p -ℤ q -ℤ pos x *ℤ flow -ℤ offset ⌝ }
-{
-    let drop = x as i64 * flow;
-    p - q - drop - offset
-}
-
-// The magnitude of circuit c's miss.
-pub fn miss_size(
-    n: usize,
-    m: usize,
-    first: &[usize],
-    second: &[usize],
-    x: &[u64],
-    offset: &[i64],
-    run: &[i64],
-    c: usize,
-) -> u64
-    requires { ⌜ Shaped n m (now run) × Ended n m (now first) (now second) × Measured m (now x) (now offset) × Ranged n m (now run) × (c < m) ⌝ }
-    ensures { λ r. ⌜ r ≡ natAbs (missBy (netOf n m 0 (now (first .entry)) (now (second .entry)) (now (x .entry))) (now (offset .entry)) (now (run .entry)) c) ⌝ }
+// Potential at circuit c's first node less potential at its second.
+pub fn drop_at<'a>(first: &'a [usize; 512], second: &'a [usize; 512], run: &[i64], c: usize) -> i64
+    requires { ⌜ Dropping (now first) (now second) (now run) c ⌝ }
+    ensures { λ r. ⌜ r ≡ number (now (run .entry)) (numberAt (now (first .entry)) c) -ℤ number (now (run .entry)) (numberAt (now (second .entry)) c) ⌝ }
 {
     let a = first[c];
     let b = second[c];
-    let times = x[c];
-    let p = run[a];
-    let q = run[b];
-    let flow = run[n + c];
-    let less = offset[c];
-    magnitude(miss_of(p, q, times, flow, less))
+    run[a] - run[b]
+}
+
+// The magnitude of a circuit's miss. Drops come to 4 x 10^18, x times flow to 10^18, the offset to 3 x 10^16: nothing wraps.
+pub fn miss_size(drop: i64, x: u64, flow: i64, offset: i64) -> u64
+    requires { ⌜ SmallMiss drop x flow offset ⌝ }
+    ensures { λ r. ⌜ r ≡ natAbs (drop -ℤ pos x *ℤ flow -ℤ offset) ⌝ }
+{
+    magnitude(drop - x as i64 * flow - offset)
 }
 
 // Whether the misses sum to at most 100,000,000. It stops above that, so that the sum never wraps.
-pub fn misses_low(
-    n: usize,
-    m: usize,
-    first: &[usize],
-    second: &[usize],
-    x: &[u64],
-    offset: &[i64],
-    run: &[i64],
-) -> bool
-    requires { ⌜ Shaped n m (now run) × Ended n m (now first) (now second) × Measured m (now x) (now offset) × Ranged n m (now run) ⌝ }
-    ensures { λ r. ⌜ r ≡ leb (missSumBy (netOf n m 0 (now (first .entry)) (now (second .entry)) (now (x .entry))) (now (offset .entry)) (now (run .entry))) 100000000 ⌝ }
+pub fn misses_low(k: Case, offset: [i64; 512], run: &[i64]) -> bool
+    requires { ⌜ Shaped (k .nodes) (k .circuits) (now run) × Ended (k .nodes) (k .circuits) (k .first) (k .second) × Measured (k .circuits) (k .x) offset × Ranged (k .nodes) (k .circuits) (now run) ⌝ }
+    ensures { λ r. ⌜ r ≡ leb (missSumBy (netIn k) offset (now (run .entry))) 100000000 ⌝ }
 {
+    let n = k.nodes;
+    let m = k.circuits;
     let mut total: u64 = 0;
     let mut c: usize = 0;
     while c < m {
-        total += miss_size(n, m, first, second, x, offset, run, c);
+        let drop = drop_at(&k.first, &k.second, run, c);
+        total += miss_size(drop, k.x[c], run[n + c], offset[c]);
         if total > 100000000 {
             return false;
         }

@@ -1,18 +1,10 @@
 // 01, Order: 8, 9, 10 of the base; 11; 8, 9, 10 of the wider solution, then of the local one.
+use crate::case::Case;
 use crate::solution;
-use crate::solution::Case;
 use meaning::Answer;
 use meaning::System;
 ghost use mathlib.Core.Path.{_≡_};
-ghost use Rattle.meaning.specs.Answers.{stops};
 ghost use Rattle.proposal.specs.Case.{proposalsIn, Judgeable};
-
-// Whether an answer is a refusal.
-pub fn is_refusal(answer: Answer) -> bool
-    ensures { λ r. ⌜ r ≡ stops answer ⌝ }
-{
-    tables::values(answer).number >= 1
-}
 
 // The first refusal of the proposals, in the order of the systems.
 pub fn proposals(k: Case, base: &[i64], wider: &[i64], local: &[i64]) -> Answer
@@ -20,15 +12,15 @@ pub fn proposals(k: Case, base: &[i64], wider: &[i64], local: &[i64]) -> Answer
     ensures { λ r. ⌜ r ≡ proposalsIn k (now (base .entry)) (now (wider .entry)) (now (local .entry)) ⌝ }
 {
     let of_base = solution::solution(System::Base, k, base, base);
-    if is_refusal(of_base) {
+    if answers::is_refusal(of_base) {
         return of_base;
     }
     let of_directions = solution::doubt(k, base);
-    if is_refusal(of_directions) {
+    if answers::is_refusal(of_directions) {
         return of_directions;
     }
     let of_wider = solution::solution(System::Wider, k, base, wider);
-    if is_refusal(of_wider) {
+    if answers::is_refusal(of_wider) {
         return of_wider;
     }
     solution::solution(System::Local, k, base, local)

@@ -1,36 +1,29 @@
 -- Figures that are those of the meaning have its sheet as their text.
 use Prim.Native.Nat.{ℕ, suc, _+_, _*_, _<_}
-use mathlib.Core.Bool.{cond}
-use mathlib.Core.Path.{_≡_, refl, sym, ap, ap₂, _∙_}
-use mathlib.Core.List.{List, [], _∷_, _++_}
+use mathlib.Core.Path.{_≡_, sym, ap, _∙_}
+use mathlib.Core.List.{List}
 use native.Mathlib.Decide.{ℕ-discrete}
 use borrow.Author.Tests.{eq-eqb, ne-eqb}
-use lib.Dec.{eqb}
 use lib.ListN.{length, getD}
 use Rattle.meaning.specs.Rows.{joined}
 use Rattle.meaning.specs.Name.{unpadded}
-use Rattle.meaning.specs.Text.{text, natural, decimal, line}
 use Rattle.meaning.specs.Study.{Runs, Node, node, noNode}
 use Rattle.meaning.specs.File.{nameAt, nodeAt, recordSize, sectionStart, sectionCount, studyOf}
 use Rattle.meaning.proofs.Rows.{rows-at}
 use Rattle.meaning.specs.Grid.{Grid, nodeTec}
 use Rattle.meaning.specs.Figures.{zones, zoneWeight, zonalMetres, C, afterC, zoneTariff, residual, zoneTotal, localMetres, localTariff, remainder}
-use Rattle.meaning.specs.Sheet.{letter, zoneLine, zoneLines, localLine, sheet}
-use Rattle.meaning.specs.Answers.{values}
-use Rattle.meaning.specs.Outcome.{refusedLine}
-use Rattle.meaning.specs.declared.Answer.{Answer}
+use Rattle.meaning.specs.Sheet.{zoneLine, zoneLines, localLine, sheet}
 use Rattle.meaning.specs.declared.Side.{Side}
 use Rattle.meaning.specs.declared.Side.the-variants.{Generation, Demand}
 use Rattle.meaning.specs.declared.MicroPerKw.{MicroPerKw}
-use Rattle.charges.specs.declared.figures.ZoneFigures.{ZoneFigures}
-use Rattle.charges.specs.declared.figures.SideFigures.{SideFigures}
-use Rattle.charges.specs.declared.figures.LocalFigures.{LocalFigures}
-use Rattle.charges.specs.declared.figures.Figures.{Figures}
-use Rattle.charges.specs.Steps.{noLocal}
-use Rattle.charges.specs.Sides.{noLine}
-use Rattle.sheet.specs.SheetText.{zoneText, emptyZone, fullZone, zoneTexts, localText, fullNode, localTexts, constantText, remainderText, sheetText, nameOf, refusedText}
-use Rattle.sheet.proofs.Joined.{joined-same}
-use Rattle.sheet.proofs.Lined.{zone-empty, zone-full, node-empty, node-full}
+use Rattle.meaning.specs.declared.ZoneFigures.{ZoneFigures}
+use Rattle.meaning.specs.declared.SideFigures.{SideFigures}
+use Rattle.meaning.specs.declared.LocalFigures.{LocalFigures}
+use Rattle.meaning.specs.declared.Figures.{Figures}
+use Rattle.meaning.specs.Columns.{noLine, noLocal}
+use Rattle.text.specs.SheetText.{zoneText, emptyZone, fullZone, zoneTexts, localText, fullNode, localTexts, constantText, remainderText, sheetText, nameOf}
+use Rattle.text.proofs.Joined.{joined-same}
+use Rattle.text.proofs.Lined.{zone-empty, zone-full, node-empty, node-full}
 
 module _ (G : Grid) (runs : Runs) where
   -- the figures of a zone: only its kilowatts where it has none
@@ -125,8 +118,3 @@ names-agree file v one h =
     sym (
     ap (λ (n : Node). unpadded (n .name)) (rows-at noNode (sectionCount file 1) (λ i. nodeAt file (sectionStart file 1 + 24 * i)) v h)
     ∙ ap (λ (at : ℕ). unpadded (nameAt file (at + 24 * v))) start)
-
--- the line of a refusal
-pub refused-agrees : (a : Answer) → refusedText (values a .number) (values a .system) (values a .row) ≡ refusedLine a
-unfolding refusedText refusedLine
-refused-agrees a = refl

@@ -1,10 +1,3 @@
-pub mod Writing
-pub mod Digits
-pub mod Joined
-pub mod Padding
-pub mod Lined
-pub mod Rows
 pub mod Agrees
 pub mod OfCase
 pub mod Settles
-pub mod Refusing

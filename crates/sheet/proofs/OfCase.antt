@@ -1,24 +1,23 @@
 -- The figures of a case have its sheet as their text, and their counts stay inside their tables and the file.
 use Prim.Native.Nat.{ℕ, suc, _+_, _*_, _≤_, _<_}
-use mathlib.Core.Path.{_≡_, refl, sym, ap, _∙_}
+use mathlib.Core.Path.{_≡_, refl}
 use mathlib.Core.List.{List}
 use native.Mathlib.Omega.{arith}
-use lib.ListN.{length, getD}
+use lib.ListN.{length}
 use Rattle.meaning.specs.declared.Side.{Side}
 use Rattle.meaning.specs.declared.Side.the-variants.{Generation, Demand}
 use Rattle.meaning.specs.Name.{unpadded}
 use Rattle.meaning.specs.Study.{Study, Runs, node}
-use Rattle.meaning.specs.File.{sectionCount, studyOf}
+use Rattle.meaning.specs.File.{studyOf}
 use Rattle.meaning.specs.Grid.{Grid, gridOf}
 use Rattle.meaning.specs.Figures.{zones}
 use Rattle.meaning.specs.Sheet.{sheet}
 use Rattle.meaning.specs.Conditions.{WholeFile, SoundSettings}
 use Rattle.meaning.proofs.Starts.{counts, file-length}
-use Rattle.charges.specs.Steps.{noLocal}
-use Rattle.charges.specs.Sides.{noLine}
 use Rattle.charges.specs.Case.{zoneFigures, sideFigures, localFigures, figuresOf}
-use Rattle.charges.proofs.Columns.{column-at}
-use Rattle.sheet.specs.SheetText.{sheetText, nameOf, Sized}
+use Rattle.meaning.proofs.Columns.{column-at}
+use Rattle.meaning.specs.Columns.{noLine, noLocal}
+use Rattle.text.specs.SheetText.{sheetText, nameOf, Sized}
 use Rattle.sheet.proofs.Agrees.{ZoneAgrees, SideAgrees, NodeAgrees, Agrees, sheet-agrees, names-agree}
 
 module _ (G : Grid) (runs : Runs) where

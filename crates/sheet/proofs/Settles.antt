@@ -1,26 +1,25 @@
 -- What an entry settles, by what stops the case and by the length of its sheet; and the figures of a case that nothing stops.
-use mathlib.Core.Path.{_≡_, refl, sym, _∙_, ap}
-use mathlib.Core.Bool.{true, false, cond}
+use mathlib.Core.Path.{_≡_, sym, _∙_, ap}
+use mathlib.Core.Bool.{true, false}
 use mathlib.Core.List.{List, _++_}
 use Prim.Native.Nat.{ℕ, _≤_, _<_}
 use native.Mathlib.Omega.{arith}
 use borrow.Author.Tests.{le-leb, lt-leb}
 use lib.ListN.{length, drop}
-use Rattle.meaning.specs.declared.Answer.{Answer}
 use Rattle.meaning.specs.declared.Answer.the-variants.{Accepted, ShortBuffer}
 use Rattle.meaning.specs.Answers.{stops}
 use Rattle.meaning.specs.Study.{Runs}
 use Rattle.meaning.specs.File.{studyOf}
 use Rattle.meaning.specs.Grid.{gridOf}
-use Rattle.meaning.specs.Outcome.{judged, sheetOf, Settled, refused, written, settle}
+use Rattle.meaning.specs.Outcome.{judged, sheetOf, refused, written, settle}
 use Rattle.meaning.specs.Conditions.{Acceptable}
 use Rattle.claims.proofs.Accepted.{judged-pass}
-use Rattle.charges.specs.declared.figures.Figures.{Figures}
 use Rattle.charges.specs.declared.Charged.{Charged}
 use Rattle.charges.specs.Charged.{chargedOf}
 use Rattle.charges.specs.Case.{figuresOf}
-use Rattle.sheet.specs.SheetText.{sheetText, nameOf, Sized}
-use Rattle.sheet.specs.Writing.{Written}
+use Rattle.text.specs.SheetText.{textOf, Sized}
+use Rattle.text.specs.Writing.{Fitted}
+use Rattle.text.proofs.Sizing.{says-sized, text-sized}
 use Rattle.sheet.proofs.OfCase.{case-sheet, case-sized}
 
 module _ (file : List ℕ) (runs : Runs) (buffer : List ℕ) where
@@ -58,18 +57,28 @@ module _ (file : List ℕ) (runs : Runs) (r : Charged) (made : r ≡ chargedOf f
     acceptable : Acceptable file runs
     acceptable = judged-pass file runs .0 judged-passes
 
-    pub figures-sized : Sized (r .figures) file
+    figures-sized : Sized (r .figures) file
     figures-sized = rw figures-are (case-sized file runs (acceptable .whole) (acceptable .tables .settings))
 
-    pub figures-sheet : sheetText (r .figures) (nameOf file) ≡ sheetOf file runs
-    figures-sheet = rw figures-are (case-sheet file runs (acceptable .whole) (acceptable .tables .settings))
+    -- their text is the sheet
+    figures-text : textOf (r .figures) file ≡ sheetOf file runs
+    figures-text =
+        text-sized (r .figures) file (says-sized (r .figures) file .1 figures-sized)
+        ∙ rw figures-are (case-sheet file runs (acceptable .whole) (acceptable .tables .settings))
 
-    pub figures-written : (before new : List ℕ) (n : ℕ) → Written (sheetText (r .figures) (nameOf file)) before new n
-        → length (sheetText (r .figures) (nameOf file)) ≤ length before
-        → record { answer = Accepted n; buffer = new } ≡ settle file runs before
-    figures-written before new n w fits =
-        rw (w .answer, w .buffer, figures-sheet) (settles-written file runs before judged-passes (rw figures-sheet at fits))
+    module _ (before after : List ℕ) (n : ℕ) (w : Fitted (textOf (r .figures) file) before after n) where
+      sheet-fitted : Fitted (sheetOf file runs) before after n
+      sheet-fitted = rw figures-text at w
 
-    pub figures-short : (before : List ℕ) → length before < length (sheetText (r .figures) (nameOf file))
-        → record { answer = ShortBuffer; buffer = before } ≡ settle file runs before
-    figures-short before h = settles-short file runs before judged-passes (rw figures-sheet at h)
+      -- a buffer that is shorter than the sheet is as it was
+      pub figures-short : length before < n → record { answer = ShortBuffer; buffer = after } ≡ settle file runs before
+      figures-short h =
+          let short : length before < length (sheetOf file runs) = omega (arith, sheet-fitted .answer) in
+          rw (sheet-fitted .buffer, lt-leb (length (sheetOf file runs)) (length before) short) (settles-short file runs before judged-passes short)
+
+      -- another has the sheet at its front
+      pub figures-written : n ≤ length before → record { answer = Accepted n; buffer = after } ≡ settle file runs before
+      figures-written h =
+          let fits : length (sheetOf file runs) ≤ length before = omega (arith, sheet-fitted .answer) in
+          rw (sheet-fitted .answer, sheet-fitted .buffer, le-leb (length (sheetOf file runs)) (length before) fits)
+          (settles-written file runs before judged-passes fits)

@@ -1,65 +1,55 @@
 -- 6 and 7 of a study whose rows are sound, over its columns.
 use mathlib.Core.Path.{_≡_, refl, sym, _∙_, ap, ap₂}
 use mathlib.Core.List.{List}
-use Prim.Native.Nat.{ℕ, _-_, _≤_, _<_}
+use Prim.Native.Nat.{ℕ, _≤_, _<_}
 use native.Mathlib.Omega.{arith}
 use lib.ListN.{length}
-use Rattle.integers.specs.Numbers.{sum}
 use Rattle.meaning.specs.declared.Kw.{Kw}
 use Rattle.meaning.specs.Answers.{_orElse_}
-use Rattle.meaning.specs.File.{studyOf}
+use Rattle.meaning.specs.Columns.{kilowatts, kwAt}
 use Rattle.meaning.specs.Grid.{gridOf, nodeDemand, nodeTec}
 use Rattle.meaning.specs.Network.{reachStage}
 use Rattle.meaning.specs.Outcome.{rowsStage, gridStage}
 use Rattle.meaning.proofs.Answers.{Passes}
 use Rattle.meaning.proofs.Rows.{rows-at}
 use Rattle.meaning.proofs.Tables.{Rowwise, rows-pass}
-use Rattle.columns.specs.declared.RowCounts.{RowCounts}
-use Rattle.columns.specs.declared.StudySettings.{StudySettings}
-use Rattle.columns.specs.declared.CircuitColumns.{CircuitColumns}
-use Rattle.columns.specs.declared.StationColumns.{StationColumns}
-use Rattle.columns.specs.Column.{kilowatts}
-use Rattle.columns.specs.Columns.{settingsIn}
-use Rattle.tables.specs.Told.{ToldTables, ToldKilowatts}
-use Rattle.tables.specs.Totals.{inColumn, Small, totalsOf}
-use Rattle.tables.specs.Walk.{endsNetwork, Walks}
+use Rattle.layout.specs.Readable.{readable}
+use Rattle.layout.proofs.Rows.{counts-are, few, stations-few}
+use Rattle.columns.specs.Columns.{nodesOf}
+use Rattle.columns.specs.Tec.{tecOf}
+use Rattle.tables.specs.declared.read.Read.{Read}
+use Rattle.tables.specs.Reads.{Reads, SoundRows, endsOf, totalsIn}
+use Rattle.tables.specs.Walk.{endsNetwork}
 use Rattle.tables.proofs.ReachLaws.{ends-walk, ends-stage}
-use Rattle.tables.proofs.ToldLaws.{told-nodes, told-circuits, told-stations}
+use Rattle.tables.proofs.ReadLaws.{reference-is}
 use Rattle.tables.proofs.TotalLaws.{demand-small, tec-small, totals-are}
 
-module _ {file : List ℕ} {n : RowCounts} {s : StudySettings} {c : CircuitColumns} {k : StationColumns} {d e : List Kw}
-    (t : ToldTables file n s c k) (w : ToldKilowatts file d e) (p : Passes (rowsStage (studyOf file))) where
-  rowwise : Rowwise (studyOf file)
-  rowwise = rows-pass (studyOf file) .0 p
+module _ {file : List ℕ} {a : Read} (t : Reads file a) (p : Passes (rowsStage (readable file))) where
+  rowwise : Rowwise (readable file)
+  rowwise = rows-pass (readable file) .0 p
 
-  reference-is : s .reference ≡ studyOf file .settings .reference
-  unfolding settingsIn
-  reference-is = rw (sym (t .settings)) refl
+  nodes-are : a .counts .nodes ≡ length (readable file .nodes)
+  nodes-are = counts-are file (t .counts) .0
 
-  pub reference-one : 1 ≤ s .reference
-  reference-one = omega (arith, reference-is, rowwise .settings .reference .least)
+  demands : (v : ℕ) → v < a .counts .nodes → kwAt (a .nodes .demand) v ≡ nodeDemand (gridOf (readable file)) v
+  unfolding nodesOf gridOf
+  demands v h = rw (t .nodes) (ap (λ (x : Kw). x .0) (rows-at (kilowatts 0) 256 _ v (omega (arith, few file (t .counts) .nodes-low))))
 
-  few : length (studyOf file .stations) ≤ 512
-  few = omega (arith, told-stations t .count, told-stations t .few)
+  tecs : (v : ℕ) → v < a .counts .nodes → kwAt (a .tec .scaling) v ≡ nodeTec (gridOf (readable file)) v
+  unfolding tecOf
+  tecs v h = rw (t .tec) (ap (λ (x : Kw). x .0) (rows-at (kilowatts 0) 256 _ v (omega (arith, few file (t .counts) .nodes-low))))
 
-  demands : (v : ℕ) → v < n .nodes → inColumn d v ≡ nodeDemand (gridOf (studyOf file)) v
-  demands v h = ap (λ (l : List Kw). inColumn l v) (w .demand) ∙ ap (λ (x : Kw). x .0) (rows-at (kilowatts 0) 256 _ v (omega (arith, told-nodes t .few)))
+  pub sound-rows : SoundRows a
+  sound-rows =
+      record {
+        reference = omega (arith, reference-is t, rowwise .settings .reference .least);
+        walks = ends-walk t rowwise;
+        demand = demand-small rowwise (stations-few file) nodes-are (a .nodes .demand) (a .tec .scaling) demands tecs;
+        tec = tec-small rowwise (stations-few file) nodes-are (a .nodes .demand) (a .tec .scaling) demands tecs;
+      }
 
-  tecs : (v : ℕ) → v < n .nodes → inColumn e v ≡ nodeTec (gridOf (studyOf file)) v
-  tecs v h = ap (λ (l : List Kw). inColumn l v) (w .tec) ∙ ap (λ (x : Kw). x .0) (rows-at (kilowatts 0) 256 _ v (omega (arith, told-nodes t .few)))
-
-  pub grid-walks : Walks (n .nodes) (s .reference - 1) (n .circuits) (c .first) (c .second)
-  grid-walks = ends-walk (told-circuits t) (rw reference-is refl) rowwise
-
-  pub grid-demand : Small d (n .nodes)
-  grid-demand = demand-small rowwise few (told-nodes t .count) d e demands tecs
-
-  pub grid-tec : Small e (n .nodes)
-  grid-tec = tec-small rowwise few (told-nodes t .count) d e demands tecs
-
-  pub grid-answer : (reachStage (endsNetwork (n .nodes) (s .reference - 1) (n .circuits) (c .first) (c .second))
-      orElse totalsOf (sum (n .nodes) (inColumn d)) (sum (n .nodes) (inColumn e))) ≡ gridStage (gridOf (studyOf file))
+  pub grid-answer : (reachStage (endsNetwork (endsOf a)) orElse totalsIn a) ≡ gridStage (gridOf (readable file))
   unfolding gridStage
   grid-answer =
-      ap₂ _orElse_ (ends-stage (told-circuits t) (rw reference-is refl) rowwise)
-      (totals-are rowwise few (told-nodes t .count) d e demands tecs)
+      ap₂ _orElse_ (ends-stage t rowwise)
+      (totals-are rowwise (stations-few file) nodes-are (a .nodes .demand) (a .tec .scaling) demands tecs)

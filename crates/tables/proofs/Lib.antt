@@ -1,12 +1,7 @@
-pub mod FirstLaws
-pub mod PlaceLaws
-pub mod NodeLaws
-pub mod CircuitLaws
-pub mod StationLaws
 pub mod WalkLaws
 pub mod TotalLaws
+pub mod ReadLaws
 pub mod ReachLaws
-pub mod ToldLaws
 pub mod GridLaws
 pub mod ChainLaws
 pub mod Sound

@@ -3,21 +3,27 @@ use mathlib.Core.Path.{_≡_, refl, sym, _∙_, ap}
 use mathlib.Core.List.{List}
 use mathlib.Core.Bool.{not}
 use mathlib.Core.Option.{Option}
-use Prim.Native.Nat.{ℕ, _-_, _<_}
+use Prim.Native.Nat.{ℕ, _<_}
 use native.Mathlib.Omega.{arith}
+use lib.ListN.{getD}
 use Rattle.meaning.specs.declared.Answer.the-variants.{Unreached}
 use Rattle.meaning.specs.Answers.{at}
 use Rattle.meaning.specs.Rows.{lowest}
-use Rattle.meaning.specs.File.{studyOf}
-use Rattle.meaning.specs.Grid.{gridOf}
+use Rattle.meaning.specs.Study.{circuit}
+use Rattle.meaning.specs.Grid.{gridOf, place}
 use Rattle.meaning.specs.Network.{Network, networkOf, Reached, here, ahead, back, marked, reachedNodes, reachStage}
-use Rattle.meaning.proofs.Says.{says-as}
+use Rattle.meaning.proofs.Says.{says-as, agree}
 use Rattle.meaning.proofs.Walk.{Placed, reached-is}
 use Rattle.meaning.proofs.Tables.{Rowwise, placed}
-use Rattle.tables.specs.Told.{ToldCircuits}
+use Rattle.meaning.proofs.Rows.{rows-at}
+use Rattle.layout.specs.Readable.{readable}
+use Rattle.layout.proofs.Rows.{counts-are, few}
+use Rattle.columns.specs.Columns.{circuitsOf}
+use Rattle.columns.proofs.PlaceLaws.{lowest-same}
+use Rattle.tables.specs.declared.read.Read.{Read}
+use Rattle.tables.specs.Reads.{Reads, endsOf}
 use Rattle.tables.specs.Walk.{endsNetwork, Walks}
-use Rattle.tables.proofs.FirstLaws.{lowest-same}
-use Rattle.tables.proofs.WalkLaws.{agree}
+use Rattle.tables.proofs.ReadLaws.{reference-is}
 
 -- the same nodes, reference and ends
 record Same (N M : Network) : Type 0 where
@@ -63,19 +69,25 @@ same-stage {N} {M} s p = ap (λ (o : Option ℕ). at o Unreached) (search ∙ rw
         lowest-same _ _ (N .nodes)
         (λ v h. ap not (agree _ _ (says-as (reached-is N (same-placed s p) v) (same-reached s, same-reached (same-back s))) (reached-is M p v)))
 
-module _ {file : List ℕ} {n m r : ℕ} {a b : List ℕ} (told : ToldCircuits file n m a b) (e : r ≡ studyOf file .settings .reference - 1) where
-  ends-same : Same (endsNetwork n r m a b) (networkOf (gridOf (studyOf file)))
+module _ {file : List ℕ} {a : Read} (t : Reads file a) (w : Rowwise (readable file)) where
+  first-is : (c : ℕ) → c < a .counts .circuits → getD (a .circuits .first) c 0 ≡ place (readable file .nodes) (circuit (readable file .circuits) c .first)
+  unfolding circuitsOf
+  first-is c h = rw (t .circuits) (rows-at 0 512 _ c (omega (arith, few file (t .counts) .circuits-low)))
+
+  second-is : (c : ℕ) → c < a .counts .circuits → getD (a .circuits .second) c 0 ≡ place (readable file .nodes) (circuit (readable file .circuits) c .second)
+  unfolding circuitsOf
+  second-is c h = rw (t .circuits) (rows-at 0 512 _ c (omega (arith, few file (t .counts) .circuits-low)))
+
+  ends-same : Same (endsNetwork (endsOf a)) (networkOf (gridOf (readable file)))
   unfolding networkOf gridOf
-  ends-same = record { nodes = told .nodes .count; circuits = told .count; reference = e; first = told .first; second = told .second }
+  ends-same =
+      let n = counts-are file (t .counts) in
+      record { nodes = n .0; circuits = n .1; reference = rw (reference-is t) refl; first = first-is; second = second-is }
 
-  pub ends-walk : Rowwise (studyOf file) → Walks n r m a b
-  ends-walk w =
-      record {
-        few = told .nodes .few;
-        placed = same-placed ends-same (placed (studyOf file) w);
-        firsts = told .firsts;
-        seconds = told .seconds;
-      }
+  pub ends-walk : Walks (endsOf a)
+  ends-walk =
+      let f = few file (t .counts) in
+      record { few = f .nodes-low; many = f .circuits-low; placed = same-placed ends-same (placed (readable file) w) }
 
-  pub ends-stage : Rowwise (studyOf file) → reachStage (endsNetwork n r m a b) ≡ reachStage (networkOf (gridOf (studyOf file)))
-  ends-stage w = same-stage ends-same (placed (studyOf file) w)
+  pub ends-stage : reachStage (endsNetwork (endsOf a)) ≡ reachStage (networkOf (gridOf (readable file)))
+  ends-stage = same-stage ends-same (placed (readable file) w)

@@ -15,10 +15,11 @@ use Rattle.meaning.proofs.Answers.{Passes, passes-orElse, passes-unless}
 use Rattle.meaning.proofs.Says.{_also_, says-eq}
 use Rattle.meaning.proofs.Starts as starts
 use Rattle.meaning.proofs.Tables.{sound-pass}
-use Rattle.columns.specs.Columns.{countsOf, settingsIn, nodesOf, circuitsOf}
+use Rattle.layout.specs.Frame.{countsOf, settingsIn}
+use Rattle.columns.specs.Columns.{nodesOf, circuitsOf}
 use Rattle.columns.specs.Tec.{tecOf}
-use Rattle.columns.proofs.FileLaws.{whole-file}
-use Rattle.columns.proofs.Rows.{readable-whole}
+use Rattle.layout.proofs.FileLaws.{whole-file}
+use Rattle.layout.proofs.Rows.{readable-whole}
 use Rattle.tables.specs.declared.Opened.{Opened}
 use Rattle.tables.specs.Opens.{Opens}
 

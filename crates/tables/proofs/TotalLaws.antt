@@ -12,11 +12,12 @@ use Rattle.meaning.specs.declared.Kw.{Kw}
 use Rattle.meaning.specs.declared.Answer.the-variants.{BadTotal}
 use Rattle.meaning.specs.Answers.{passed, unless}
 use Rattle.meaning.specs.Rows.{_between_and_}
+use Rattle.meaning.specs.Columns.{kwAt}
 use Rattle.meaning.specs.Study.{Study, node, station}
 use Rattle.meaning.specs.Grid.{gridOf, place, plantOf, scales, tecAt, capacityOf, tecOf, nodeTec, nodeDemand, totalsStage}
 use Rattle.meaning.proofs.Rows.{rows-at}
 use Rattle.meaning.proofs.Tables.{Rowwise}
-use Rattle.tables.specs.Totals.{inColumn, Small, totalsOf}
+use Rattle.tables.specs.Totals.{Small, totalsOf}
 
 module _ (demand tec : ℕ) where
   abbrev test : Bool
@@ -57,8 +58,8 @@ module _ {S : Study} (r : Rowwise S) (few : length (S .stations) ≤ 512) where
           omega (arith, if-low (scales (plantOf (suc t))) (getD (getD (gridOf S .capacity) v []) t 0), e, capacity-low v (suc t))
 
   -- its columns of demand and TEC
-  module _ {n : ℕ} (e : n ≡ length (S .nodes)) (demand tec : List Kw) (d : (v : ℕ) → v < n → inColumn demand v ≡ nodeDemand (gridOf S) v)
-      (t : (v : ℕ) → v < n → inColumn tec v ≡ nodeTec (gridOf S) v) where
+  module _ {n : ℕ} (e : n ≡ length (S .nodes)) (demand tec : List Kw) (d : (v : ℕ) → v < n → kwAt demand v ≡ nodeDemand (gridOf S) v)
+      (t : (v : ℕ) → v < n → kwAt tec v ≡ nodeTec (gridOf S) v) where
     pub demand-small : Small demand n
     unfolding gridOf
     demand-small = record { low = λ v h. omega (arith, d v h, r .nodes v (omega arith) .demand) }
@@ -66,6 +67,6 @@ module _ {S : Study} (r : Rowwise S) (few : length (S .stations) ≤ 512) where
     pub tec-small : Small tec n
     tec-small = record { low = λ v h. omega (arith, t v h, tec-low v (omega arith)) }
 
-    pub totals-are : totalsOf (sum n (inColumn demand)) (sum n (inColumn tec)) ≡ totalsStage (gridOf S)
+    pub totals-are : totalsOf (sum n (kwAt demand)) (sum n (kwAt tec)) ≡ totalsStage (gridOf S)
     unfolding totalsOf totalsStage gridOf
     totals-are = rw (sum-same n _ _ d, sum-same n _ _ t, e) refl

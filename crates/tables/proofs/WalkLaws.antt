@@ -14,11 +14,11 @@ use Rattle.meaning.specs.declared.Answer.the-variants.{Unreached}
 use Rattle.meaning.specs.Answers.{passed}
 use Rattle.meaning.specs.Network.{Network, Reached, here, ahead, back, marked, reachedNodes, reachStage}
 use Rattle.meaning.proofs.Walk.{Placed, reached-is}
-use Rattle.meaning.proofs.Says.{Says, says-as, says-eq}
+use Rattle.meaning.proofs.Says.{Says, says-as, says-eq, agree}
 use Rattle.meaning.proofs.Rows.{below-suc}
-use Rattle.tables.specs.First.{IsFirst}
+use Rattle.rows.specs.First.{IsFirst}
 use Rattle.tables.specs.Walk.{Marks, Closed, joined, joins, unmarked, Swept, Walked, unmarkedAt}
-use Rattle.tables.proofs.FirstLaws.{first-as, at-first, at-none}
+use Rattle.rows.proofs.FirstLaws.{first-as, at-first, at-none}
 
 -- ---- a byte set to 1
 fewer-le : (l : List ℕ) (i : ℕ) → unmarked (set l i 1) ≤ unmarked l
@@ -244,12 +244,6 @@ start-marks {N} h k =
     far : {m : ℕ} (v : ℕ) → ((v ≡ N .reference) × (m ≡ 1)) ⊎ (m ≡ getD unwalked v 0) → m ≡ 1 → Reached N v
     far v (inl p) e = here (p .0)
     far v (inr p) e = absurd (omega (arith, p, none-marked 256 v))
-
--- two tests of one thing
-pub agree : (a b : Bool) {P : Type 0} → Says a P → Says b P → a ≡ b
-agree true b s t = sym (t .1 (s .0 refl))
-agree false true s t = s .1 (t .0 refl)
-agree false false s t = refl
 
 module _ {N : Network} (placed : Placed N) {l : List ℕ} (w : Walked N l) where
   all-marked : {v : ℕ} → Reached N v → getD l v 0 ≡ 1

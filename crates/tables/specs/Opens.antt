@@ -3,8 +3,9 @@ use mathlib.Core.Path.{_≡_}
 use mathlib.Core.List.{List}
 use Prim.Native.Nat.{ℕ}
 use Rattle.meaning.specs.Outcome.{tablesStage}
-use Rattle.columns.specs.Readable.{readable}
-use Rattle.columns.specs.Columns.{countsOf, settingsIn, nodesOf, circuitsOf}
+use Rattle.layout.specs.Readable.{readable}
+use Rattle.layout.specs.Frame.{countsOf, settingsIn}
+use Rattle.columns.specs.Columns.{nodesOf, circuitsOf}
 use Rattle.columns.specs.Tec.{tecOf}
 use Rattle.tables.specs.declared.Opened.{Opened}
 

@@ -3,21 +3,16 @@ use mathlib.Core.Bool.{_&&_}
 use mathlib.Core.List.{List}
 use Prim.Native.Nat.{ℕ, _≤_, _<_, _^_}
 use lib.Dec.{leb}
-use lib.ListN.{getD}
 use Rattle.meaning.specs.Rows.{_between_and_}
 use Rattle.meaning.specs.declared.Answer.{Answer}
 use Rattle.meaning.specs.declared.Answer.the-variants.{BadTotal}
 use Rattle.meaning.specs.Answers.{unless}
 use Rattle.meaning.specs.declared.Kw.{Kw}
-use Rattle.columns.specs.Column.{kilowatts}
-
--- the kilowatts of row v of a column
-abbrev pub inColumn : List Kw → ℕ → ℕ
-inColumn column v = getD column v (kilowatts 0) .0
+use Rattle.meaning.specs.Columns.{kwAt}
 
 -- each of the first n kilowatts is far below 64 bits
 pub record Small (column : List Kw) (n : ℕ) : Type 0 where
-  pub low : (v : ℕ) → v < n → inColumn column v ≤ 2 ^ 48
+  pub low : (v : ℕ) → v < n → kwAt column v ≤ 2 ^ 48
 
 -- 7, of two sums
 unfoldable pub totalsOf : (demand tec : ℕ) → Answer

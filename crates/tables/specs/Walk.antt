@@ -7,11 +7,19 @@ use lib.Dec.{eqb}
 use lib.ListN.{length, getD, set}
 use Rattle.meaning.specs.Network.{Network, Reached}
 use Rattle.meaning.proofs.Walk.{Placed}
+use Rattle.tables.specs.declared.reach.Ends.{Ends}
 
 -- the network of resolved ends
-abbrev pub endsNetwork : (n reference m : ℕ) (first second : List ℕ) → Network
-endsNetwork n reference m first second =
-    record { nodes = n; circuits = m; reference = reference; first = λ c. getD first c 0; second = λ c. getD second c 0; x = λ c. 0 }
+abbrev pub endsNetwork : Ends → Network
+endsNetwork e =
+    record {
+      nodes = e .nodes;
+      circuits = e .circuits;
+      reference = e .reference;
+      first = λ c. getD (e .first) c 0;
+      second = λ c. getD (e .second) c 0;
+      x = λ c. 0;
+    }
 
 -- marks so far: every marked node is reached, the reference among them
 pub record Marks (N : Network) (marks : List ℕ) : Type 0 where
@@ -47,12 +55,11 @@ pub record Walked (N : Network) (bytes : List ℕ) : Type 0 where
   pub marks : Marks N bytes
   pub closed : Closed N (N .circuits) bytes
 
--- what a walk is told: at most 256 nodes, ends that are nodes
-pub record Walks (n reference m : ℕ) (first second : List ℕ) : Type 0 where
-  pub few : n ≤ 256
-  pub placed : Placed (endsNetwork n reference m first second)
-  pub firsts : m ≤ length first
-  pub seconds : m ≤ length second
+-- what a walk is told: at most 256 nodes and 512 circuits, ends that are nodes
+pub record Walks (e : Ends) : Type 0 where
+  pub few : e .nodes ≤ 256
+  pub many : e .circuits ≤ 512
+  pub placed : Placed (endsNetwork e)
 
 abbrev pub unmarkedAt : List ℕ → ℕ → Bool
 unmarkedAt marks v = not (eqb (getD marks v 0) 1)

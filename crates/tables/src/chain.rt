@@ -1,108 +1,92 @@
 // The stages in 01's order: what stops first is the answer.
-use crate::circuits;
-use crate::nodes;
 use crate::reach;
+use crate::reach::Ends;
+use crate::read::Read;
 use crate::settings;
-use crate::stations;
-use crate::stops;
-use crate::tests;
 use crate::totals;
-use columns::CapacityColumns;
-use columns::CircuitColumns;
-use columns::NodeColumns;
-use columns::RowCounts;
-use columns::StationColumns;
-use columns::StudySettings;
 use meaning::Answer;
-use meaning::Kw;
 ghost use mathlib.Core.Path.{_≡_};
 ghost use mathlib.Core.Bool.{_&&_};
 ghost use lib.Dec.{eqb};
-ghost use Rattle.integers.specs.Numbers.{sum};
-ghost use Rattle.meaning.specs.File.{studyOf};
 ghost use Rattle.meaning.specs.Answers.{_orElse_};
 ghost use Rattle.meaning.specs.Grid.{gridOf};
 ghost use Rattle.meaning.specs.Network.{reachStage};
 ghost use Rattle.meaning.specs.Outcome.{rowsStage, gridStage, tablesStage};
-ghost use Rattle.tables.specs.Told.{ToldTables, ToldKilowatts, ToldColumns};
-ghost use Rattle.tables.specs.Totals.{inColumn, Small, totalsOf};
+ghost use Rattle.layout.specs.Readable.{readable};
+ghost use Rattle.tables.specs.Reads.{Reads, SoundRows, endsOf, totalsIn};
 ghost use Rattle.tables.specs.Walk.{endsNetwork, Walks};
 
-// 2 to 5.
-pub fn rows_stage(
-    file: &[u8],
-    rows: RowCounts,
-    read: StudySettings,
-    ends: CircuitColumns,
-    at: StationColumns,
-) -> Answer
-    requires { ⌜ ToldTables (now file) rows read ends at ⌝ }
-    ensures { λ r. ⌜ r ≡ rowsStage (studyOf (now (file .entry))) ⌝ }
+// The first answer where it is a refusal, else the second.
+pub fn or_else(first: Answer, second: Answer) -> Answer
+    ensures { λ r. ⌜ r ≡ first orElse second ⌝ }
 {
-    let setting = tests::unless(settings::sound(read, rows.nodes), Answer::BadSetting);
-    if stops(setting) {
-        return setting;
+    if answers::is_refusal(first) {
+        return first;
     }
-    let node = nodes::stage(file, rows.nodes, read.generation_zones, read.demand_zones);
-    if stops(node) {
-        return node;
-    }
-    let first = ends.first;
-    let second = ends.second;
-    let circuit = circuits::stage(file, rows.nodes, rows.circuits, &first, &second);
-    if stops(circuit) {
-        return circuit;
-    }
-    let home = at.node;
-    stations::stage(file, rows.nodes, rows.circuits, rows.stations, &home)
+    second
 }
 
-// 6 and 7, over columns.
-pub fn grid_stage(
-    nodes: usize,
-    reference: usize,
-    count: usize,
-    ends: CircuitColumns,
-    demand: [Kw; 256],
-    tec: [Kw; 256],
-) -> Answer
-    requires { ⌜ Walks nodes reference count (ends .first) (ends .second) × Small demand nodes × Small tec nodes ⌝ }
-    ensures { λ r. ⌜ r ≡ (reachStage (endsNetwork nodes reference count (ends .first) (ends .second)) orElse totalsOf (sum nodes (inColumn demand)) (sum nodes (inColumn tec))) ⌝ }
+// 2 to 5.
+pub fn rows_stage(file: &[u8], all: Read) -> Answer
+    requires { ⌜ Reads (now file) all ⌝ }
+    ensures { λ r. ⌜ r ≡ rowsStage (readable (now (file .entry))) ⌝ }
 {
-    let first = ends.first;
-    let second = ends.second;
-    let reached = reach::stage(nodes, reference, count, &first, &second);
-    if stops(reached) {
-        return reached;
+    let counts = all.counts;
+    let read = all.settings;
+    let circuit = all.circuit;
+    let station = all.station;
+    let setting = settings::stage(read, counts.nodes);
+    or_else(
+        setting,
+        or_else(rows::nodes(file), or_else(circuit, station)),
+    )
+}
+
+// The circuits' ends, for the walk.
+pub fn ends(all: Read) -> Ends
+    requires { ⌜ SoundRows all ⌝ }
+    ensures { λ r. ⌜ r ≡ endsOf all ⌝ }
+{
+    let counts = all.counts;
+    let settings = all.settings;
+    let circuits = all.circuits;
+    let first = circuits.first;
+    let second = circuits.second;
+    Ends {
+        nodes: counts.nodes,
+        reference: settings.reference - 1,
+        circuits: counts.circuits,
+        first,
+        second,
     }
-    totals::stage(nodes, demand, tec)
+}
+
+// 6 and 7.
+pub fn grid_stage(all: Read) -> Answer
+    requires { ⌜ SoundRows all ⌝ }
+    ensures { λ r. ⌜ r ≡ (reachStage (endsNetwork (endsOf all)) orElse totalsIn all) ⌝ }
+{
+    let counts = all.counts;
+    let nodes = all.nodes;
+    let tec = all.tec;
+    let demand = nodes.demand;
+    let scaling = tec.scaling;
+    or_else(
+        reach::stage(ends(all)),
+        totals::stage(counts.nodes, demand, scaling),
+    )
 }
 
 // 2 to 7.
-pub fn study_stage(
-    file: &[u8],
-    rows: RowCounts,
-    read: StudySettings,
-    ends: CircuitColumns,
-    at: StationColumns,
-    demand: [Kw; 256],
-    tec: [Kw; 256],
-) -> Answer
-    requires { ⌜ ToldTables (now file) rows read ends at × ToldKilowatts (now file) demand tec ⌝ }
-    ensures { λ r. ⌜ r ≡ (rowsStage (studyOf (now (file .entry))) orElse gridStage (gridOf (studyOf (now (file .entry))))) ⌝ }
+pub fn study_stage(file: &[u8], all: Read) -> Answer
+    requires { ⌜ Reads (now file) all ⌝ }
+    ensures { λ r. ⌜ r ≡ (rowsStage (readable (now (file .entry))) orElse gridStage (gridOf (readable (now (file .entry))))) ⌝ }
 {
-    let unsound = rows_stage(file, rows, read, ends, at);
-    if stops(unsound) {
+    let unsound = rows_stage(file, all);
+    if answers::is_refusal(unsound) {
         return unsound;
     }
-    grid_stage(
-        rows.nodes,
-        read.reference - 1,
-        rows.circuits,
-        ends,
-        demand,
-        tec,
-    )
+    grid_stage(all)
 }
 
 // Whether the three runs have this length.
@@ -113,27 +97,14 @@ pub fn same_lengths(base: usize, wider: usize, local: usize, count: usize) -> bo
 }
 
 // 1 to 7.
-pub fn tables_stage(
-    file: &[u8],
-    base: usize,
-    wider: usize,
-    local: usize,
-    rows: RowCounts,
-    read: StudySettings,
-    nodes: NodeColumns,
-    ends: CircuitColumns,
-    capacity: CapacityColumns,
-) -> Answer
-    requires { ⌜ ToldColumns (now file) rows read nodes ends capacity ⌝ }
+pub fn tables_stage(file: &[u8], base: usize, wider: usize, local: usize, all: Read) -> Answer
+    requires { ⌜ Reads (now file) all ⌝ }
     ensures { λ r. ⌜ r ≡ tablesStage (now (file .entry)) base wider local ⌝ }
 {
-    if columns::whole(file) {
-        if same_lengths(base, wider, local, rows.nodes + rows.circuits) {
-            let at = capacity.stations;
-            let demand = nodes.demand;
-            let sums = capacity.tec;
-            let tec = sums.scaling;
-            return study_stage(file, rows, read, ends, at, demand, tec);
+    if layout::whole(file) {
+        let counts = all.counts;
+        if same_lengths(base, wider, local, counts.nodes + counts.circuits) {
+            return study_stage(file, all);
         }
         return Answer::BadFile;
     }

@@ -3,9 +3,18 @@ ghost use mathlib.Core.Path.{_≡_};
 ghost use Prim.Native.Nat.{_≤_, _<_};
 ghost use lib.ListN.{length};
 ghost use Rattle.meaning.specs.Network.{reachStage};
-ghost use Rattle.tables.specs.First.{IsFirst};
+ghost use Rattle.rows.specs.First.{IsFirst};
 ghost use Rattle.tables.specs.Walk.{endsNetwork, Marks, joined, joins, Swept, Walked, Walks, unmarkedAt};
 use meaning::Answer;
+
+// What is walked: how many nodes and circuits, the node where the walk begins, the numbers of each circuit's end nodes.
+pub struct Ends {
+    pub nodes: usize,
+    pub reference: usize,
+    pub circuits: usize,
+    pub first: [usize; 512],
+    pub second: [usize; 512],
+}
 
 // Marks both ends of a circuit once one is marked; how many nodes that marks.
 pub fn join(marks: &mut [u8], a: usize, b: usize) -> usize
@@ -21,40 +30,26 @@ pub fn join(marks: &mut [u8], a: usize, b: usize) -> usize
 }
 
 // Goes over all circuits; how many nodes that marks.
-pub fn sweep(
-    marks: &mut [u8],
-    nodes: usize,
-    reference: usize,
-    count: usize,
-    first: &[usize],
-    second: &[usize],
-) -> usize
-    requires { ⌜ Walks nodes reference count (now first) (now second) × Marks (endsNetwork nodes reference count (now first) (now second)) (now marks) ⌝ }
-    ensures { λ r. ⌜ Swept (endsNetwork nodes reference count (now (first .entry)) (now (second .entry))) (now (marks .entry)) (now (marks .exit)) r ⌝ }
+pub fn sweep(marks: &mut [u8], ends: Ends) -> usize
+    requires { ⌜ Walks ends × Marks (endsNetwork ends) (now marks) ⌝ }
+    ensures { λ r. ⌜ Swept (endsNetwork ends) (now (marks .entry)) (now (marks .exit)) r ⌝ }
 {
     let mut more = 0;
     let mut c = 0;
-    while c < count {
-        more += join(marks, first[c], second[c]);
+    while c < ends.circuits {
+        more += join(marks, ends.first[c], ends.second[c]);
         c += 1;
     }
     more
 }
 
 // Goes over all circuits until that marks nothing more.
-pub fn spread(
-    marks: &mut [u8],
-    nodes: usize,
-    reference: usize,
-    count: usize,
-    first: &[usize],
-    second: &[usize],
-)
-    requires { ⌜ Walks nodes reference count (now first) (now second) × Marks (endsNetwork nodes reference count (now first) (now second)) (now marks) ⌝ }
-    ensures { λ _. ⌜ Walked (endsNetwork nodes reference count (now (first .entry)) (now (second .entry))) (now (marks .exit)) ⌝ }
+pub fn spread(marks: &mut [u8], ends: Ends)
+    requires { ⌜ Walks ends × Marks (endsNetwork ends) (now marks) ⌝ }
+    ensures { λ _. ⌜ Walked (endsNetwork ends) (now (marks .exit)) ⌝ }
 {
     loop {
-        if sweep(marks, nodes, reference, count, first, second) == 0 {
+        if sweep(marks, ends) == 0 {
             return;
         }
     }
@@ -76,21 +71,16 @@ pub fn first_unmarked(marks: &[u8], nodes: usize) -> usize
 }
 
 // The stage: the lowest node that no walk reaches.
-pub fn stage(
-    nodes: usize,
-    reference: usize,
-    count: usize,
-    first: &[usize],
-    second: &[usize],
-) -> Answer
-    requires { ⌜ Walks nodes reference count (now first) (now second) ⌝ }
-    ensures { λ r. ⌜ r ≡ reachStage (endsNetwork nodes reference count (now (first .entry)) (now (second .entry))) ⌝ }
+pub fn stage(ends: Ends) -> Answer
+    requires { ⌜ Walks ends ⌝ }
+    ensures { λ r. ⌜ r ≡ reachStage (endsNetwork ends) ⌝ }
 {
     let mut marks = [0u8; 256];
+    let reference = ends.reference;
     marks[reference] = 1;
-    spread(&mut marks, nodes, reference, count, first, second);
-    let row = first_unmarked(&marks, nodes);
-    if row < nodes {
+    spread(&mut marks, ends);
+    let row = first_unmarked(&marks, ends.nodes);
+    if row < ends.nodes {
         return Answer::Unreached(row + 1);
     }
     Answer::Accepted(0)

@@ -1,26 +1,53 @@
 // 2: the settings.
-use crate::tests;
 ghost use mathlib.Core.Path.{_≡_};
+ghost use Rattle.meaning.specs.Answers.{unless};
+ghost use Rattle.meaning.specs.Rows.{_between_and_};
 ghost use Rattle.meaning.specs.Tables.{soundSettings};
-ghost use Rattle.columns.specs.Columns.{settingsIn};
-use columns::StudySettings;
+ghost use Rattle.layout.specs.Frame.{settingsIn};
+ghost use Rattle.tables.specs.Settings.{soundScales};
+use layout::StudySettings;
+use meaning::Answer;
+
+// Whether a number is in a range, both ends in it.
+pub fn between(x: usize, low: usize, high: usize) -> bool
+    ensures { λ r. ⌜ r ≡ x between low and high ⌝ }
+{
+    (low <= x) & (x <= high)
+}
+
+// Whether zones, p, the constant and the security factors are in their ranges.
+pub fn sound_scales(s: StudySettings) -> bool
+    ensures { λ r. ⌜ r ≡ soundScales (settingsIn s) ⌝ }
+{
+    between(s.generation_zones, 1, 32)
+        & between(s.demand_zones, 1, 32)
+        & (s.p <= 1000)
+        & between(s.constant, 1, 10000)
+        & between(s.wider_factor, 1000, 5000)
+        & between(s.local_factor, 1000, 5000)
+}
 
 // Whether each setting is in its range; the reference is a row of the nodes' table.
-pub fn sound(settings: StudySettings, nodes: usize) -> bool
-    ensures { λ r. ⌜ r ≡ soundSettings nodes (settingsIn settings) ⌝ }
+pub fn sound(s: StudySettings, nodes: usize) -> bool
+    ensures { λ r. ⌜ r ≡ soundSettings nodes (settingsIn s) ⌝ }
 {
-    tests::between(settings.generation_zones, 1, 32)
-        & tests::between(settings.demand_zones, 1, 32)
-        & (settings.p <= 1000)
-        & tests::between(settings.constant, 1, 10000)
-        & tests::between(settings.wider_factor, 1000, 5000)
-        & tests::between(settings.local_factor, 1000, 5000)
-        & (settings.overhead400 == 1000)
-        & tests::between(settings.cable400, 1000, 30000)
-        & tests::between(settings.overhead275, 1000, 30000)
-        & tests::between(settings.cable275, 1000, 30000)
-        & tests::between(settings.overhead132, 1000, 30000)
-        & tests::between(settings.cable132, 1000, 30000)
-        & tests::between(settings.reference, 1, nodes)
-        & (settings.revenue <= 10000000000)
+    sound_scales(s)
+        & (s.overhead400 == 1000)
+        & between(s.cable400, 1000, 30000)
+        & between(s.overhead275, 1000, 30000)
+        & between(s.cable275, 1000, 30000)
+        & between(s.overhead132, 1000, 30000)
+        & between(s.cable132, 1000, 30000)
+        & between(s.reference, 1, nodes)
+        & (s.revenue <= 10000000000)
+}
+
+// The stage: a setting out of its range.
+pub fn stage(s: StudySettings, nodes: usize) -> Answer
+    ensures { λ r. ⌜ r ≡ unless (soundSettings nodes (settingsIn s)) Answer.BadSetting ⌝ }
+{
+    if sound(s, nodes) {
+        return Answer::Accepted(0);
+    }
+    Answer::BadSetting
 }

@@ -5,15 +5,15 @@ ghost use Prim.Native.Nat.{_≤_};
 ghost use lib.Dec.{leb};
 ghost use Rattle.integers.specs.Numbers.{sum};
 ghost use Rattle.meaning.specs.Rows.{_between_and_};
-ghost use Rattle.columns.specs.Column.{kilowatts};
-ghost use Rattle.tables.specs.Totals.{inColumn, Small, totalsOf};
+ghost use Rattle.meaning.specs.Columns.{kilowatts, kwAt};
+ghost use Rattle.tables.specs.Totals.{Small, totalsOf};
 use meaning::Answer;
 use meaning::Kw;
 
 // The sum of the first kilowatts of a column.
 pub fn total(column: [Kw; 256], count: usize) -> Kw
     requires { ⌜ (count ≤ 256) × Small column count ⌝ }
-    ensures { λ r. ⌜ r ≡ kilowatts (sum count (inColumn column)) ⌝ }
+    ensures { λ r. ⌜ r ≡ kilowatts (sum count (kwAt column)) ⌝ }
 {
     let mut sum = 0u64;
     let mut v = 0;
@@ -38,7 +38,7 @@ pub fn sound(demand: Kw, tec: Kw) -> bool
 // The stage: a total out of its range, or less TEC than demand.
 pub fn stage(count: usize, demand: [Kw; 256], tec: [Kw; 256]) -> Answer
     requires { ⌜ (count ≤ 256) × Small demand count × Small tec count ⌝ }
-    ensures { λ r. ⌜ r ≡ totalsOf (sum count (inColumn demand)) (sum count (inColumn tec)) ⌝ }
+    ensures { λ r. ⌜ r ≡ totalsOf (sum count (kwAt demand)) (sum count (kwAt tec)) ⌝ }
 {
     if sound(total(demand, count), total(tec, count)) {
         return Answer::Accepted(0);

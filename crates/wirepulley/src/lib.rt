@@ -9,7 +9,7 @@ use meaning::Answer;
 fn tell(answer: Answer, numbers: &mut [u64]) -> u64
     ensures { λ r. ⌜ Tells answer (now (numbers .entry)) (now (numbers .exit)) r ⌝ }
 {
-    let carried = tables::values(answer);
+    let carried = answers::values(answer);
     if numbers.len() >= 4 {
         numbers[0] = carried.number as u64;
         numbers[1] = carried.system as u64;

@@ -38,27 +38,16 @@ returns c =
     let a = d .before in
     stopped (bytes a) (runs a) (read a) (a .before .«open» .ensures) _ (a .is-refusal .ensures) (d .if1 .taken) (c .no-figures .ensures)
 
-generation-of-requires : tie.Need-generation-of-requires
-generation-of-requires c κs = search needs
-
-demand-of-requires : tie.Need-demand-of-requires
-demand-of-requires c κs = search needs
-
-money-of-requires : tie.Need-money-of-requires
-money-of-requires c κs = search needs
-
-figures-of-requires : tie.Need-figures-of-requires
-figures-of-requires c κs =
-    let d = c .before .before .before .before .before .before .before in
-    let a = d .before in
-    fitting (bytes a) (runs a) (read a) (a .before .«open» .ensures) _ (a .is-refusal .ensures) (d .if1 .left) (c .before .before .generation-of .ensures) (c .before .demand-of .ensures) (c .money-of .ensures)
+figures-in-requires : tie.Need-figures-in-requires
+figures-in-requires c κs =
+    let a = c .before in
+    fitting (bytes a) (runs a) (read a) (a .before .«open» .ensures) _ (a .is-refusal .ensures) (c .if1 .left)
 
 returns-2 : tie.Need-returns-2
 returns-2 c =
-    let m = c .before in
-    let d = m .before .before .before .before .before .before .before in
+    let d = c .before in
     let a = d .before in
-    charged (bytes a) (runs a) (read a) (a .before .«open» .ensures) _ (a .is-refusal .ensures) (d .if1 .left) (m .before .before .generation-of .ensures) (m .before .demand-of .ensures) (m .money-of .ensures) (c .figures-of .ensures)
+    charged (bytes a) (runs a) (read a) (a .before .«open» .ensures) _ (a .is-refusal .ensures) (d .if1 .left) (c .figures-in .ensures)
 
 pub charge-spec : {M : Type 1} → statement M
 charge-spec =
@@ -68,8 +57,5 @@ charge-spec =
     is-refusal-requires
     no-figures-requires
     returns
-    generation-of-requires
-    demand-of-requires
-    money-of-requires
-    figures-of-requires
+    figures-in-requires
     returns-2)

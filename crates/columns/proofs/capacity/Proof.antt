@@ -1,8 +1,8 @@
 use mathlib.Core.Path.{_∙_}
 use Prim.Native.Nat.{ℕ, _<_, _^_}
 use native.Mathlib.Omega.{arith}
-use Rattle.columns.specs.Tec.{kwAt}
-use Rattle.columns.proofs.Rows.{Few, few, counts-are}
+use Rattle.meaning.specs.Columns.{kwAt}
+use Rattle.layout.proofs.Rows.{Few, few, counts-are}
 use Rattle.columns.proofs.TecLaws.{cells-all, tec-below, by-type-is, tec-is}
 use borrow.Author.Needs.{needs}
 use Rattle.columns.proofs.capacity.Statement.{statement}

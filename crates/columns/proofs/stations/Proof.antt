@@ -1,5 +1,5 @@
 use Rattle.columns.specs.Column.{Table}
-use Rattle.columns.proofs.Rows.{Few, few, counts-are}
+use Rattle.layout.proofs.Rows.{Few, few, counts-are}
 use Rattle.columns.proofs.TableColumns.{stations-are}
 use native.Mathlib.Omega.{arith}
 use borrow.Author.Needs.{needs}
@@ -21,28 +21,28 @@ mul-start-2 c = let f = few _ (c .before .counts .ensures) in omega arith
 add-start-2 : tie.Need-add-start-2
 add-start-2 c = let f = few _ (c .before .counts .ensures) in omega arith
 
-add-places-512 : tie.Need-add-places-512
-add-places-512 c = let f = few _ (c .before .counts .ensures) in omega arith
+add-places : tie.Need-add-places
+add-places c = let f = few _ (c .before .counts .ensures) in omega arith
 
-places-512-requires : tie.Need-places-512-requires
-places-512-requires c κs = let f = few _ (c .before .counts .ensures) in omega arith
+places-requires : tie.Need-places-requires
+places-requires c κs = let f = few _ (c .before .counts .ensures) in omega arith
 
-add-numbers-512 : tie.Need-add-numbers-512
-add-numbers-512 c = let f = few _ (c .before .before .counts .ensures) in omega arith
+add-plants : tie.Need-add-plants
+add-plants c = let f = few _ (c .before .before .counts .ensures) in omega arith
 
-numbers-512-requires : tie.Need-numbers-512-requires
-numbers-512-requires c κs = let f = few _ (c .before .before .counts .ensures) in omega arith
+plants-requires : tie.Need-plants-requires
+plants-requires c κs = let f = few _ (c .before .before .counts .ensures) in omega arith
 
-add-kilowatts-512 : tie.Need-add-kilowatts-512
-add-kilowatts-512 c = let f = few _ (c .before .before .before .counts .ensures) in omega arith
+add-tecs : tie.Need-add-tecs
+add-tecs c = let f = few _ (c .before .before .before .counts .ensures) in omega arith
 
-kilowatts-512-requires : tie.Need-kilowatts-512-requires
-kilowatts-512-requires c κs = let f = few _ (c .before .before .before .counts .ensures) in omega arith
+tecs-requires : tie.Need-tecs-requires
+tecs-requires c κs = let f = few _ (c .before .before .before .counts .ensures) in omega arith
 
 returns : tie.Need-returns
 returns c =
     let e = counts-are _ (c .before .before .before .before .counts .ensures) in
-    stations-are _ _ _ _ _ _ _ (e .0) (e .1) (e .2) (c .before .before .places-512 .ensures) (c .before .numbers-512 .ensures) (c .kilowatts-512 .ensures)
+    stations-are _ _ _ _ _ _ _ (e .0) (e .1) (e .2) (c .before .before .places .ensures) (c .before .plants .ensures) (c .tecs .ensures)
 
 pub stations-spec : {M : Type 1} → statement M
 stations-spec =
@@ -53,10 +53,10 @@ stations-spec =
     add-start
     mul-start-2
     add-start-2
-    add-places-512
-    places-512-requires
-    add-numbers-512
-    numbers-512-requires
-    add-kilowatts-512
-    kilowatts-512-requires
+    add-places
+    places-requires
+    add-plants
+    plants-requires
+    add-tecs
+    tecs-requires
     returns)

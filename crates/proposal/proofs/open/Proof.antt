@@ -3,8 +3,7 @@ use Prim.Native.Nat.{ℕ}
 use Rattle.meaning.specs.Study.{Runs}
 use Rattle.tables.specs.declared.Opened.{Opened}
 use Rattle.proposal.specs.Judges.{runsOf}
-use Rattle.proposal.proofs.Opening.{tables-stop, passed-countable, passed-judgeable, proposals-decide}
-use borrow.Author.Needs.{needs}
+use Rattle.proposal.proofs.Opening.{tables-stop, passed-reference, passed-judgeable, proposals-decide}
 use Rattle.proposal.proofs.open.Statement.{statement}
 use Rattle.proposal.proofs.open.Tie as tie
 
@@ -35,21 +34,24 @@ returns c =
 
 case-of-requires : tie.Need-case-of-requires
 case-of-requires c κs =
-    let d = c .before .before .before .before .before .before in
-    let a = d .before in
-    passed-countable (bytes a) (runs a) (read a) (a .before .«open» .ensures) _ (a .is-refusal .ensures) (d .if1 .left)
+    let a = c .before in
+    passed-reference (bytes a) (runs a) (read a) (a .before .«open» .ensures) _ (a .is-refusal .ensures) (c .if1 .left)
 
 proposals-requires : tie.Need-proposals-requires
 proposals-requires c κs =
-    let d = c .before .before .before .before .before .before .before in
+    let d = c .before in
     let a = d .before in
     passed-judgeable (bytes a) (runs a) (read a) (a .before .«open» .ensures) _ (a .is-refusal .ensures) (d .if1 .left) _ (c .case-of .ensures)
 
+with-answer-requires : tie.Need-with-answer-requires
+with-answer-requires c κs = tt
+
 returns-2 : tie.Need-returns-2
 returns-2 c =
-    let d = c .before .before .before .before .before .before .before .before in
+    let p = c .before in
+    let d = p .before .before in
     let a = d .before in
-    proposals-decide (bytes a) (runs a) (read a) (a .before .«open» .ensures) _ (a .is-refusal .ensures) (d .if1 .left) _ (c .before .case-of .ensures) _ (c .proposals .ensures)
+    proposals-decide (bytes a) (runs a) (read a) (a .before .«open» .ensures) _ (a .is-refusal .ensures) (d .if1 .left) _ (p .before .case-of .ensures) _ (p .proposals .ensures) _ (c .with-answer .ensures)
 
 pub open-spec : {M : Type 1} → statement M
 open-spec =
@@ -60,4 +62,5 @@ open-spec =
     returns
     case-of-requires
     proposals-requires
+    with-answer-requires
     returns-2)

@@ -1,6 +1,6 @@
 -- `sheet::write` meets its contract: a refusal, a short buffer, or the sheet written at the front of the buffer.
 use mathlib.Core.Path.{_≡_, sym, _∙_}
-use mathlib.Core.Bool.{true, false}
+use mathlib.Core.Bool.{false}
 use mathlib.Core.List.{List}
 use Prim.Native.Nat.{ℕ}
 use native.Mathlib.Omega.{arith}
@@ -8,9 +8,7 @@ use borrow.Author.Needs.{needs}
 use Rattle.meaning.specs.Study.{Runs}
 use Rattle.meaning.specs.Answers.{stops}
 use Rattle.proposal.specs.Judges.{runsOf}
-use Rattle.charges.specs.declared.Charged.{Charged}
-use Rattle.charges.specs.Charged.{chargedOf}
-use Rattle.sheet.proofs.Settles.{figures-refused, figures-sized, figures-written, figures-short}
+use Rattle.sheet.proofs.Settles.{figures-refused, figures-written, figures-short}
 use Rattle.sheet.proofs.write.Statement.{statement}
 use Rattle.sheet.proofs.write.Tie as tie
 
@@ -27,12 +25,6 @@ module _ (p : tie.After-charge) where
   abbrev out : List ℕ
   out = s .args .out .now
 
-  abbrev made : Charged
-  made = p .charge .result
-
-  is-made : made ≡ chargedOf file runs
-  is-made = p .charge .ensures
-
 charge-requires : tie.Need-charge-requires
 charge-requires c κs = search needs
 
@@ -42,40 +34,34 @@ is-refusal-requires c κs = search needs
 returns : tie.Need-returns
 returns c =
     let p = c .before .before in
-    figures-refused (file p) (runs p) (made p) (is-made p) (out p) (sym (c .before .is-refusal .ensures) ∙ c .if1 .taken)
+    figures-refused (file p) (runs p) (p .charge .result) (p .charge .ensures) (out p) (sym (c .before .is-refusal .ensures) ∙ c .if1 .taken)
 
 -- nothing stops the case
-passes : (e : tie.Else1) → stops (made (e .before .before) .answer) ≡ false
+passes : (e : tie.Else1) → stops (e .before .before .charge .result .answer) ≡ false
 passes e = sym (e .before .is-refusal .ensures) ∙ e .if1 .left
 
-sheet-len-requires : tie.Need-sheet-len-requires
-sheet-len-requires c κs = let e = c .before in let p = e .before .before in figures-sized (file p) (runs p) (made p) (is-made p) (passes e)
-
-returns-2 : tie.Need-returns-2
-returns-2 c =
-    let l = c .before in
-    let e = l .before .before in
-    let p = e .before .before in
-    figures-short (file p) (runs p) (made p) (is-made p) (passes e) (out p) (omega (arith, l .sheet-len .ensures .0, c .if2 .taken))
-
 write-sheet-requires : tie.Need-write-sheet-requires
-write-sheet-requires c κs =
-    let l = c .before .before in
-    let e = l .before .before in
-    let p = e .before .before in
-    (figures-sized (file p) (runs p) (made p) (is-made p) (passes e), omega (arith, l .sheet-len .ensures .0, c .before .if2 .left))
+write-sheet-requires c κs = search needs
 
 same-length : tie.Need-same-length
 same-length c = search needs
 
+returns-2 : tie.Need-returns-2
+returns-2 c =
+    let w = c .before .before .before in
+    let e = w .before .before in
+    let p = e .before .before in
+    figures-short (file p) (runs p) (p .charge .result) (p .charge .ensures) (passes e) (out p) _ _ (w .write-sheet .ensures) (omega (arith, c .if2 .taken, w .write-sheet .kept))
+
+same-length-2 : tie.Need-same-length-2
+same-length-2 c = search needs
+
 returns-3 : tie.Need-returns-3
 returns-3 c =
-    let w = c .before .before in
-    let l = w .before .before .before in
-    let e = l .before .before in
+    let w = c .before .before .before in
+    let e = w .before .before in
     let p = e .before .before in
-    figures-written (file p) (runs p) (made p) (is-made p) (passes e) (out p) _ _ (w .write-sheet .ensures)
-    (omega (arith, l .sheet-len .ensures .0, w .before .before .if2 .left))
+    figures-written (file p) (runs p) (p .charge .result) (p .charge .ensures) (passes e) (out p) _ _ (w .write-sheet .ensures) (omega (arith, c .if2 .left, w .write-sheet .kept))
 
 pub write-spec : {M : Type 1} → statement M
 write-spec =
@@ -84,8 +70,8 @@ write-spec =
     charge-requires
     is-refusal-requires
     returns
-    sheet-len-requires
-    returns-2
     write-sheet-requires
     same-length
+    returns-2
+    same-length-2
     returns-3)

@@ -8,7 +8,7 @@ use mir.Facts.{toZ-ofZ}
 use mir.Syntax.{w64}
 use mir.Val.{SFits, toZ}
 use Rattle.integers.proofs.Machine.{Back, fit-back, of-nat}
-use Rattle.charges.specs.Steps.{shareOf, restFrom}
+use Rattle.charges.specs.Rests.{shareOf, restFrom}
 use Rattle.charges.proofs.Laws.{target-most, less-fits, rest-fits}
 use Rattle.charges.proofs.rests.rest_of.Statement.{statement}
 use Rattle.charges.proofs.rests.rest_of.Tie as tie

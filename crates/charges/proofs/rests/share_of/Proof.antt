@@ -1,6 +1,6 @@
 -- `charges::rests::share_of` meets its contract.
 use borrow.Author.Needs.{needs}
-use Rattle.charges.specs.Steps.{shareOf}
+use Rattle.charges.specs.Rests.{shareOf}
 use Rattle.charges.proofs.rests.share_of.Statement.{statement}
 use Rattle.charges.proofs.rests.share_of.Tie as tie
 

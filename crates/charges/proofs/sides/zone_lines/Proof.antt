@@ -1,33 +1,34 @@
 -- `charges::sides::zone_lines` meets its contract. The invariant: a column of the zones passed.
-use mathlib.Core.Path.{_≡_, sym}
+use mathlib.Core.Path.{_≡_, sym, _∙_, ap}
 use mathlib.Core.List.{List}
 use Prim.Native.Nat.{ℕ, _≤_, _-_}
 use native.Mathlib.Omega.{arith}
-use lib.IntN.{pos}
-use lib.ListN.{getD}
-use Rattle.meaning.specs.declared.Kw.{Kw}
-use Rattle.meaning.specs.declared.Metres.{Metres}
+use lib.ListN.{getD, replicate}
 use Rattle.meaning.specs.declared.MicroPerKw.{MicroPerKw}
-use Rattle.meaning.specs.declared.Side.{Side}
-use Rattle.charges.specs.declared.figures.ZoneFigures.{ZoneFigures}
-use Rattle.charges.specs.Columns.{kilowatts, distance, price, column}
-use Rattle.charges.specs.Sides.{lineFrom, noLine}
-use Rattle.charges.proofs.Columns.{column-none, column-turn}
+use Rattle.meaning.specs.declared.ZoneFigures.{ZoneFigures}
+use Rattle.meaning.specs.Columns.{column, noLine}
+use Rattle.meaning.proofs.Columns.{column-none, column-turn}
+use Rattle.charges.specs.declared.sums.ZoneSums.{ZoneSums}
+use Rattle.charges.specs.declared.tariffs.Terms.{Terms}
+use Rattle.charges.specs.Zones.{noSums}
+use Rattle.charges.specs.Sides.{lineFrom}
 use Rattle.charges.proofs.sides.zone_lines.Statement.{statement}
 use Rattle.charges.proofs.sides.zone_lines.Tie as tie
 
-abbrev mine : Side → List Kw → List Metres → Metres → List MicroPerKw → MicroPerKw → ℕ → ZoneFigures
-mine side weight metres c tariff residual k =
-    lineFrom side (getD weight k (kilowatts 0)) (getD metres k (distance (pos 0))) c (getD tariff k (price (pos 0))) residual
+abbrev mine : Terms → MicroPerKw → List ZoneSums → ℕ → ZoneFigures
+mine terms residual sums k = lineFrom terms residual (getD sums k noSums)
 
 abbrev Inv-loop : tie.InvT-loop
-Inv-loop side c residual tariff count weight metres all₀ k₀ all k = (k ≤ count) × (all ≡ column noLine 32 k (mine side weight metres c tariff residual))
+Inv-loop terms residual sums count all₀ k₀ all k = (k ≤ count) × (all ≡ column noLine 32 k (mine terms residual sums))
 
 abbrev μ-loop : tie.MeasureT-loop
-μ-loop side c residual tariff count weight metres all₀ k₀ all k = count - k
+μ-loop terms residual sums count all₀ k₀ all k = count - k
+
+no-line-requires : tie.Need-no-line-requires Inv-loop μ-loop
+no-line-requires c κs = tt
 
 loop-holds : tie.Need-loop-holds Inv-loop μ-loop
-loop-holds c = (omega arith, sym (column-none _ _ _))
+loop-holds c = (omega arith, ap (replicate 32) (c .no-line .ensures) ∙ sym (column-none _ _ _))
 
 mul-zone-line : tie.Need-mul-zone-line Inv-loop μ-loop
 mul-zone-line c = omega arith
@@ -35,23 +36,11 @@ mul-zone-line c = omega arith
 array-copy-out-zone-line : tie.Need-array-copy-out-zone-line Inv-loop μ-loop
 array-copy-out-zone-line c = omega arith
 
-mul-zone-line-2 : tie.Need-mul-zone-line-2 Inv-loop μ-loop
-mul-zone-line-2 c = omega arith
-
-array-copy-out-zone-line-2 : tie.Need-array-copy-out-zone-line-2 Inv-loop μ-loop
-array-copy-out-zone-line-2 c = omega arith
-
-mul-zone-line-3 : tie.Need-mul-zone-line-3 Inv-loop μ-loop
-mul-zone-line-3 c = omega arith
-
-array-copy-out-zone-line-3 : tie.Need-array-copy-out-zone-line-3 Inv-loop μ-loop
-array-copy-out-zone-line-3 c = omega arith
-
 zone-line-requires : tie.Need-zone-line-requires Inv-loop μ-loop
 zone-line-requires c κs =
-    let l = c .before .before .before .before in
+    let l = c .before .before in
     let p = l .before .before .before .pre in
-    (p .0 .near (l .loop .k) (omega arith), p .1, p .2 (l .loop .k) (omega arith), p .3)
+    (p .0 .sums .near (l .loop .k) (omega arith), p .1, p .2)
 
 mul-all : tie.Need-mul-all Inv-loop μ-loop
 mul-all c = omega arith
@@ -67,7 +56,7 @@ loop-less c = omega arith
 
 loop-again : tie.Need-loop-again Inv-loop μ-loop
 loop-again c =
-    let l = c .before .before .before .before .before in
+    let l = c .before .before .before in
     (omega arith, column-turn noLine 32 _ (l .loop .k) (omega arith) (l .loop .inv .1) (c .zone-line .ensures))
 
 returns : tie.Need-returns Inv-loop μ-loop
@@ -81,13 +70,10 @@ zone-lines-spec =
     (tie.spec
     Inv-loop
     μ-loop
+    no-line-requires
     loop-holds
     mul-zone-line
     array-copy-out-zone-line
-    mul-zone-line-2
-    array-copy-out-zone-line-2
-    mul-zone-line-3
-    array-copy-out-zone-line-3
     zone-line-requires
     mul-all
     array-set-from-all

@@ -2,32 +2,26 @@
 use mathlib.Core.Path.{_≡_, _∙_}
 use Prim.Native.Nat.{ℕ, _*_, _-_, _≤_}
 use borrow.Author.Needs.{needs}
-use native.Mathlib.Nat.{le-refl, mul-le-mul}
+use native.Mathlib.Nat.{mul-le-mul}
 use native.Mathlib.Omega.{arith}
 use lib.IntN.{ℤ, pos, natAbs, _-ℤ_, _*ℤ_}
 use mir.Syntax.{w64}
 use mir.Val.{SFits, toZ, ofZ}
 use Rattle.integers.proofs.Machine.{Back, fit-back, back, of-nat}
-use Rattle.charges.specs.declared.zones.Zones.{Zones}
-use Rattle.charges.specs.Columns.{metresAt, kwAt}
-use Rattle.charges.specs.Steps.{metresOver, cFrom, ZonesFit}
-use Rattle.charges.proofs.Laws.{worth-most, first-fits, second-fits, mixed-fits}
+use Rattle.charges.specs.Zones.{cFrom}
+use Rattle.charges.proofs.Laws.{abs-fits, first-fits, second-fits, mixed-fits}
 use Rattle.charges.proofs.tariffs.c_of.Statement.{statement}
 use Rattle.charges.proofs.tariffs.c_of.Tie as tie
-
-over-most : (z : Zones) → ZonesFit z → natAbs (metresOver z) ≤ 1000000000000000
-unfolding metresOver
-over-most z f = worth-most 10000000 (z .count) (metresAt (z .metres)) (kwAt (z .paying)) (f .near) (f .pays) (z .count) (le-refl _)
 
 module _ (s : tie.Start) where
   abbrev p : ℕ
   p = s .args .p
 
   abbrev x : ℤ
-  x = metresOver (s .args .demand)
+  x = s .args .demand .metres
 
   abbrev y : ℤ
-  y = metresOver (s .args .generation)
+  y = s .args .generation .metres
 
   bp : toZ w64 p ≡ pos p
   bp = of-nat p (omega arith)
@@ -36,10 +30,16 @@ module _ (s : tie.Start) where
   bq = of-nat (1000 - p) (omega arith)
 
   hx : natAbs x ≤ 1000000000000000
-  hx = over-most (s .args .demand) (s .pre .2)
+  hx = s .pre .2 .metres
 
   hy : natAbs y ≤ 1000000000000000
-  hy = over-most (s .args .generation) (s .pre .1)
+  hy = s .pre .1 .metres
+
+  out : Back x
+  out = fit-back (abs-fits x (omega (arith, hx)))
+
+  in-back : Back y
+  in-back = fit-back (abs-fits y (omega (arith, hy)))
 
   fx : SFits w64 (pos (1000 - p) *ℤ x)
   fx = first-fits (1000 - p) p x y (omega arith) (s .pre .0) hx hy
@@ -65,24 +65,10 @@ module _ (s : tie.Start) where
   below-2 : (1000 - p) * s .args .demand .total .0 ≤ 100000000000
   below-2 = let h : 1000 - p ≤ 1000 = omega arith in mul-le-mul h (s .pre .2 .total)
 
--- the two sums
-module _ (c : tie.After-metres-over-zones2) where
-  out : toZ w64 (ofZ w64 (c .before .metres-over-zones .result)) ≡ x (c .before .before .before .before)
-  out = back _ (c .before .metres-over-zones .ok) ∙ c .before .metres-over-zones .ensures
-
-  in-back : toZ w64 (ofZ w64 (c .metres-over-zones2 .result)) ≡ y (c .before .before .before .before)
-  in-back = back _ (c .metres-over-zones2 .ok) ∙ c .metres-over-zones2 .ensures
-
 ruleset E = (bp, bq, bx, by, bm, out, in-back)
 
 sub-q : tie.Need-sub-q
 sub-q c = search needs
-
-metres-over-zones-requires : tie.Need-metres-over-zones-requires
-metres-over-zones-requires c κs = search needs
-
-metres-over-zones-requires-2 : tie.Need-metres-over-zones-requires-2
-metres-over-zones-requires-2 c κs = search needs
 
 cast-above : tie.Need-cast-above
 cast-above c = search needs
@@ -94,19 +80,19 @@ cast-above-2 : tie.Need-cast-above-2
 cast-above-2 c = search needs
 
 mul-above-2 : tie.Need-mul-above-2
-mul-above-2 c = simp E (fy (c .before .before .before .before))
+mul-above-2 c = simp E (fy (c .before .before .before .before .before .before))
 
 sub-above : tie.Need-sub-above
-sub-above c = simp E (fm (c .before .before .before .before))
+sub-above c = simp E (fm (c .before .before .before .before .before .before))
 
 mul-below : tie.Need-mul-below
-mul-below c = omega (arith, below (c .before .before .before .before .before))
+mul-below c = omega (arith, below (c .before .before .before .before .before .before .before))
 
 mul-below-2 : tie.Need-mul-below-2
-mul-below-2 c = omega (arith, below-2 (c .before .before .before .before .before .before))
+mul-below-2 c = omega (arith, below-2 (c .before .before .before .before .before .before .before .before))
 
 add-below : tie.Need-add-below
-add-below c = let s = c .before .before .before .before .before .before in omega (arith, below s, below-2 s)
+add-below c = let s = c .before .before .before .before .before .before .before .before in omega (arith, below s, below-2 s)
 
 nearest-requires : tie.Need-nearest-requires
 nearest-requires c κs = search needs
@@ -120,8 +106,6 @@ c-of-spec =
     tie.close
     (tie.spec
     sub-q
-    metres-over-zones-requires
-    metres-over-zones-requires-2
     cast-above
     mul-above
     cast-above-2

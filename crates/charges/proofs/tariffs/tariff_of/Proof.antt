@@ -18,10 +18,10 @@ module _ (s : tie.Start) where
   m = s .args .metres .0
 
   abbrev constant : ℕ
-  constant = s .args .constant
+  constant = s .args .rate .constant
 
   abbrev factor : ℕ
-  factor = s .args .factor
+  factor = s .args .rate .factor
 
   bm : Back m
   bm = fit-back (abs-fits m (omega arith))
@@ -33,13 +33,13 @@ module _ (s : tie.Start) where
   bf = of-nat factor (omega arith)
 
   first : SFits w64 (m *ℤ pos constant)
-  first = product-fits 20000000 10000 m constant (s .pre .0) (s .pre .1) (omega arith)
+  first = product-fits 20000000 10000 m constant (s .pre .0) (s .pre .1 .constant) (omega arith)
 
   bp : Back (m *ℤ pos constant)
   bp = fit-back first
 
   whole : SFits w64 (m *ℤ pos constant *ℤ pos factor)
-  whole = product-fits 200000000000 5000 (m *ℤ pos constant) factor (abs-mul-le m (pos constant) (s .pre .0) (s .pre .1)) (s .pre .2) (omega arith)
+  whole = product-fits 200000000000 5000 (m *ℤ pos constant) factor (abs-mul-le m (pos constant) (s .pre .0) (s .pre .1 .constant)) (s .pre .1 .factor) (omega arith)
 
   bw : Back (m *ℤ pos constant *ℤ pos factor)
   bw = fit-back whole
@@ -50,13 +50,13 @@ cast-product : tie.Need-cast-product
 cast-product c = search needs
 
 mul-product : tie.Need-mul-product
-mul-product c = simp E (first (c .before .before))
+mul-product c = simp E (first (c .before .before .before))
 
 cast-product-2 : tie.Need-cast-product-2
 cast-product-2 c = search needs
 
 mul-product-2 : tie.Need-mul-product-2
-mul-product-2 c = simp E (whole (c .before .before))
+mul-product-2 c = simp E (whole (c .before .before .before .before))
 
 nearest-requires : tie.Need-nearest-requires
 nearest-requires c κs = search needs

@@ -1,30 +1,30 @@
-use Rattle.columns.proofs.TecLaws.{Cell, cell-none, cell-some}
+use mathlib.Core.Path.{refl}
 use native.Mathlib.Omega.{arith}
-use borrow.Author.Needs.{needs}
+use Rattle.meaning.specs.Rows.{_between_and_}
+use Rattle.columns.specs.Tec.{cellOf}
+use Rattle.columns.proofs.TecLaws.{Cell, cell-known}
 use Rattle.columns.proofs.tec.cell_of.Statement.{statement}
 use Rattle.columns.proofs.tec.cell_of.Tie as tie
 
-returns : tie.Need-returns
-returns c = cell-none _ _ _ (λ w. omega arith)
-
-returns-2 : tie.Need-returns-2
-returns-2 c = cell-none _ _ _ (λ w. omega arith)
-
-returns-3 : tie.Need-returns-3
-returns-3 c = cell-none _ _ _ (λ w. omega arith)
+known : (c : tie.Then1) → let a = c .before .args in Cell (a .nodes) (a .node) (a .plant)
+known c = cell-known _ _ _ (c .if1 .taken)
 
 mul-result : tie.Need-mul-result
-mul-result c = search needs
+mul-result c = let k = known c in omega arith
 
 add-result : tie.Need-add-result
-add-result c = search needs
+add-result c = let k = known c in omega arith
 
 sub-result : tie.Need-sub-result
-sub-result c = search needs
+sub-result c = let k = known c in omega arith
 
-returns-4 : tie.Need-returns-4
-returns-4 c = cell-some _ _ _ (record { known = omega arith; least = omega arith; most = omega arith })
+returns : tie.Need-returns
+unfolding cellOf _between_and_
+returns c = rw (c .if1 .taken) refl
+
+returns-2 : tie.Need-returns-2
+unfolding cellOf _between_and_
+returns-2 c = rw (c .if1 .left) refl
 
 pub cell-of-spec : {M : Type 1} → statement M
-cell-of-spec =
-    tie.close (tie.spec returns returns-2 returns-3 mul-result add-result sub-result returns-4)
+cell-of-spec = tie.close (tie.spec mul-result add-result sub-result returns returns-2)

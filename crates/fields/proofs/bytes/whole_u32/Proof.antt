@@ -1,41 +1,18 @@
 use native.Mathlib.Omega.{arith}
 use borrow.Author.Needs.{needs}
 use Rattle.meaning.specs.File.{u32}
+use Rattle.fields.proofs.ByteLaws.{bytes-four}
 use Rattle.fields.proofs.bytes.whole_u32.Statement.{statement}
 use Rattle.fields.proofs.bytes.whole_u32.Tie as tie
 
-shared-slice-read-wide : tie.Need-shared-slice-read-wide
-shared-slice-read-wide c = search needs
+byte-requires : tie.Need-byte-requires
+byte-requires c κs = search needs
 
-wide-requires : tie.Need-wide-requires
-wide-requires c κs = search needs
+add-byte : tie.Need-add-byte
+add-byte c = search needs
 
-add-wide : tie.Need-add-wide
-add-wide c = search needs
-
-shared-slice-read-wide-2 : tie.Need-shared-slice-read-wide-2
-shared-slice-read-wide-2 c = search needs
-
-wide-requires-2 : tie.Need-wide-requires-2
-wide-requires-2 c κs = search needs
-
-add-wide-2 : tie.Need-add-wide-2
-add-wide-2 c = search needs
-
-shared-slice-read-wide-3 : tie.Need-shared-slice-read-wide-3
-shared-slice-read-wide-3 c = search needs
-
-wide-requires-3 : tie.Need-wide-requires-3
-wide-requires-3 c κs = search needs
-
-add-wide-3 : tie.Need-add-wide-3
-add-wide-3 c = search needs
-
-shared-slice-read-wide-4 : tie.Need-shared-slice-read-wide-4
-shared-slice-read-wide-4 c = search needs
-
-wide-requires-4 : tie.Need-wide-requires-4
-wide-requires-4 c κs = search needs
+byte-requires-2 : tie.Need-byte-requires-2
+byte-requires-2 c κs = search needs
 
 mul-result : tie.Need-mul-result
 mul-result c = search needs
@@ -43,11 +20,23 @@ mul-result c = search needs
 add-result : tie.Need-add-result
 add-result c = search needs
 
+add-byte-2 : tie.Need-add-byte-2
+add-byte-2 c = search needs
+
+byte-requires-3 : tie.Need-byte-requires-3
+byte-requires-3 c κs = search needs
+
 mul-result-2 : tie.Need-mul-result-2
 mul-result-2 c = search needs
 
 add-result-2 : tie.Need-add-result-2
 add-result-2 c = search needs
+
+add-byte-3 : tie.Need-add-byte-3
+add-byte-3 c = search needs
+
+byte-requires-4 : tie.Need-byte-requires-4
+byte-requires-4 c κs = search needs
 
 mul-result-3 : tie.Need-mul-result-3
 mul-result-3 c = search needs
@@ -57,27 +46,25 @@ add-result-3 c = search needs
 
 returns : tie.Need-returns
 unfolding u32
-returns c = omega arith
+returns c =
+    let a = c .before .before .before .before .before .args in
+    (omega arith, bytes-four (a .file .now) (a .at) (omega arith) (omega arith) (omega arith) (omega arith))
 
 pub whole-u32-spec : {M : Type 1} → statement M
 whole-u32-spec =
     tie.close
     (tie.spec
-    shared-slice-read-wide
-    wide-requires
-    add-wide
-    shared-slice-read-wide-2
-    wide-requires-2
-    add-wide-2
-    shared-slice-read-wide-3
-    wide-requires-3
-    add-wide-3
-    shared-slice-read-wide-4
-    wide-requires-4
+    byte-requires
+    add-byte
+    byte-requires-2
     mul-result
     add-result
+    add-byte-2
+    byte-requires-3
     mul-result-2
     add-result-2
+    add-byte-3
+    byte-requires-4
     mul-result-3
     add-result-3
     returns)

@@ -1,13 +1,13 @@
 -- `output::runs::run_at` meets its contract.
-use mathlib.Core.Path.{_≡_, _∙_, ap}
+use mathlib.Core.Path.{_≡_, sym, _∙_, ap}
 use Prim.Native.Nat.{_+_, _*_, _-_, _≤_}
 use native.Mathlib.Omega.{arith}
 use borrow.Author.Needs.{needs}
 use lib.IntN.{pos}
 use Rattle.integers.proofs.Machine.{back}
 use Rattle.meaning.specs.File.{i64}
-use Rattle.columns.specs.Column.{column}
-use Rattle.columns.proofs.ColumnLaws.{column-none, column-turn, column-done, column-length}
+use Rattle.meaning.specs.Columns.{column}
+use Rattle.meaning.proofs.Columns.{column-none, column-turn, column-done, column-length}
 use Rattle.output.proofs.runs.run_at.Statement.{statement}
 use Rattle.output.proofs.runs.run_at.Tie as tie
 
@@ -18,7 +18,7 @@ abbrev μ-loop : tie.MeasureT-loop
 μ-loop file start count all₀ i₀ all i = count - i
 
 loop-holds : tie.Need-loop-holds Inv-loop μ-loop
-loop-holds c = (omega arith, column-none _ _ _)
+loop-holds c = (omega arith, sym (column-none _ _ _))
 
 mul-i64-at : tie.Need-mul-i64-at Inv-loop μ-loop
 mul-i64-at c = omega arith

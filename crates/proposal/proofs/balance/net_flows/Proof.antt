@@ -1,117 +1,77 @@
-use mathlib.Core.Path.{_≡_}
+use mathlib.Core.Path.{_≡_, _∙_}
 use mathlib.Core.List.{List}
 use Prim.Native.Nat.{ℕ, _+_, _-_, _≤_}
 use native.Mathlib.Omega.{arith}
-use lib.IntN.{ℤ, pos, _+ℤ_, _-ℤ_}
+use lib.IntN.{ℤ}
 use lib.ListN.{getD}
 use Rattle.integers.proofs.Machine.{Back, fit-back}
+use Rattle.integers.proofs.Laws.{sfits-abs}
 use Rattle.meaning.specs.Proposal.{flowOut, flowIn}
+use Rattle.proposal.specs.declared.case.Case.{Case}
 use Rattle.proposal.specs.Columns.{number}
-use Rattle.proposal.proofs.Net.{Netted, Turn, left, netted-none, netted-more, netted-all, flow-fits, net-fits, left-fits}
+use Rattle.proposal.proofs.Net.{Netted, Turn, netted-none, netted-more, netted-all, movable}
 use Rattle.proposal.proofs.balance.net_flows.Statement.{statement}
 use Rattle.proposal.proofs.balance.net_flows.Tie as tie
 
+-- ends and flows of the circuits
+abbrev firstOf : Case → ℕ → ℕ
+firstOf k c = getD (k .first) c 0
+
+abbrev secondOf : Case → ℕ → ℕ
+secondOf k c = getD (k .second) c 0
+
+abbrev flowsOf : Case → List ℤ → ℕ → ℤ
+flowsOf k run c = number run (k .nodes + c)
+
 abbrev Inv-loop : tie.InvT-loop
-Inv-loop n m first second run net₀ c₀ net c =
-    (c ≤ m) × Netted (λ k. getD first k 0) (λ k. getD second k 0) (λ k. number run (n + k)) c net
+Inv-loop run k n m net₀ c₀ net c = (c ≤ m) × Netted (firstOf k) (secondOf k) (flowsOf k run) c net
 
 abbrev μ-loop : tie.MeasureT-loop
-μ-loop n m first second run net₀ c₀ net c = m - c
+μ-loop run k n m net₀ c₀ net c = m - c
 
 -- ---- a turn's circuit
 module _ (c : tie.In-loop Inv-loop μ-loop) where
-  abbrev n : ℕ
-  n = c .before .before .args .n
+  abbrev s : tie.Start Inv-loop μ-loop
+  s = c .before .before
 
-  abbrev k : ℕ
-  k = c .before .loop .c
+  turn : Turn (firstOf (s .args .t1)) (secondOf (s .args .t1)) (flowsOf (s .args .t1) (s .args .run .now)) (c .before .loop .c) (c .before .loop .net)
+  turn = record {
+    netted = c .before .loop .inv .1;
+    few = omega arith;
+    firstIn = omega (arith, s .pre .1 .firstIn (c .before .loop .c) (omega arith));
+    secondIn = omega (arith, s .pre .1 .secondIn (c .before .loop .c) (omega arith));
+    small = λ i h. s .pre .2 .flows i (omega arith);
+  }
 
-  abbrev first : ℕ → ℕ
-  first i = getD (c .before .before .args .first .now) i 0
-
-  abbrev second : ℕ → ℕ
-  second i = getD (c .before .before .args .second .now) i 0
-
-  abbrev f : ℕ → ℤ
-  f i = number (c .before .before .args .run .now) (n + i)
-
-  abbrev net : List ℤ
-  net = c .before .loop .net
-
-turn : (c : tie.In-loop Inv-loop μ-loop) → Turn (first c) (second c) (f c) (k c) (net c)
-turn c =
-    let p = c .before .before .pre in
-    record {
-      netted = c .before .loop .inv .1;
-      few = omega arith;
-      firstIn = omega (arith, p .1 .firstIn (k c) (omega arith));
-      secondIn = omega (arith, p .1 .secondIn (k c) (omega arith));
-      small = λ i h. p .2 .flows i (omega arith);
-    }
-
-module _ (c : tie.In-loop Inv-loop μ-loop) where
-  bf : Back (f c (k c))
-  bf = fit-back (flow-fits _ _ _ _ _ (turn c))
-
-  bn : Back (getD (net c) (first c (k c)) (pos 0))
-  bn = fit-back (net-fits _ _ _ _ _ (turn c) _ (turn c .firstIn) .0)
-
-  bs : Back (getD (net c) (first c (k c)) (pos 0) +ℤ f c (k c))
-  bs = fit-back (net-fits _ _ _ _ _ (turn c) _ (turn c .firstIn) .1)
-
-  bl : Back (getD (left (net c) (first c (k c)) (f c (k c))) (second c (k c)) (pos 0))
-  bl = fit-back (left-fits _ _ _ _ _ (turn c) _ (turn c .secondIn) .0)
-
-  bd : Back (getD (left (net c) (first c (k c)) (f c (k c))) (second c (k c)) (pos 0) -ℤ f c (k c))
-  bd = fit-back (left-fits _ _ _ _ _ (turn c) _ (turn c .secondIn) .1)
+  bf : Back (flowsOf (s .args .t1) (s .args .run .now) (c .before .loop .c))
+  bf = fit-back (sfits-abs _ (omega (arith, turn .small (c .before .loop .c) (omega arith))))
 
 loop-holds : tie.Need-loop-holds Inv-loop μ-loop
 loop-holds c = (omega arith, netted-none _ _ _)
 
-mul-a : tie.Need-mul-a Inv-loop μ-loop
-mul-a c = omega arith
+mul-move-flow : tie.Need-mul-move-flow Inv-loop μ-loop
+mul-move-flow c = omega arith
 
-shared-slice-read-a : tie.Need-shared-slice-read-a Inv-loop μ-loop
-shared-slice-read-a c = omega arith
+element-copy-out-move-flow : tie.Need-element-copy-out-move-flow Inv-loop μ-loop
+element-copy-out-move-flow c = omega arith
 
-mul-b : tie.Need-mul-b Inv-loop μ-loop
-mul-b c = omega arith
+mul-move-flow-2 : tie.Need-mul-move-flow-2 Inv-loop μ-loop
+mul-move-flow-2 c = omega arith
 
-shared-slice-read-b : tie.Need-shared-slice-read-b Inv-loop μ-loop
-shared-slice-read-b c = omega arith
+element-copy-out-move-flow-2 : tie.Need-element-copy-out-move-flow-2 Inv-loop μ-loop
+element-copy-out-move-flow-2 c = omega arith
 
-add-f : tie.Need-add-f Inv-loop μ-loop
-add-f c = omega arith
+add-move-flow : tie.Need-add-move-flow Inv-loop μ-loop
+add-move-flow c = omega arith
 
-mul-f : tie.Need-mul-f Inv-loop μ-loop
-mul-f c = omega arith
+mul-move-flow-3 : tie.Need-mul-move-flow-3 Inv-loop μ-loop
+mul-move-flow-3 c = omega arith
 
-shared-slice-copy-out-f : tie.Need-shared-slice-copy-out-f Inv-loop μ-loop
-shared-slice-copy-out-f c = omega arith
+shared-slice-copy-out-move-flow : tie.Need-shared-slice-copy-out-move-flow Inv-loop μ-loop
+shared-slice-copy-out-move-flow c = omega arith
 
-mul-net : tie.Need-mul-net Inv-loop μ-loop
-mul-net c = let t = turn (c .before .before .before) in omega (arith, t .firstIn, t .secondIn)
-
-array-copy-out-net : tie.Need-array-copy-out-net Inv-loop μ-loop
-array-copy-out-net c = let t = turn (c .before .before .before) in omega (arith, t .firstIn, t .secondIn)
-
-add-net : tie.Need-add-net Inv-loop μ-loop
-add-net c = let t = c .before .before .before .before in simp (bf t, bn t) (net-fits _ _ _ _ _ (turn t) _ (turn t .firstIn) .1)
-
-array-set-from-net : tie.Need-array-set-from-net Inv-loop μ-loop
-array-set-from-net c = let t = turn (c .before .before .before .before) in omega (arith, t .firstIn, t .secondIn)
-
-mul-net-2 : tie.Need-mul-net-2 Inv-loop μ-loop
-mul-net-2 c = let t = turn (c .before .before .before .before) in omega (arith, t .firstIn, t .secondIn)
-
-array-copy-out-net-2 : tie.Need-array-copy-out-net-2 Inv-loop μ-loop
-array-copy-out-net-2 c = let t = turn (c .before .before .before .before) in omega (arith, t .firstIn, t .secondIn)
-
-sub-net : tie.Need-sub-net Inv-loop μ-loop
-sub-net c = let t = c .before .before .before .before .before in simp (bf t, bn t, bs t, bl t) (left-fits _ _ _ _ _ (turn t) _ (turn t .secondIn) .1)
-
-array-set-from-net-2 : tie.Need-array-set-from-net-2 Inv-loop μ-loop
-array-set-from-net-2 c = let t = turn (c .before .before .before .before .before) in omega (arith, t .firstIn, t .secondIn)
+move-flow-requires : tie.Need-move-flow-requires Inv-loop μ-loop
+move-flow-requires c κs = let t = c .before .before .before .before in simp (bf t) (movable _ _ _ _ _ (turn t) _ _ (omega (arith, turn t .firstIn, turn t .secondIn)) (omega (arith, turn t .firstIn, turn t .secondIn)))
 
 add-c : tie.Need-add-c Inv-loop μ-loop
 add-c c = omega arith
@@ -120,12 +80,12 @@ loop-less : tie.Need-loop-less Inv-loop μ-loop
 loop-less c = omega arith
 
 loop-again : tie.Need-loop-again Inv-loop μ-loop
-loop-again c = let t = c .before .before .before .before .before in (omega arith, simp (bf t, bn t, bs t, bl t, bd t) (netted-more _ _ _ _ _ (turn t)))
+loop-again c = let t = c .before .before .before .before .before in (omega arith, rw (simp (bf t) at (c .move-flow .ensures)) (netted-more _ _ _ _ _ (turn t)))
 
 returns : tie.Need-returns Inv-loop μ-loop
 unfolding flowOut flowIn
 returns c =
-    let e : c .before .loop .c ≡ c .before .before .args .m = omega arith in
+    let e : c .before .loop .c ≡ c .before .before .args .t1 .circuits = omega arith in
     netted-all _ _ _ _ _ (rw e at (c .before .loop .inv .1))
 
 pub net-flows-spec : {M : Type 1} → statement M
@@ -135,21 +95,14 @@ net-flows-spec =
     Inv-loop
     μ-loop
     loop-holds
-    mul-a
-    shared-slice-read-a
-    mul-b
-    shared-slice-read-b
-    add-f
-    mul-f
-    shared-slice-copy-out-f
-    mul-net
-    array-copy-out-net
-    add-net
-    array-set-from-net
-    mul-net-2
-    array-copy-out-net-2
-    sub-net
-    array-set-from-net-2
+    mul-move-flow
+    element-copy-out-move-flow
+    mul-move-flow-2
+    element-copy-out-move-flow-2
+    add-move-flow
+    mul-move-flow-3
+    shared-slice-copy-out-move-flow
+    move-flow-requires
     add-c
     loop-less
     loop-again

@@ -10,25 +10,13 @@ use Rattle.proposal.proofs.offsets.offsets.Statement.{statement}
 use Rattle.proposal.proofs.offsets.offsets.Tie as tie
 
 abbrev Inv-loop : tie.InvT-loop
-Inv-loop system n m lengths marks base offset₀ c₀ offset c = (c ≤ m) × Filled (pos 0) 512 (offsetAt system n lengths marks base) c offset
+Inv-loop system base k n m offset₀ c₀ offset c = (c ≤ m) × Filled (pos 0) 512 (offsetAt system (k .nodes) (k .length) (k .mark) base) c offset
 
 abbrev μ-loop : tie.MeasureT-loop
-μ-loop system n m lengths marks base offset₀ c₀ offset c = m - c
+μ-loop system base k n m offset₀ c₀ offset c = m - c
 
 loop-holds : tie.Need-loop-holds Inv-loop μ-loop
 loop-holds c = (omega arith, filled-none refl)
-
-mul-long : tie.Need-mul-long Inv-loop μ-loop
-mul-long c = omega arith
-
-shared-slice-read-long : tie.Need-shared-slice-read-long Inv-loop μ-loop
-shared-slice-read-long c = omega arith
-
-mul-mark : tie.Need-mul-mark Inv-loop μ-loop
-mul-mark c = omega arith
-
-shared-slice-read-mark : tie.Need-shared-slice-read-mark Inv-loop μ-loop
-shared-slice-read-mark c = omega arith
 
 add-flow : tie.Need-add-flow Inv-loop μ-loop
 add-flow c = omega arith
@@ -41,13 +29,25 @@ shared-slice-copy-out-flow c = omega arith
 
 module _ (c : tie.After-flow Inv-loop μ-loop) where
   abbrev flow : ℤ
-  flow = let s = c .before .before .before .before .before .before .before in number (s .args .base .now) (s .args .n + c .before .before .before .before .loop .c)
+  flow = let s = c .before .before .before in number (s .args .base .now) (s .args .t2 .nodes + c .before .before .loop .c)
 
   bf : Back flow
   bf = back _ (c .flow .given)
 
+mul-offset-of : tie.Need-mul-offset-of Inv-loop μ-loop
+mul-offset-of c = omega arith
+
+element-copy-out-offset-of : tie.Need-element-copy-out-offset-of Inv-loop μ-loop
+element-copy-out-offset-of c = omega arith
+
+mul-offset-of-2 : tie.Need-mul-offset-of-2 Inv-loop μ-loop
+mul-offset-of-2 c = omega arith
+
+element-copy-out-offset-of-2 : tie.Need-element-copy-out-offset-of-2 Inv-loop μ-loop
+element-copy-out-offset-of-2 c = omega arith
+
 offset-of-requires : tie.Need-offset-of-requires Inv-loop μ-loop
-offset-of-requires c κs = let s = c .before .before .before .before .before .before .before in s .pre .1 .lengthSmall _ (omega arith)
+offset-of-requires c κs = c .before .before .before .before .before .pre .1 .lengthSmall _ (omega arith)
 
 mul-offset : tie.Need-mul-offset Inv-loop μ-loop
 mul-offset c = omega arith
@@ -64,11 +64,11 @@ loop-less c = omega arith
 loop-again : tie.Need-loop-again Inv-loop μ-loop
 loop-again c =
     let l = c .before .before .before .before .before in
-    (omega arith, filled-more (l .loop .inv .1) (omega arith) (back _ (c .offset-of .ok) ∙ simp (bf (c .before)) at (c .offset-of .ensures)))
+    (omega arith, filled-more (l .loop .inv .1) (omega arith) (back _ (c .offset-of .ok) ∙ simp (bf (c .before .before .before)) at (c .offset-of .ensures)))
 
 returns : tie.Need-returns Inv-loop μ-loop
 returns c =
-    let e : c .before .loop .c ≡ c .before .before .before .before .args .m = omega arith in
+    let e : c .before .loop .c ≡ c .before .before .args .t2 .circuits = omega arith in
     rw e at (c .before .loop .inv .1)
 
 pub offsets-spec : {M : Type 1} → statement M
@@ -78,13 +78,13 @@ offsets-spec =
     Inv-loop
     μ-loop
     loop-holds
-    mul-long
-    shared-slice-read-long
-    mul-mark
-    shared-slice-read-mark
     add-flow
     mul-flow
     shared-slice-copy-out-flow
+    mul-offset-of
+    element-copy-out-offset-of
+    mul-offset-of-2
+    element-copy-out-offset-of-2
     offset-of-requires
     mul-offset
     array-set-from-offset

@@ -60,7 +60,7 @@ returns c =
     chain-stops (of-base s) (after-base s) _ _ (a .before .solution .ensures) (a .is-refusal .ensures) (c .if1 .taken)
 
 doubt-requires : tie.Need-doubt-requires
-doubt-requires c κs = let p = c .before .before .before .pre .0 in (p .based, p .lengths)
+doubt-requires c κs = c .before .before .before .pre .0 .based
 
 is-refusal-requires-2 : tie.Need-is-refusal-requires-2
 is-refusal-requires-2 c κs = search needs

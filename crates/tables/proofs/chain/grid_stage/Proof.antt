@@ -1,38 +1,23 @@
-use mathlib.Core.Path.{sym, _∙_}
-use Rattle.tables.proofs.ToldLaws.{stops-first, passes-first}
+use mathlib.Core.Path.{refl}
 use borrow.Author.Needs.{needs}
 use Rattle.tables.proofs.chain.grid_stage.Statement.{statement}
 use Rattle.tables.proofs.chain.grid_stage.Tie as tie
 
-slice-aggregate-stage : tie.Need-slice-aggregate-stage
-slice-aggregate-stage c = search needs
-
-slice-aggregate-stage-2 : tie.Need-slice-aggregate-stage-2
-slice-aggregate-stage-2 c = search needs
+ends-requires : tie.Need-ends-requires
+ends-requires c κs = search needs
 
 stage-requires : tie.Need-stage-requires
-stage-requires c κs = search needs
-
-stops-requires : tie.Need-stops-requires
-stops-requires c κs = search needs
-
-returns : tie.Need-returns
-returns c = stops-first _ (c .before .before .stage .ensures) (sym (c .before .stops .ensures) ∙ c .if1 .taken)
+stage-requires c κs = rw (c .ends .ensures) (c .before .before .before .before .before .before .pre .walks)
 
 stage-requires-2 : tie.Need-stage-requires-2
 stage-requires-2 c κs = search needs
 
-returns-2 : tie.Need-returns-2
-returns-2 c = let p = c .before in passes-first (p .before .before .stage .ensures) (sym (p .before .stops .ensures) ∙ p .if1 .left) (c .stage2 .ensures)
+or-else-requires : tie.Need-or-else-requires
+or-else-requires c κs = search needs
+
+returns : tie.Need-returns
+returns c = rw (c .or-else .ensures, c .before .stage2 .ensures, c .before .before .stage .ensures, c .before .before .before .ends .ensures) refl
 
 pub grid-stage-spec : {M : Type 1} → statement M
 grid-stage-spec =
-    tie.close
-    (tie.spec
-    slice-aggregate-stage
-    slice-aggregate-stage-2
-    stage-requires
-    stops-requires
-    returns
-    stage-requires-2
-    returns-2)
+    tie.close (tie.spec ends-requires stage-requires stage-requires-2 or-else-requires returns)

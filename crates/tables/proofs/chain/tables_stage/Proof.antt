@@ -2,7 +2,7 @@ use mathlib.Core.Path.{_≡_, sym, _∙_}
 use mathlib.Core.Bool.{true}
 use native.Mathlib.Omega.{arith}
 use Rattle.meaning.specs.File.{fileWhole, runsWhole}
-use Rattle.tables.proofs.ChainLaws.{file-stops, runs-stop, study-decides, told-tables, told-kilowatts, few-rows, runs-are}
+use Rattle.tables.proofs.ChainLaws.{file-stops, runs-stop, study-decides, few-rows, runs-are}
 use borrow.Author.Needs.{needs}
 use Rattle.tables.proofs.chain.tables_stage.Statement.{statement}
 use Rattle.tables.proofs.chain.tables_stage.Tie as tie
@@ -13,25 +13,25 @@ whole-requires c κs = search needs
 is-whole : (c : tie.Then1) → fileWhole (c .before .before .before .args .file .now) ≡ true
 is-whole c = sym (c .before .whole .ensures) ∙ c .if1 .taken
 
-runs-told : (c : tie.After-same-lengths) → let a = c .before .before .before .before .before .args in c .same-lengths .result ≡ runsWhole (a .file .now) (a .base) (a .wider) (a .local)
-runs-told c = let s = c .before .before .before .before .before in c .same-lengths .ensures ∙ runs-are (s .pre) (is-whole (c .before .before)) (s .args .base) (s .args .wider) (s .args .local)
+runs-told : (c : tie.After-same-lengths) → let a = c .before .before .before .before .before .before .args in c .same-lengths .result ≡ runsWhole (a .file .now) (a .base) (a .wider) (a .local)
+runs-told c = let s = c .before .before .before .before .before .before in c .same-lengths .ensures ∙ runs-are (s .pre) (is-whole (c .before .before .before)) (s .args .base) (s .args .wider) (s .args .local)
 
 add-same-lengths : tie.Need-add-same-lengths
-add-same-lengths c = omega (arith, few-rows (c .before .before .before .before .pre) (is-whole (c .before)))
+add-same-lengths c = omega (arith, few-rows (c .before .before .before .before .before .pre))
 
 same-lengths-requires : tie.Need-same-lengths-requires
 same-lengths-requires c κs = search needs
 
 study-stage-requires : tie.Need-study-stage-requires
-study-stage-requires c κs = let t = c .before .before .before .before .before .before .before .before .before .before .pre in let w = is-whole (c .before .before .before .before .before .before .before) in (told-tables t w, told-kilowatts t w)
+study-stage-requires c κs = search needs
 
 returns : tie.Need-returns
 returns c =
-    let q = c .before .before .before .before .before in
-    study-decides _ _ _ _ (is-whole (q .before .before .before)) (sym (runs-told (q .before)) ∙ q .if2 .taken) (c .study-stage .ensures)
+    let q = c .before in
+    study-decides _ _ _ _ (is-whole (q .before .before .before .before)) (sym (runs-told (q .before)) ∙ q .if2 .taken) (c .study-stage .ensures)
 
 returns-2 : tie.Need-returns-2
-returns-2 c = runs-stop _ _ _ _ (is-whole (c .before .before .before)) (sym (runs-told (c .before)) ∙ c .if2 .left)
+returns-2 c = runs-stop _ _ _ _ (is-whole (c .before .before .before .before)) (sym (runs-told (c .before)) ∙ c .if2 .left)
 
 returns-3 : tie.Need-returns-3
 returns-3 c = file-stops _ _ _ _ (sym (c .before .whole .ensures) ∙ c .if1 .left)

@@ -6,16 +6,16 @@ use Rattle.tables.proofs.reach.spread.Statement.{statement}
 use Rattle.tables.proofs.reach.spread.Tie as tie
 
 abbrev Inv-loop : tie.InvT-loop
-Inv-loop marks₀ nodes reference count first second marks = Marks (endsNetwork nodes reference count first second) marks × (length marks ≡ length marks₀)
+Inv-loop marks₀ ends marks = Marks (endsNetwork ends) marks × (length marks ≡ length marks₀)
 
 abbrev μ-loop : tie.MeasureT-loop
-μ-loop marks₀ nodes reference count first second marks = unmarked marks
+μ-loop marks₀ ends marks = unmarked marks
 
 loop-holds : tie.Need-loop-holds Inv-loop μ-loop
-loop-holds c = (c .before .before .before .pre .1, refl)
+loop-holds c = (c .before .pre .1, refl)
 
 sweep-requires : tie.Need-sweep-requires Inv-loop μ-loop
-sweep-requires c κs = (c .before .before .before .before .before .pre .0, c .before .loop .inv .0)
+sweep-requires c κs = (c .before .before .before .pre .0, c .before .loop .inv .0)
 
 same-length : tie.Need-same-length Inv-loop μ-loop
 same-length c = c .before .before .before .sweep .kept .0 ∙ c .before .before .before .before .before .loop .inv .1

@@ -7,42 +7,41 @@ use Rattle.tables.proofs.reach.sweep.Statement.{statement}
 use Rattle.tables.proofs.reach.sweep.Tie as tie
 
 abbrev Inv-loop : tie.InvT-loop
-Inv-loop marks₀ nodes reference count first second more₀ c₀ marks more c = SweptTo (endsNetwork nodes reference count first second) marks₀ marks more c
+Inv-loop marks₀ ends more₀ c₀ marks more c = SweptTo (endsNetwork ends) marks₀ marks more c
 
 abbrev μ-loop : tie.MeasureT-loop
-μ-loop marks₀ nodes reference count first second more₀ c₀ marks more c = count - c
+μ-loop marks₀ ends more₀ c₀ marks more c = ends .circuits - c
 
 loop-holds : tie.Need-loop-holds Inv-loop μ-loop
-loop-holds c = swept-none (c .before .before .before .pre .1)
+loop-holds c = swept-none (c .before .pre .1)
 
 mul-join : tie.Need-mul-join Inv-loop μ-loop
 mul-join c = search needs
 
-shared-slice-read-join : tie.Need-shared-slice-read-join Inv-loop μ-loop
-shared-slice-read-join c = search needs
+element-copy-out-join : tie.Need-element-copy-out-join Inv-loop μ-loop
+element-copy-out-join c = search needs
 
 mul-join-2 : tie.Need-mul-join-2 Inv-loop μ-loop
 mul-join-2 c = search needs
 
-shared-slice-read-join-2 : tie.Need-shared-slice-read-join-2 Inv-loop μ-loop
-shared-slice-read-join-2 c = search needs
+element-copy-out-join-2 : tie.Need-element-copy-out-join-2 Inv-loop μ-loop
+element-copy-out-join-2 c = search needs
 
 -- a circuit more
 swept : (c : tie.After-join Inv-loop μ-loop)
-    → let a = c .before .before .before .before .before .before .before .before .before .args in let l = c .before .before .before .before .before .loop in SweptTo (endsNetwork (a .nodes) (a .reference) (a .count) (a .first .now) (a .second .now)) (a .marks .now) (c .join .last .0) (l .more + c .join .result) (l .c + 1)
+    → let a = c .before .before .before .before .before .before .before .args in let l = c .before .before .before .before .before .loop in SweptTo (endsNetwork (a .t2)) (a .marks .now) (c .join .last .0) (l .more + c .join .result) (l .c + 1)
 swept c =
     let l = c .before .before .before .before .before .loop in
-    let s = c .before .before .before .before .before .before .before .before .before in
-    swept-on (s .pre .0 .placed) (l .inv) (omega arith) (c .join .ensures .0) (c .join .ensures .1)
+    swept-on (c .before .before .before .before .before .before .before .pre .0 .placed) (l .inv) (omega arith) (c .join .ensures .0) (c .join .ensures .1)
 
 join-requires : tie.Need-join-requires Inv-loop μ-loop
 join-requires c κs =
-    let s = c .before .before .before .before .before .before .before .before in
+    let p = c .before .before .before .before .before .before .pre .0 .placed in
     let l = c .before .before .before .before .loop in
-    (first-in (s .pre .0 .placed) (l .inv .marks) (l .c) (omega arith), second-in (s .pre .0 .placed) (l .inv .marks) (l .c) (omega arith))
+    (first-in p (l .inv .marks) (l .c) (omega arith), second-in p (l .inv .marks) (l .c) (omega arith))
 
 add-more : tie.Need-add-more Inv-loop μ-loop
-add-more c = let s = swept (c .before .before) in omega (arith, s .few, s .within, c .before .before .before .before .before .before .before .before .before .before .before .fits .count)
+add-more c = let s = swept (c .before .before) in omega (arith, s .few, s .within, c .before .before .before .before .before .before .before .before .before .pre .0 .many)
 
 add-c : tie.Need-add-c Inv-loop μ-loop
 add-c c = search needs
@@ -67,9 +66,9 @@ sweep-spec =
     μ-loop
     loop-holds
     mul-join
-    shared-slice-read-join
+    element-copy-out-join
     mul-join-2
-    shared-slice-read-join-2
+    element-copy-out-join-2
     join-requires
     add-more
     add-c

@@ -1,8 +1,12 @@
+use mathlib.Core.Path.{refl}
 use Rattle.meaning.specs.Tables.{soundSettings}
-use Rattle.columns.specs.Columns.{settingsIn}
+use Rattle.layout.specs.Frame.{settingsIn}
 use borrow.Author.Needs.{needs}
 use Rattle.tables.proofs.settings.sound.Statement.{statement}
 use Rattle.tables.proofs.settings.sound.Tie as tie
+
+sound-scales-requires : tie.Need-sound-scales-requires
+sound-scales-requires c κs = search needs
 
 between-requires : tie.Need-between-requires
 between-requires c κs = search needs
@@ -22,38 +26,22 @@ between-requires-5 c κs = search needs
 between-requires-6 : tie.Need-between-requires-6
 between-requires-6 c κs = search needs
 
-between-requires-7 : tie.Need-between-requires-7
-between-requires-7 c κs = search needs
-
-between-requires-8 : tie.Need-between-requires-8
-between-requires-8 c κs = search needs
-
-between-requires-9 : tie.Need-between-requires-9
-between-requires-9 c κs = search needs
-
-between-requires-10 : tie.Need-between-requires-10
-between-requires-10 c κs = search needs
-
-between-requires-11 : tie.Need-between-requires-11
-between-requires-11 c κs = search needs
-
 returns : tie.Need-returns
 unfolding soundSettings settingsIn
-returns c = cc
+returns c =
+    let p = c .before .before .before in
+    let q = p .before .before .before in
+    rw (c .before .between6 .ensures, c .before .before .between5 .ensures, p .between4 .ensures, p .before .between3 .ensures, p .before .before .between2 .ensures, q .between .ensures, q .before .before .sound-scales .ensures) refl
 
 pub sound-spec : {M : Type 1} → statement M
 sound-spec =
     tie.close
     (tie.spec
+    sound-scales-requires
     between-requires
     between-requires-2
     between-requires-3
     between-requires-4
     between-requires-5
     between-requires-6
-    between-requires-7
-    between-requires-8
-    between-requires-9
-    between-requires-10
-    between-requires-11
     returns)

@@ -4,13 +4,12 @@ use native.Mathlib.Omega.{arith}
 use borrow.Author.Needs.{needs}
 use Rattle.integers.specs.Numbers.{sum}
 use Rattle.integers.proofs.Sum.{sum-zero, sum-more}
-use Rattle.columns.specs.Column.{kilowatts}
-use Rattle.tables.specs.Totals.{inColumn}
+use Rattle.meaning.specs.Columns.{kilowatts, kwAt}
 use Rattle.tables.proofs.totals.total.Statement.{statement}
 use Rattle.tables.proofs.totals.total.Tie as tie
 
 abbrev Inv-loop : tie.InvT-loop
-Inv-loop count column sum₀ v₀ so-far v = (v ≤ count) × (so-far ≡ sum v (inColumn column)) × (so-far ≤ v * 2 ^ 48)
+Inv-loop count column sum₀ v₀ so-far v = (v ≤ count) × (so-far ≡ sum v (kwAt column)) × (so-far ≤ v * 2 ^ 48)
 
 abbrev μ-loop : tie.MeasureT-loop
 μ-loop count column sum₀ v₀ so-far v = count - v
@@ -38,7 +37,7 @@ loop-again c =
     let s = c .before .before .before .before in
     let l = c .before .before .before .loop in (
       omega arith,
-      rw (l .inv .1) (sym (sum-more (l .v) (inColumn (s .args .t1)))),
+      rw (l .inv .1) (sym (sum-more (l .v) (kwAt (s .args .t1)))),
       omega (arith, l .inv .2, s .pre .1 .low (l .v) (omega arith)),
     )
 

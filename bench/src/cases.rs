@@ -1,0 +1,106 @@
+//! Cases of chosen counts, accepted and refused, through the reference's maker and solver.
+
+use reference::file::{padded, Case, CircuitRow, NodeRow, StationRow};
+use reference::largest::largest;
+use reference::solver::solved;
+
+/// A case as an entry takes it: the file's bytes, and the three runs beside them.
+#[derive(Clone)]
+pub struct Input {
+    pub file: Vec<u8>,
+    pub runs: [Vec<i64>; 3],
+}
+
+impl Input {
+    pub fn of(case: &Case) -> Input {
+        Input { file: case.bytes(), runs: case.runs.clone() }
+    }
+}
+
+/// The largest case: 256 nodes, 512 circuits, 512 stations, 32 and 32 zones.
+pub fn greatest() -> Case {
+    largest()
+}
+
+/// The name of a node: twelve letters that differ late.
+fn name(node: usize) -> [u8; 12] {
+    padded(format!("ROW_{:02}_COL{:02}", node / 16, node % 16).as_bytes())
+}
+
+/// An accepted case: a ring, then chords; stations at all nodes in turn. There are at least as many circuits as nodes.
+pub fn sized(nodes: usize, circuits: usize, stations: usize) -> Case {
+    let pattern = largest();
+    let case = Case {
+        nodes: (0..nodes)
+            .map(|v| NodeRow { name: name(v), demand: 100_000 + 300 * v as u32, ..pattern.nodes[v].clone() })
+            .collect(),
+        circuits: (0..circuits).map(|c| chord(&pattern.circuits[c], c, nodes)).collect(),
+        stations: (0..stations)
+            .map(|k| StationRow {
+                node: name(k % nodes),
+                tec: (90_000_000 / stations) as u32,
+                ..pattern.stations[k].clone()
+            })
+            .collect(),
+        settings: reference::file::Settings { reference: 1, ..pattern.settings },
+        runs: Default::default(),
+    };
+    without_doubt(case)
+}
+
+/// The circuit of a number: round the ring once, then ever wider chords.
+fn chord(pattern: &CircuitRow, number: usize, nodes: usize) -> CircuitRow {
+    let (turn, from) = (number / nodes, number % nodes);
+    let to = (from + 1 + 5 * turn) % nodes;
+    CircuitRow { first: name(from), second: name(to), ..pattern.clone() }
+}
+
+/// The case solved, with no length on circuits whose direction is in doubt.
+fn without_doubt(mut case: Case) -> Case {
+    case = solved(&case).0;
+    for (circuit, flow) in case.circuits.iter_mut().zip(&case.runs[0][case.nodes.len()..]) {
+        if (200_000_001..=400_000_000).contains(&flow.abs()) {
+            (circuit.overhead, circuit.cable) = (0, 0);
+        }
+    }
+    solved(&case).0
+}
+
+/// A chain whose circuits stand in the order that a walk from its end likes least.
+pub fn chain() -> Case {
+    let mut case = sized(256, 512, 512);
+    case.circuits.truncate(255);
+    case.circuits.reverse();
+    without_doubt(case)
+}
+
+/// The largest case with one thing wrong, for each stage, late in its table: a label, and what is lent.
+pub fn refused() -> Vec<(&'static str, Input)> {
+    let whole = Input::of(&largest());
+    let table = |label, change: fn(&mut Case)| {
+        let mut case = largest();
+        change(&mut case);
+        (label, Input::of(&case))
+    };
+    let number = |label, system: usize, row: usize, value: i64| {
+        let mut input = whole.clone();
+        input.runs[system][row] += value;
+        (label, input)
+    };
+    let mut short = whole.clone();
+    short.file.truncate(1000);
+    vec![
+        ("1, file cut", short),
+        ("2, a setting", table("", |case| case.settings.p = 1001).1),
+        ("3, first node", table("", |case| case.nodes[0].generation_zone = 0).1),
+        ("3, last node's name", table("", |case| case.nodes[255].name = case.nodes[0].name).1),
+        ("4, last circuit", table("", |case| case.circuits[511].first = padded(b"NOWHERE")).1),
+        ("5, last identifier", table("", |case| case.stations[511].identifier = case.stations[0].identifier).1),
+        ("7, totals", table("", |case| case.stations[511].tec = 20_000_000).1),
+        number("8, base, last", 0, 767, i64::MAX / 2),
+        number("9, base, last node", 0, 767, 1),
+        number("10, base", 0, 0, 1_000_000_000),
+        number("9, local, last node", 2, 767, 1),
+        number("10, local", 2, 0, 1_000_000_000),
+    ]
+}

@@ -1,0 +1,168 @@
+//! The proved library, a Rust twin of it and a textbook Rust, timed in turn in one run. Started by `./do bench`.
+
+mod answer;
+mod cases;
+mod heap;
+mod ours;
+mod stack;
+mod textbook;
+mod timing;
+mod twin;
+
+use answer::Answer;
+use cases::Input;
+use std::hint::black_box;
+use std::time::Duration;
+use timing::{interleaved, Times};
+
+#[global_allocator]
+static HEAP: heap::Counting = heap::Counting;
+
+type Entry = fn(&[u8], &[i64], &[i64], &[i64], &mut [u8]) -> Answer;
+
+const ENTRIES: [(&str, Entry); 3] = [("ours", ours::write), ("twin", twin::write), ("textbook", textbook::write)];
+
+/// One call, into a buffer that holds any sheet.
+fn call(entry: Entry, input: &Input, out: &mut [u8]) -> Answer {
+    let [base, wider, local] = &input.runs;
+    entry(black_box(&input.file), base, wider, local, out)
+}
+
+/// All three answer alike and leave the same bytes; what they answer.
+fn agreed(input: &Input, room: usize) -> (Answer, Vec<u8>) {
+    let answered = ENTRIES.map(|(_, entry)| {
+        let mut out = vec![b'.'; room];
+        let answer = call(entry, input, &mut out);
+        (answer, out)
+    });
+    let [ours, twin, textbook] = answered;
+    assert_eq!(ours.0, twin.0);
+    assert_eq!(ours.0, textbook.0);
+    assert!(ours.1 == twin.1 && ours.1 == textbook.1, "the buffers differ");
+    ours
+}
+
+/// The stored cases of the replay, whole and damaged: all three answer as the reference does.
+fn agree_on_stored_cases() -> usize {
+    let archive = reference::replay::archive(&reference::replay::cases());
+    let entries = reference::replay::entries(&archive).expect("an archive of whole entries");
+    for file in &entries {
+        let runs = reference::file::whole_case(file).map(|case| case.runs).unwrap_or_default();
+        let (answer, out) = agreed(&Input { file: file.to_vec(), runs }, 16384);
+        let printed = match answer.number {
+            0 => out[..answer.length as usize].to_vec(),
+            _ => format!("refused {} {} {}\n", answer.number, answer.system, answer.row).into_bytes(),
+        };
+        assert_eq!(printed, reference::program_output(file));
+    }
+    entries.len()
+}
+
+/// Times of all three on a case. The buffer is not cleared between calls; file and runs stay as they are.
+fn timed(input: &Input, long: Duration) -> Vec<Times> {
+    let mut outs = vec![vec![0; 16384]; 3];
+    let mut calls: Vec<_> = ENTRIES
+        .iter()
+        .zip(&mut outs)
+        .map(|((_, entry), out)| {
+            move || {
+                black_box(call(*entry, input, out));
+            }
+        })
+        .collect();
+    let mut calls: Vec<&mut dyn FnMut()> = calls.iter_mut().map(|call| call as &mut dyn FnMut()).collect();
+    interleaved(&mut calls, long)
+}
+
+/// A line of the growth and refusal tables: the least times and the ratios.
+fn line(label: &str, input: &Input) {
+    let (answer, _) = agreed(input, 16384);
+    let [ours, twin, textbook] = timed(input, Duration::from_millis(300))[..] else { unreachable!() };
+    println!(
+        "{label:<28} {:>3} {:>9.1} {:>9.1} {:>9.1} {:>9.2} {:>9.2}",
+        answer.number,
+        ours.least,
+        twin.least,
+        textbook.least,
+        ours.least / twin.least,
+        ours.least / textbook.least
+    );
+}
+
+fn heading(what: &str) {
+    println!(
+        "\n{what:<28} {:>3} {:>9} {:>9} {:>9} {:>9} {:>9}",
+        "no.", "ours", "twin", "textbook", "/ twin", "/ textb."
+    );
+}
+
+/// The largest case, at length.
+fn largest(input: &Input, seconds: u64) {
+    let (answer, _) = agreed(input, 16384);
+    println!(
+        "largest case: 256 nodes, 512 circuits, 512 stations, 32 + 32 zones; sheet of {} bytes; microseconds a call\n",
+        answer.length
+    );
+    let times = timed(input, Duration::from_secs(seconds));
+    println!("{:<10} {:>9} {:>9} {:>12} {:>12}", "", "least", "middle", "least/ours", "middle/ours");
+    for ((name, _), t) in ENTRIES.iter().zip(&times) {
+        let (a, b) = (t.least / times[0].least, t.middle / times[0].middle);
+        println!("{name:<10} {:>9.1} {:>9.1} {a:>12.2} {b:>12.2}", t.least, t.middle);
+    }
+    let (twin, textbook) = (times[0].middle / times[1].middle, times[0].middle / times[2].middle);
+    println!(
+        "\nours / twin {twin:.2} (goal: at most 1), ours / textbook {textbook:.2} (goal: at most 0.5), by the middle"
+    );
+}
+
+fn memory(input: &Input) {
+    println!("\nmemory of one call on the largest case");
+    for (name, entry) in ENTRIES {
+        let mut out = vec![0; 16384];
+        let asked = heap::asked(|| {
+            black_box(call(entry, input, &mut out));
+        });
+        let stack = stack::used(|| {
+            black_box(call(entry, input, &mut out));
+        });
+        println!("{name:<10} {:>7.1} KiB of stack, {asked} allocations", stack as f64 / 1024.0);
+    }
+}
+
+fn growth() {
+    heading("nodes, 512 circuits, 512 st.");
+    for nodes in [32, 64, 128, 256] {
+        line(&nodes.to_string(), &Input::of(&cases::sized(nodes, 512, 512)));
+    }
+    heading("circuits, 64 nodes, 512 st.");
+    for circuits in [64, 128, 256, 512] {
+        line(&circuits.to_string(), &Input::of(&cases::sized(64, circuits, 512)));
+    }
+    heading("stations, 256 nodes, 512 c.");
+    for stations in [64, 128, 256, 512] {
+        line(&stations.to_string(), &Input::of(&cases::sized(256, 512, stations)));
+    }
+    heading("a chain, its table reversed");
+    line("256 nodes, 255 circuits", &Input::of(&cases::chain()));
+}
+
+fn main() {
+    let seconds = std::env::args().nth(1).and_then(|word| word.parse().ok()).unwrap_or(10);
+    let input = Input::of(&cases::greatest());
+    // With a second word: ours alone, a thousand calls for each second, for a profiler.
+    if std::env::args().nth(2).is_some() {
+        let mut out = vec![0; 16384];
+        (0..seconds * 1000).for_each(|_| {
+            black_box(call(ours::write, &input, &mut out));
+        });
+        return;
+    }
+    println!("all three agree with the reference on {} stored cases\n", agree_on_stored_cases());
+    largest(&input, seconds);
+    memory(&input);
+    growth();
+    heading("refused: stage");
+    for (label, input) in cases::refused() {
+        line(label, &input);
+    }
+}

@@ -1,0 +1,61 @@
+use mathlib.Core.Path.{_≡_, sym, _∙_, ap}
+use Prim.Native.Nat.{_+_, _*_, _-_, _≤_}
+use Rattle.meaning.proofs.Columns.{column-none, column-turn, column-done}
+use Rattle.meaning.specs.File.{u32}
+use Rattle.meaning.specs.Columns.{column}
+use Rattle.columns.specs.Column.{Table}
+use native.Mathlib.Omega.{arith}
+use borrow.Author.Needs.{needs}
+use Rattle.columns.proofs.fill.plants.Statement.{statement}
+use Rattle.columns.proofs.fill.plants.Tie as tie
+
+abbrev Inv-loop : tie.InvT-loop
+Inv-loop file start count all₀ i₀ all i = (i ≤ count) × (all ≡ column 0 512 i (λ j. u32 file (start + 32 * j)))
+
+abbrev μ-loop : tie.MeasureT-loop
+μ-loop file start count all₀ i₀ all i = count - i
+
+loop-holds : tie.Need-loop-holds Inv-loop μ-loop
+loop-holds c = (omega arith, sym (column-none _ _ _))
+
+row-at-requires : tie.Need-row-at-requires Inv-loop μ-loop
+row-at-requires c κs = omega arith
+
+u32-at-requires : tie.Need-u32-at-requires Inv-loop μ-loop
+u32-at-requires c κs = search needs
+
+mul-all : tie.Need-mul-all Inv-loop μ-loop
+mul-all c = omega arith
+
+array-write-all : tie.Need-array-write-all Inv-loop μ-loop
+array-write-all c = omega arith
+
+add-i : tie.Need-add-i Inv-loop μ-loop
+add-i c = omega arith
+
+loop-less : tie.Need-loop-less Inv-loop μ-loop
+loop-less c = omega arith
+
+loop-again : tie.Need-loop-again Inv-loop μ-loop
+loop-again c =
+    let l = c .before .before .before in
+    (omega arith, column-turn 0 512 _ (l .loop .i) (omega arith) (l .loop .inv .1) (c .u32-at .ensures .value ∙ ap (u32 _) (c .before .row-at .ensures)))
+
+returns : tie.Need-returns Inv-loop μ-loop
+returns c = column-done _ _ _ _ _ (c .before .loop .inv .1) (omega arith) (omega arith)
+
+pub plants-spec : {M : Type 1} → statement M
+plants-spec =
+    tie.close
+    (tie.spec
+    Inv-loop
+    μ-loop
+    loop-holds
+    row-at-requires
+    u32-at-requires
+    mul-all
+    array-write-all
+    add-i
+    loop-less
+    loop-again
+    returns)

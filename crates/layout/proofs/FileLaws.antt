@@ -1,0 +1,201 @@
+-- A file's tests as propositions; a whole file is one as the conditions say it, with the runs that stand in it.
+use mathlib.Core.Path.{_≡_, refl, sym, _∙_}
+use mathlib.Core.Logic.{_⊎_, inl, inr}
+use mathlib.Core.List.{List}
+use mathlib.Core.Bool.{Bool, true, false, _&&_}
+use Prim.Native.Nat.{ℕ, zero, suc, _+_, _*_, _-_, _≤_, _<_, _^_}
+use native.Mathlib.Nat.{mul-le-mul}
+use native.Mathlib.Omega.{arith}
+use borrow.Author.Tests.{ltb-true, lt-ltb}
+use lib.Dec.{eqb, leb, ltb}
+use lib.ListN.{length}
+use Rattle.meaning.specs.Rows.{_between_and_, all, rows}
+use Rattle.meaning.specs.File.{u32, recordSize, trailer, sectionCount, sectionOffset, sectionStart, counted, chained, fileWhole, runIn, runsIn}
+use Rattle.meaning.specs.Conditions.{InRange, WholeFile}
+use Rattle.meaning.proofs.Rows.{length-rows, below-suc}
+use Rattle.meaning.proofs.Says.{Says, says-as, _also_, says-le, says-eq, says-between, says-all}
+
+-- a test that is what it should be
+pub is-true : {b : Bool} {P : Type 0} → Says b P → P → true ≡ b
+is-true s p = sym (s .1 p)
+
+pub is-false : {b : Bool} {P : Type 0} → Says b P → (P → ⊥) → false ≡ b
+is-false {b} {P} s n = go b refl
+  where
+    go : (t : Bool) → b ≡ t → false ≡ t
+    go true e = absurd (n (s .0 e))
+    go false e = refl
+
+pub says-lt : {m n : ℕ} → Says (ltb m n) (m < n)
+says-lt {m} {n} = (ltb-true m n, lt-ltb m n)
+
+-- numbers below 3
+three : (P : ℕ → Type 0) → P 0 → P 1 → P 2 → (k : ℕ) → k < 3 → P k
+three P a b c zero h = a
+three P a b c (suc zero) h = b
+three P a b c (suc (suc zero)) h = c
+three P a b c (suc (suc (suc k))) h = absurd (omega arith)
+
+four : (s : ℕ) → 4 ≤ s → 4 + (s - 4) ≡ s
+four s h = omega arith
+
+module _ (file : List ℕ) where
+  pub record Counted : Type 0 where
+    pub oneSettings : sectionCount file 0 ≡ 1
+    pub nodes : InRange (sectionCount file 1) 1 256
+    pub circuits : sectionCount file 2 ≤ 512
+    pub stations : sectionCount file 3 ≤ 512
+    pub base : sectionCount file 4 ≡ sectionCount file 1 + sectionCount file 2
+    pub wider : sectionCount file 5 ≡ sectionCount file 1 + sectionCount file 2
+    pub local : sectionCount file 6 ≡ sectionCount file 1 + sectionCount file 2
+
+  pub record Chained : Type 0 where
+    pub chain : (section : ℕ) → section < 7 → sectionOffset file section ≡ sectionStart file section
+    pub end : sectionStart file 7 + 64 ≡ length file
+
+  abbrev Solution : ℕ → Type 0
+  Solution k = sectionCount file (4 + k) ≡ sectionCount file 1 + sectionCount file 2
+
+  solutions : Says (all (λ k. eqb (sectionCount file (4 + k)) (sectionCount file 1 + sectionCount file 2)) 3) ((k : ℕ) → k < 3 → Solution k)
+  solutions = says-all 3 (λ k. says-eq)
+
+  pub says-counted : Says (counted file) Counted
+  unfolding counted
+  says-counted =
+      says-as (says-eq also says-between also says-le also says-le also solutions) (
+        λ t. record {
+          oneSettings = t .0 .0 .0 .0;
+          nodes = t .0 .0 .0 .1;
+          circuits = t .0 .0 .1;
+          stations = t .0 .1;
+          base = t .1 0 (omega arith);
+          wider = t .1 1 (omega arith);
+          local = t .1 2 (omega arith);
+        },
+        λ r. ((((r .oneSettings, r .nodes), r .circuits), r .stations), three Solution (r .base) (r .wider) (r .local)),
+      )
+
+  -- the numbers of the trailer, tested one by one
+  pub counted-is : (one nodes circuits stations base wider local : ℕ) → one ≡ sectionCount file 0 → nodes ≡ sectionCount file 1 → circuits ≡ sectionCount file 2
+      → stations ≡ sectionCount file 3 → base ≡ sectionCount file 4 → wider ≡ sectionCount file 5 → local ≡ sectionCount file 6
+      → (eqb one 1 && (leb 1 nodes && leb nodes 256) && leb circuits 512 && leb stations 512
+      && (eqb base (nodes + circuits) && eqb wider (nodes + circuits) && eqb local (nodes + circuits)))
+      ≡ counted file
+  unfolding counted _between_and_ all
+  counted-is one nodes circuits stations base wider local o n c k b w l = rw (o, n, c, k, b, w, l) refl
+
+  pub says-chained : Says (chained file) Chained
+  unfolding chained
+  says-chained = says-as (says-all 7 (λ k. says-eq) also says-eq) (λ t. record { chain = t .0; end = t .1 }, λ r. (r .chain, r .end))
+
+  pub record FileParts : Type 0 where
+    pub long : 128 ≤ length file
+    pub version : trailer file 14 ≡ 1
+    pub fileLength : trailer file 15 ≡ length file
+    pub counts : Counted
+    pub sections : Chained
+    pub settingsZero : u32 file 52 ≡ 0
+
+  pub says-file : Says (fileWhole file) FileParts
+  unfolding fileWhole
+  says-file =
+      says-as (says-le also says-eq also says-eq also says-counted also says-chained also says-eq) (
+        λ t. record {
+          long = t .0 .0 .0 .0 .0;
+          version = t .0 .0 .0 .0 .1;
+          fileLength = t .0 .0 .0 .1;
+          counts = t .0 .0 .1;
+          sections = t .0 .1;
+          settingsZero = t .1;
+        },
+        λ r. (((((r .long, r .version), r .fileLength), r .counts), r .sections), r .settingsZero),
+      )
+
+  -- of a file that is long enough, what is left to test
+  pub whole-rest : (version end word : ℕ) (counts sections : Bool) → 128 ≤ length file → version ≡ trailer file 14 → end ≡ trailer file 15
+      → counts ≡ counted file → sections ≡ chained file → word ≡ u32 file 52
+      → (eqb version 1 && eqb end (length file) && counts && sections && eqb word 0) ≡ fileWhole file
+  unfolding fileWhole
+  whole-rest version end word counts sections h v l c s z =
+      let e : leb 128 (length file) ≡ true = says-le .1 h in
+      rw (v, l, c, s, z, e) refl
+
+  -- the conditions ask for runs: those that stand in the file have its lengths
+  pub whole-file : fileWhole file ≡ true → WholeFile file (runsIn file)
+  unfolding runsIn runIn
+  whole-file e =
+      let w = says-file .0 e in
+      record {
+        long = w .long;
+        version = w .version;
+        fileLength = w .fileLength;
+        oneSettings = w .counts .oneSettings;
+        nodes = w .counts .nodes;
+        circuits = w .counts .circuits;
+        stations = w .counts .stations;
+        solutions =
+            λ s r. rw (four s (r .least)) at (three Solution
+            (w .counts .base) (w .counts .wider) (w .counts .local) (s - 4) (omega (arith, r .least, r .most)));
+        chain = λ s h. w .sections .chain s (omega arith);
+        end = w .sections .end;
+        settingsZero = w .settingsZero;
+        baseRun = length-rows (sectionCount file 4) _;
+        widerRun = length-rows (sectionCount file 5) _;
+        localRun = length-rows (sectionCount file 6) _;
+      }
+
+  -- ---- the chain, section by section
+  pub start-zero : sectionStart file 0 ≡ 0
+  unfolding sectionStart
+  start-zero = refl
+
+  pub start-more : (k : ℕ) → sectionStart file (k + 1) ≡ sectionStart file k + recordSize k * sectionCount file k
+  unfolding sectionStart
+  start-more k = let e : k + 1 ≡ suc k = omega arith in rw e refl
+
+record-small : (k : ℕ) → recordSize k ≤ 64
+unfolding recordSize
+record-small zero = omega arith
+record-small (suc zero) = omega arith
+record-small (suc (suc zero)) = omega arith
+record-small (suc (suc (suc zero))) = omega arith
+record-small (suc (suc (suc (suc zero)))) = omega arith
+record-small (suc (suc (suc (suc (suc zero))))) = omega arith
+record-small (suc (suc (suc (suc (suc (suc zero)))))) = omega arith
+record-small (suc (suc (suc (suc (suc (suc (suc k))))))) = omega arith
+
+pub solution-size : (k : ℕ) → 3 < k → k < 7 → 8 ≡ recordSize k
+unfolding recordSize
+solution-size k h l = rw (four k h) at (three (λ j. 8 ≡ recordSize (4 + j)) refl refl refl (k - 4) (omega arith))
+
+-- after k turns: whether the first k sections follow one another, and where the next begins
+pub record ChainedTo (file : List ℕ) (k : ℕ) (follow : Bool) (start : ℕ) : Type 0 where
+  pub within : k ≤ 7
+  pub here : start ≡ sectionStart file k
+  pub low : start ≤ k * 274877906944
+  pub so-far : follow ≡ all (λ s. eqb (sectionOffset file s) (sectionStart file s)) k
+
+-- a section's size, so that the next start fits 64 bits
+pub size-low : (k : ℕ) {size count : ℕ} → size ≡ recordSize k → count < 2 ^ 32 → size * count ≤ 274877906944
+size-low k e h = mul-le-mul {n₂ = 64} {m₂ = 4294967296} (rw e (record-small k)) (omega arith)
+
+module _ {file : List ℕ} where
+  pub chained-none : ChainedTo file 0 true 0
+  unfolding all
+  chained-none = record { within = omega arith; here = sym (start-zero file); low = omega arith; so-far = refl }
+
+  pub chained-on : {k start offset size count : ℕ} {follow : Bool} → ChainedTo file k follow start → k < 7 → offset ≡ sectionOffset file k
+      → size ≡ recordSize k → count ≡ sectionCount file k → count < 2 ^ 32 → ChainedTo file (k + 1) (follow && eqb offset start) (start + size * count)
+  unfolding all
+  chained-on {k} t h o s n l =
+      let e : k + 1 ≡ suc k = omega arith in
+      record {
+        within = omega arith;
+        here = rw (t .here, s, n) (sym (start-more file k));
+        low = omega (arith, t .low, size-low k s l);
+        so-far = rw (e, o, t .here, t .so-far) refl;
+      }
+
+  pub chained-is : {k start : ℕ} {follow : Bool} → ChainedTo file k follow start → 7 ≤ k → (follow && eqb (start + 64) (length file)) ≡ chained file
+  unfolding chained
+  chained-is {k} t h = let e : k ≡ 7 = omega (arith, t .within) in rw (t .so-far, t .here, e) refl

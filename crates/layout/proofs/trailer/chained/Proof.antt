@@ -1,0 +1,79 @@
+use Prim.Native.Nat.{_-_}
+use native.Mathlib.Omega.{arith}
+use borrow.Author.Needs.{needs}
+use Rattle.layout.proofs.FileLaws.{ChainedTo, size-low, chained-none, chained-on, chained-is}
+use Rattle.layout.proofs.trailer.chained.Statement.{statement}
+use Rattle.layout.proofs.trailer.chained.Tie as tie
+
+abbrev Inv-loop : tie.InvT-loop
+Inv-loop file follow₀ start₀ section₀ follow start section = ChainedTo file section follow start
+
+abbrev μ-loop : tie.MeasureT-loop
+μ-loop file follow₀ start₀ section₀ follow start section = 7 - section
+
+loop-holds : tie.Need-loop-holds Inv-loop μ-loop
+loop-holds c = chained-none
+
+mul-word : tie.Need-mul-word Inv-loop μ-loop
+mul-word c = search needs
+
+word-requires : tie.Need-word-requires Inv-loop μ-loop
+word-requires c κs = search needs
+
+record-size-requires : tie.Need-record-size-requires Inv-loop μ-loop
+record-size-requires c κs = search needs
+
+mul-word-2 : tie.Need-mul-word-2 Inv-loop μ-loop
+mul-word-2 c = search needs
+
+add-word : tie.Need-add-word Inv-loop μ-loop
+add-word c = search needs
+
+word-requires-2 : tie.Need-word-requires-2 Inv-loop μ-loop
+word-requires-2 c κs = search needs
+
+mul-start : tie.Need-mul-start Inv-loop μ-loop
+mul-start c = omega (arith, size-low (c .before .before .before .before .loop .section) (c .before .record-size .ensures) (c .word2 .ensures .below))
+
+add-start : tie.Need-add-start Inv-loop μ-loop
+add-start c =
+    let l = c .before .before .before .before in
+    omega (arith, l .loop .inv .within, l .loop .inv .low, size-low (l .loop .section) (c .before .record-size .ensures) (c .word2 .ensures .below))
+
+add-section : tie.Need-add-section Inv-loop μ-loop
+add-section c = search needs
+
+loop-less : tie.Need-loop-less Inv-loop μ-loop
+loop-less c = search needs
+
+loop-again : tie.Need-loop-again Inv-loop μ-loop
+loop-again c =
+    let l = c .before .before .before .before in
+    chained-on (l .loop .inv) (omega arith) (c .before .before .word .ensures .value) (c .before .record-size .ensures) (c .word2 .ensures .value) (c .word2 .ensures .below)
+
+add-result : tie.Need-add-result Inv-loop μ-loop
+add-result c = omega (arith, c .before .loop .inv .within, c .before .loop .inv .low)
+
+returns : tie.Need-returns Inv-loop μ-loop
+returns c = chained-is (c .before .loop .inv) (omega arith)
+
+pub chained-spec : {M : Type 1} → statement M
+chained-spec =
+    tie.close
+    (tie.spec
+    Inv-loop
+    μ-loop
+    loop-holds
+    mul-word
+    word-requires
+    record-size-requires
+    mul-word-2
+    add-word
+    word-requires-2
+    mul-start
+    add-start
+    add-section
+    loop-less
+    loop-again
+    add-result
+    returns)

@@ -1,0 +1,3 @@
+-- What the contracts of `layout` cite beside `meaning`.
+pub mod Readable
+pub mod Frame

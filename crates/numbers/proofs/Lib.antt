@@ -1,0 +1,6 @@
+pub mod Limit
+pub mod Equal
+pub mod Found
+pub mod Range
+pub mod Directions
+pub mod Doubt

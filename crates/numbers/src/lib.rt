@@ -1,0 +1,151 @@
+// The numbers of a proposed solution, each by itself: any i64, also the lowest, which has no magnitude.
+ghost use mathlib.Core.Path.{_≡_};
+ghost use Prim.Native.Nat.{_<_};
+ghost use lib.Dec.{leb};
+ghost use lib.IntN.{natAbs};
+ghost use lib.ListN.{length};
+ghost use Rattle.meaning.specs.Rows.{failing};
+ghost use Rattle.meaning.specs.Proposal.{numberInRange};
+ghost use Rattle.meaning.specs.Direction.{direction, inDoubt};
+ghost use Rattle.meaning.specs.Systems.{limitOf};
+ghost use Rattle.numbers.specs.Numbers.{clearBy, evenIn, pinned, rowOf};
+use meaning::Direction;
+use meaning::System;
+
+// Whether a number is within a limit of 0. A limit from 2^63 on has every number within it.
+pub fn within(z: i64, limit: u64) -> bool
+    ensures { λ r. ⌜ r ≡ leb (natAbs z) limit ⌝ }
+{
+    if limit > 9223372036854775807 {
+        return true;
+    }
+    let most = limit as i64;
+    if most < z {
+        return false;
+    }
+    if z < 0 - most {
+        return false;
+    }
+    true
+}
+
+// Whether number i of a run is in range: flows stand after the potentials, and the reference's potential is 0.
+fn number_in_range(n: usize, reference: usize, limit: u64, run: &[i64], i: usize) -> bool
+    requires { ⌜ i < length (now run) ⌝ }
+    ensures { λ r. ⌜ r ≡ numberInRange (pinned n reference) limit (now (run .entry)) i ⌝ }
+{
+    let z = run[i];
+    if n <= i {
+        return within(z, 100000000000000);
+    }
+    if i == reference {
+        return within(z, 0);
+    }
+    within(z, limit)
+}
+
+// 01, 8: the lowest row of a run that is out of range, or the run's length.
+pub fn first_out_of_range(n: usize, reference: usize, limit: u64, run: &[i64]) -> usize
+    ensures { λ r. ⌜ r ≡ rowOf (failing (numberInRange (pinned n reference) limit (now (run .entry))) (length (now (run .entry)))) (length (now (run .entry))) ⌝ }
+{
+    let mut i: usize = 0;
+    while i < run.len() {
+        if number_in_range(n, reference, limit, run, i) {
+            i += 1;
+        } else {
+            return i;
+        }
+    }
+    i
+}
+
+// 01, step 4: idle, in doubt, or directed with the flow's sign.
+pub fn direction_of(flow: i64) -> Direction
+    ensures { λ r. ⌜ r ≡ direction flow ⌝ }
+{
+    if within(flow, 200000000) {
+        return Direction::Idle;
+    }
+    if within(flow, 400000000) {
+        return Direction::InDoubt;
+    }
+    if flow < 0 {
+        return Direction::Backward;
+    }
+    Direction::Forward
+}
+
+// Whether a flow's direction is in doubt.
+pub fn doubtful(flow: i64) -> bool
+    ensures { λ r. ⌜ r ≡ inDoubt (direction flow) ⌝ }
+{
+    match direction_of(flow) {
+        Direction::Idle => false,
+        Direction::Forward => false,
+        Direction::Backward => false,
+        Direction::InDoubt => true,
+    }
+}
+
+// Whether circuit c has no length, or its base flow is not in doubt; a flow past the run's end is none.
+fn clear(n: usize, lengths: &[u64; 512], base: &[i64], c: usize) -> bool
+    requires { ⌜ c < 512 ⌝ }
+    ensures { λ r. ⌜ r ≡ clearBy n (now (lengths .entry)) (now (base .entry)) c ⌝ }
+{
+    if lengths[c] < 1 {
+        return true;
+    }
+    if base.len() <= c {
+        return true;
+    }
+    if base.len() - c <= n {
+        return true;
+    }
+    let flow = base[n + c];
+    if doubtful(flow) {
+        return false;
+    }
+    true
+}
+
+// 01, 11: the lowest of 512 circuits with a length whose base flow is in doubt, or 512.
+pub fn first_in_doubt(n: usize, lengths: &[u64; 512], base: &[i64]) -> usize
+    ensures { λ r. ⌜ r ≡ rowOf (failing (clearBy n (now (lengths .entry)) (now (base .entry))) 512) 512 ⌝ }
+{
+    let mut c: usize = 0;
+    while c < 512 {
+        if clear(n, lengths, base, c) {
+            c += 1;
+        } else {
+            return c;
+        }
+    }
+    c
+}
+
+// 01, 9: the lowest of 256 rows in which two columns differ, or 256.
+pub fn first_apart(a: [i64; 256], b: [i64; 256]) -> usize
+    ensures { λ r. ⌜ r ≡ rowOf (failing (evenIn a b) 256) 256 ⌝ }
+{
+    let mut v: usize = 0;
+    while v < 256 {
+        let got = a[v];
+        let want = b[v];
+        if got != want {
+            return v;
+        }
+        v += 1;
+    }
+    v
+}
+
+// 01, Quantities: the largest potential of a system.
+pub fn limit_of(system: System) -> u64
+    ensures { λ r. ⌜ r ≡ limitOf system ⌝ }
+{
+    match system {
+        System::Base => 2000000000000000000,
+        System::Wider => 10000000000000000,
+        System::Local => 10000000000000000,
+    }
+}

@@ -1,0 +1,5 @@
+pub mod FirstLaws
+pub mod PlaceLaws
+pub mod NodeLaws
+pub mod CircuitLaws
+pub mod StationLaws

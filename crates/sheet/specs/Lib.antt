@@ -1,4 +1,0 @@
-pub mod Writing
-pub mod SheetText
-pub mod Lengths
-pub mod Refusing

@@ -1,0 +1,101 @@
+// 01, steps 6, 7 and 10: the divisions of one number by another, for every input; and figures that say nothing.
+use meaning::Figures;
+use meaning::Kw;
+use meaning::LocalFigures;
+use meaning::Metres;
+use meaning::MicroPerKw;
+use meaning::Side;
+use meaning::SideFigures;
+use meaning::ZoneFigures;
+ghost use mathlib.Core.Path.{_≡_};
+ghost use Rattle.integers.specs.Numbers.{nearest};
+ghost use Rattle.meaning.specs.Figures.{metres as metresOf, residualOf};
+ghost use Rattle.meaning.specs.Columns.{noLine, noLocal};
+ghost use Rattle.steps.specs.Steps.{turned};
+ghost use Rattle.steps.specs.Nothing.{noSide, noFigures};
+
+// Step 6: nodal metres, the potential's nanometres to the nearest.
+pub fn metres(potential: i64) -> Metres
+    ensures { λ r. ⌜ r .0 ≡ metresOf potential ⌝ }
+{
+    Metres(integers::nearest(potential, 1_000_000_000))
+}
+
+// Step 6: a node's distance, negated for demand.
+pub fn distance(side: Side, potential: i64) -> Metres
+    ensures { λ r. ⌜ r .0 ≡ turned side (metresOf potential) ⌝ }
+{
+    let rounded = metres(potential);
+    match side {
+        Side::Generation => rounded,
+        Side::Demand => Metres(0 - rounded.0),
+    }
+}
+
+// Step 7: an average, a sum of metres times kilowatts over the kilowatts, to the nearest.
+pub fn average(sum: i64, kw: Kw) -> Metres
+    ensures { λ r. ⌜ r .0 ≡ nearest sum (kw .0) ⌝ }
+{
+    Metres(integers::nearest(sum, kw.0))
+}
+
+// Step 10: what of a rest is for each kilowatt, rounded down.
+pub fn residual(rest: i64, kw: Kw) -> MicroPerKw
+    ensures { λ r. ⌜ r .0 ≡ residualOf rest (kw .0) ⌝ }
+{
+    MicroPerKw(integers::floor_div(rest, kw.0))
+}
+
+// The line of no zone.
+pub fn no_line() -> ZoneFigures
+    ensures { λ r. ⌜ r ≡ noLine ⌝ }
+{
+    let none = Metres(0);
+    let free = MicroPerKw(0);
+    ZoneFigures {
+        weight: Kw(0),
+        metres: none,
+        after_c: none,
+        tariff: free,
+        total: free,
+    }
+}
+
+// The line of no node.
+pub fn no_local() -> LocalFigures
+    ensures { λ r. ⌜ r ≡ noLocal ⌝ }
+{
+    LocalFigures {
+        tec: Kw(0),
+        metres: Metres(0),
+        tariff: MicroPerKw(0),
+    }
+}
+
+// A side without zones.
+fn no_side() -> SideFigures
+    ensures { λ r. ⌜ r ≡ noSide ⌝ }
+{
+    let line = no_line();
+    SideFigures {
+        zones: 0,
+        residual: MicroPerKw(0),
+        remainder: 0,
+        zone: [line; 32],
+    }
+}
+
+// The figures of a case that is stopped: all zero.
+pub fn no_figures() -> Figures
+    ensures { λ r. ⌜ r ≡ noFigures ⌝ }
+{
+    let side = no_side();
+    let node = no_local();
+    Figures {
+        c: Metres(0),
+        generation: side,
+        demand: side,
+        nodes: 0,
+        local: [node; 256],
+    }
+}

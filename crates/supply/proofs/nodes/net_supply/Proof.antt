@@ -1,0 +1,48 @@
+use mathlib.Core.Path.{_≡_}
+use Prim.Native.Nat.{ℕ}
+use native.Mathlib.Omega.{arith}
+use lib.IntN.{pos, _-ℤ_, _*ℤ_}
+use mir.Syntax.{w64}
+use mir.Val.{toZ}
+use Rattle.integers.proofs.Machine.{Back, fit-back, of-nat}
+use Rattle.supply.proofs.Bounds.{net-fits, supply-fits}
+use borrow.Author.Needs.{needs}
+use Rattle.supply.proofs.nodes.net_supply.Statement.{statement}
+use Rattle.supply.proofs.nodes.net_supply.Tie as tie
+
+module _ (s : tie.Start) where
+  abbrev a : ℕ
+  a = s .args .scaled .0
+
+  abbrev d : ℕ
+  d = s .args .demand .0
+
+  ba : toZ w64 a ≡ pos a
+  ba = of-nat _ (omega arith)
+
+  bd : toZ w64 d ≡ pos d
+  bd = of-nat _ (omega arith)
+
+  bn : Back (pos a -ℤ pos d)
+  bn = fit-back (net-fits a d (s .pre .0) (s .pre .1))
+
+  bs : Back (pos 1000000 *ℤ (pos a -ℤ pos d))
+  bs = fit-back (supply-fits a d (s .pre .0) (s .pre .1))
+
+cast-result : tie.Need-cast-result
+cast-result c = search needs
+
+cast-result-2 : tie.Need-cast-result-2
+cast-result-2 c = search needs
+
+sub-result : tie.Need-sub-result
+sub-result c = let s = c .before .before in simp (ba s, bd s) (net-fits (a s) (d s) (s .pre .0) (s .pre .1))
+
+mul-result : tie.Need-mul-result
+mul-result c = let s = c .before .before in simp (ba s, bd s, bn s) (supply-fits (a s) (d s) (s .pre .0) (s .pre .1))
+
+returns : tie.Need-returns
+returns c = let s = c .before .before in simp (ba s, bd s, bn s, bs s)
+
+pub net-supply-spec : {M : Type 1} → statement M
+net-supply-spec = tie.close (tie.spec cast-result cast-result-2 sub-result mul-result returns)

@@ -1,0 +1,43 @@
+// A file's tables read once, each judged row by row as it is read.
+ghost use Rattle.tables.specs.Reads.{Reads};
+use columns::CircuitColumns;
+use columns::NodeColumns;
+use columns::TecColumns;
+use layout::RowCounts;
+use layout::StudySettings;
+use meaning::Answer;
+
+// The columns of a file, and what stops its circuits and its stations.
+pub struct Read {
+    pub counts: RowCounts,
+    pub settings: StudySettings,
+    pub nodes: NodeColumns,
+    pub circuits: CircuitColumns,
+    pub tec: TecColumns,
+    pub circuit: Answer,
+    pub station: Answer,
+}
+
+// All that the judgement needs of a file.
+pub fn tables(file: &[u8]) -> Read
+    ensures { λ r. ⌜ Reads (now (file .entry)) r ⌝ }
+{
+    let counts = layout::counts(file);
+    let settings = layout::settings(file);
+    let nodes = columns::nodes(file);
+    let judged = rows::circuits(file);
+    let circuits = judged.columns;
+    let circuit = judged.answer;
+    let summed = rows::stations(file);
+    let tec = summed.tec;
+    let station = summed.answer;
+    Read {
+        counts,
+        settings,
+        nodes,
+        circuits,
+        tec,
+        circuit,
+        station,
+    }
+}

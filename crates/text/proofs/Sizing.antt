@@ -1,0 +1,49 @@
+-- The text of figures by what the test of their counts says, and a buffer by whether it holds a text.
+use mathlib.Core.Path.{_≡_, refl, sym}
+use mathlib.Core.Bool.{Bool, true, false}
+use mathlib.Core.List.{List, []}
+use Prim.Native.Nat.{ℕ, _≤_, _<_}
+use native.Mathlib.Omega.{arith}
+use borrow.Author.Tests.{le-leb, lt-leb}
+use lib.ListN.{length}
+use Rattle.meaning.proofs.Says.{Says, _also_, says-as, says-le}
+use Rattle.meaning.specs.declared.Figures.{Figures}
+use Rattle.text.specs.SheetText.{sheetText, nameOf, sized, textOf, Sized}
+use Rattle.text.specs.Writing.{Written, Fitted}
+
+module _ (f : Figures) (file : List ℕ) where
+  pub says-sized : Says (sized f file) (Sized f file)
+  unfolding sized
+  says-sized =
+      says-as (says-le also says-le also says-le also says-le) (
+        λ t. record { generation = t .0 .0 .0; demand = t .0 .0 .1; nodes = t .0 .1; inside = t .1 },
+        λ s. (((s .generation, s .demand), s .nodes), s .inside),
+      )
+
+  pub sized-true : Sized f file → true ≡ sized f file
+  sized-true s = sym (says-sized .1 s)
+
+  pub sized-false : (Sized f file → ⊥) → false ≡ sized f file
+  sized-false n = go (sized f file) refl
+    where
+      go : (t : Bool) → sized f file ≡ t → false ≡ t
+      go true e = absurd (n (says-sized .0 e))
+      go false e = refl
+
+  pub text-sized : sized f file ≡ true → textOf f file ≡ sheetText f (nameOf file)
+  unfolding textOf
+  text-sized e = rw e refl
+
+  pub text-none : sized f file ≡ false → textOf f file ≡ []
+  unfolding textOf
+  text-none e = rw e refl
+
+-- a text that is written, and one that does not fit
+pub fitted-written : (t old new : List ℕ) (r : ℕ) → length t ≤ length old → Written t old new r → Fitted t old new r
+fitted-written t old new r h w = record { answer = w .answer; buffer = rw (le-leb (length t) (length old) h) (w .buffer) }
+
+pub fitted-short : (t old : List ℕ) (r : ℕ) → length old < length t → r ≡ length t → Fitted t old old r
+fitted-short t old r h e = record { answer = e; buffer = rw (lt-leb (length t) (length old) h) refl }
+
+pub fitted-none : (old : List ℕ) → Fitted [] old old 0
+fitted-none old = record { answer = refl; buffer = rw (le-leb 0 (length old) (omega arith)) refl }
