@@ -1,6 +1,8 @@
 // The entry called with KILN, lent buffers of several lengths and runs of wrong lengths: prints each answer's values, and whether the buffer changed.
+// Then the line of a refusal, into a buffer that is long enough and one that is a byte too short.
 use libc::STDIN_FILENO;
 use libc::STDOUT_FILENO;
+use meaning::Answer;
 
 // Six numbers of a solution, and a seventh that is one too many.
 fn run_at(file: &[u8], at: usize) -> [i64; 7] {
@@ -77,6 +79,15 @@ fn wrong_runs(file: &[u8], base: &[i64], wider: &[i64], local: &[i64], long: &[i
     call_with_room(&file[..0], base, wider, local);
 }
 
+// The line of a refusal: how long it is, and how much of the buffer is as it was.
+fn refuse(out: &mut [u8]) {
+    let length = text::refuse(Answer::ShortBuffer, out);
+    io::print_decimal(STDOUT_FILENO, length as u64);
+    io::write_all(STDOUT_FILENO, b", as before: ");
+    io::print_decimal(STDOUT_FILENO, sevens(out) as u64);
+    io::write_all(STDOUT_FILENO, b"\n");
+}
+
 fn main() {
     let mut input = io::buffer();
     let read = io::read_full(STDIN_FILENO, &mut input);
@@ -87,4 +98,8 @@ fn main() {
     buffers(file, &base[0..6], &wider[0..6], &local[0..6]);
     let long = run_at(file, 380);
     wrong_runs(file, &base[0..6], &wider[0..6], &local[0..6], &long);
+    let mut room = [7u8; 96];
+    refuse(&mut room);
+    let mut short = [7u8; 95];
+    refuse(&mut short);
 }
