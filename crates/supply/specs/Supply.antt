@@ -22,7 +22,7 @@ scaledBy n tec demand = scaled n (kwAt tec) (demand .0)
 abbrev pub netSupply : (scaled demand : ℕ) → ℤ
 netSupply scaled demand = pos 1000000 *ℤ (pos scaled -ℤ pos demand)
 
--- 7: total TEC from 1 to 10^8, and no more demand than that
+-- of 7, what step 1 needs: total TEC from 1 to 10^8, and no more demand than that. Without demand, which 7 refuses too, every supply is 0
 unfoldable pub passesTotals : (tec demand : ℕ) → Bool
 passesTotals tec demand = tec between 1 and 100000000 && leb demand tec
 
