@@ -12,8 +12,8 @@ use Rattle.meaning.specs.Name.{Name, sameName}
 use Rattle.meaning.specs.Study.{Settings, Node, Circuit, Station, Study, node, circuit, station}
 use Rattle.meaning.specs.declared.Answer.{Answer}
 use Rattle.meaning.specs.Answers.{values, refusal, stops, unless, at}
-use Rattle.meaning.specs.Tables.{seenEarlier, known, soundSettings, soundNodeRow, soundCircuitRow, soundStationRow, soundNode, soundCircuit, soundStation, settingsStage, nodesStage, circuitsStage, stationsStage}
-use Rattle.meaning.specs.Grid.{gridOf, place, totalsStage, totalDemand, totalTec}
+use Rattle.meaning.specs.Tables.{seenEarlier, known, soundScales, soundSettings, soundNodeRow, soundCircuitRow, soundStationRow, soundNode, soundCircuit, soundStation, settingsStage, nodesStage, circuitsStage, stationsStage}
+use Rattle.meaning.specs.Grid.{gridOf, place, soundTotals, totalsStage, totalDemand, totalTec}
 use Rattle.meaning.specs.Network.{Network, networkOf, Reached, marked, reachedNodes, reachStage}
 use Rattle.meaning.specs.Outcome.{rowsStage, gridStage}
 use Rattle.meaning.specs.Conditions.{InRange, Known, SoundSettings, SoundNode, SoundCircuit, SoundStation, SoundTables}
@@ -24,7 +24,7 @@ use Rattle.meaning.proofs.Says.{Says, says-as, _also_, _either_, says-n
 
 -- ---- settings, and each row
 says-settings : (nodes : ℕ) (s : Settings) → Says (soundSettings nodes s) (SoundSettings nodes s)
-unfolding soundSettings
+unfolding soundSettings soundScales
 says-settings nodes s =
     says-as
     (says-between also says-between also says-le also says-between also says-between also says-between also says-eq also says-between
@@ -167,6 +167,11 @@ pub reach-pass : (N : Network) → Placed N → Passes (reachStage N) ↔ ((v : 
 unfolding reachStage stops values refusal
 reach-pass N p = passes-rows _ _ (λ i. refl) (reached-is N p)
 
+-- ---- 7, of two totals
+pub says-totals : (demand tec : ℕ) → Says (soundTotals demand tec) ((InRange demand 1 100000000 × InRange tec 1 100000000) × (demand ≤ tec))
+unfolding soundTotals
+says-totals demand tec = says-between also says-between also says-le
+
 -- ---- 2 to 7
 pub sound-pass : (S : Study) → (Passes (rowsStage S) × Passes (gridStage (gridOf S))) ↔ SoundTables S
 unfolding gridStage totalsStage networkOf gridOf stops values refusal
@@ -174,7 +179,7 @@ sound-pass S = (
   λ t.
       let r = rows-pass S .0 (t .0) in
       let g = passes-orElse _ _ .0 (t .1) in
-      let u = (says-between also says-between also says-le) .0 (passes-unless _ _ refl .0 (g .1)) in
+      let u = says-totals _ _ .0 (passes-unless _ _ refl .0 (g .1)) in
       record {
         settings = r .settings;
         nodes = r .nodes;
@@ -190,7 +195,7 @@ sound-pass S = (
         rows-pass S .1 r,
         passes-orElse _ _ .1 (
           reach-pass (networkOf (gridOf S)) (placed S r) .1 (s .reached),
-          passes-unless _ _ refl .1 ((says-between also says-between also says-le) .1 ((s .demandTotal, s .tecTotal), s .enough)),
+          passes-unless _ _ refl .1 (says-totals _ _ .1 ((s .demandTotal, s .tecTotal), s .enough)),
         ),
       ),
 )

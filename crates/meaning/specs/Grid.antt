@@ -92,6 +92,8 @@ abbrev pub totalDemand : Grid → Kw
 totalDemand G = sum (length (G .nodes)) (nodeDemand G)
 
 -- 01, What stops a case, 7: "a total outside its range, or total TEC below total demand"
+unfoldable pub soundTotals : (demand tec : Kw) → Bool
+soundTotals demand tec = demand between 1 and 100000000 && tec between 1 and 100000000 && leb demand tec
+
 unfoldable pub totalsStage : Grid → Answer
-totalsStage G =
-    unless (totalDemand G between 1 and 100000000 && totalTec G between 1 and 100000000 && leb (totalDemand G) (totalTec G)) BadTotal
+totalsStage G = unless (soundTotals (totalDemand G) (totalTec G)) BadTotal

@@ -19,13 +19,17 @@ seenEarlier name i = any (λ j. sameName (name j) (name i)) i
 unfoldable pub known : List Node → Name → Bool
 known nodes name = any (λ v. sameName (node nodes v .name) name) (length nodes)
 
+-- 2, zones, p, expansion constant and security factors
+unfoldable pub soundScales : Settings → Bool
+soundScales s =
+    s.generationZones between 1 and 32 && s.demandZones between 1 and 32 && leb s.p 1000 && s.constant between 1 and 10000
+    && s.widerFactor between 1000 and 5000 && s.localFactor between 1000 and 5000
+
 -- 2: each setting in its range, the reference row a row of the nodes' table
 unfoldable pub soundSettings : (nodes : ℕ) → Settings → Bool
 soundSettings nodes s =
-    s.generationZones between 1 and 32 && s.demandZones between 1 and 32 && leb s.p 1000 && s.constant between 1 and 10000
-    && s.widerFactor between 1000 and 5000 && s.localFactor between 1000 and 5000 && eqb s.overhead400 1000
-    && s.cable400 between 1000 and 30000 && s.overhead275 between 1000 and 30000 && s.cable275 between 1000 and 30000
-    && s.overhead132 between 1000 and 30000 && s.cable132 between 1000 and 30000
+    soundScales s && eqb s.overhead400 1000 && s.cable400 between 1000 and 30000 && s.overhead275 between 1000 and 30000
+    && s.cable275 between 1000 and 30000 && s.overhead132 between 1000 and 30000 && s.cable132 between 1000 and 30000
     && s.reference between 1 and nodes && leb s.revenue 10000000000
 
 -- 3, a row by itself

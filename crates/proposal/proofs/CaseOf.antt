@@ -17,6 +17,7 @@ use Rattle.meaning.specs.Systems.{net, supply}
 use Rattle.meaning.specs.Direction.{expandedLength}
 use Rattle.meaning.specs.Conditions.{SoundSettings, SoundTables}
 use Rattle.meaning.proofs.Says.{says-le, _also_}
+use Rattle.meaning.proofs.Tables.{says-totals}
 use Rattle.layout.specs.declared.RowCounts.{RowCounts}
 use Rattle.layout.specs.declared.StudySettings.{StudySettings}
 use Rattle.columns.specs.declared.NodeColumns.{NodeColumns}
@@ -92,8 +93,8 @@ module _ (S : Study) (sound : SoundTables S) (few : length (S .nodes) ≤ 256) (
   supplied : (v : ℕ) → v < rows .nodes → getD (baseSupply (rows .nodes) scaling (nodes .demand)) v (pos 0) ≡ supply (gridOf S) Base v
   unfolding supply net gridOf
   supplied v h =
-      base-supply-at (rows .nodes) scaling (nodes .demand) (omega (arith, node-count)) (omega (arith, total-tec, sound .tecTotal .least))
-      (omega (arith, total-tec, sound .tecTotal .most)) (omega (arith, total-tec, total-demand, sound .enough)) v h
+      base-supply-at (rows .nodes) scaling (nodes .demand) (omega (arith, node-count))
+      (rw (total-demand, total-tec) (says-totals _ _ .1 ((sound .demandTotal, sound .tecTotal), sound .enough))) v h
       ∙ ap₂ (λ (a d : ℕ). pos 1000000 *ℤ (pos a -ℤ pos d))
       (scaled-same (rows .nodes) (kwAt scaling) (nodeTec (gridOf S)) (sum (rows .nodes) (kwAt (nodes .demand))) (λ i l. kw-at (tec-filled .at i l)) v h
       ∙ ap₂ (λ (n d : ℕ). scaled n (nodeTec (gridOf S)) d v) node-count total-demand)

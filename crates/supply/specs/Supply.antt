@@ -1,18 +1,18 @@
 -- 01, steps 1 and 3: scaled generation and the supply of the base system, over columns as code has them.
 use mathlib.Core.Path.{_≡_}
-use mathlib.Core.Bool.{Bool, cond, _&&_}
+use mathlib.Core.Bool.{cond}
 use mathlib.Core.List.{List}
 use Prim.Native.Nat.{ℕ, _≤_, _<_}
-use lib.Dec.{leb}
 use lib.IntN.{ℤ, pos, _-ℤ_, _*ℤ_}
 use lib.ListN.{replicate}
 use Rattle.integers.specs.Numbers.{sum}
 use Rattle.meaning.specs.declared.Kw.{Kw}
 use Rattle.meaning.specs.declared.System.{System}
 use Rattle.meaning.specs.declared.System.the-variants.{Base, Wider, Local}
-use Rattle.meaning.specs.Rows.{_between_and_}
+use Rattle.meaning.specs.Grid.{soundTotals}
 use Rattle.meaning.specs.Columns.{kilowatts, kwAt, column}
 use Rattle.meaning.specs.Scaled.{scaled}
+use Rattle.totals.specs.Totals.{totalOf}
 
 -- step 1: scaled generation of node v
 abbrev pub scaledBy : (n : ℕ) (tec : List Kw) (demand : Kw) → ℕ → ℕ
@@ -22,22 +22,14 @@ scaledBy n tec demand = scaled n (kwAt tec) (demand .0)
 abbrev pub netSupply : (scaled demand : ℕ) → ℤ
 netSupply scaled demand = pos 1000000 *ℤ (pos scaled -ℤ pos demand)
 
--- of 7, what step 1 needs: total TEC from 1 to 10^8, and no more demand than that. Without demand, which 7 refuses too, every supply is 0
-unfoldable pub passesTotals : (tec demand : ℕ) → Bool
-passesTotals tec demand = tec between 1 and 100000000 && leb demand tec
-
--- a total, or 10^8 + 1 past 10^8
-unfoldable pub upTo : ℕ → ℕ
-upTo total = cond (leb total 100000000) total 100000001
-
 -- the supply of node v, by the columns of TEC and demand
 abbrev pub supplyOf : (n : ℕ) (tec demand : List Kw) → ℕ → ℤ
 supplyOf n tec demand v = netSupply (scaledBy n tec (kilowatts (sum n (kwAt demand))) v) (kwAt demand v)
 
--- the supply of each of n nodes, at most 256; nothing where 7 refuses their totals
+-- the supply of each of n nodes; nothing where 7 refuses their totals
 unfoldable pub baseSupply : (n : ℕ) (tec demand : List Kw) → List ℤ
 baseSupply n tec demand =
-    cond (leb n 256 && passesTotals (sum n (kwAt tec)) (sum n (kwAt demand))) (column (pos 0) 256 n (supplyOf n tec demand)) (replicate 256 (pos 0))
+    cond (soundTotals (totalOf n demand .0) (totalOf n tec .0)) (column (pos 0) 256 n (supplyOf n tec demand)) (replicate 256 (pos 0))
 
 -- step 3: the base system's supply; step 5: supply 0
 unfoldable pub supplyIn : System → (base : List ℤ) → List ℤ

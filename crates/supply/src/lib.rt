@@ -1,7 +1,6 @@
 // 01, steps 1 and 3: what each node supplies to the base system.
 mod nodes;
 mod scaled;
-mod totals;
 
 ghost use mathlib.Core.Path.{_≡_};
 ghost use Rattle.supply.specs.Supply.{baseSupply, supplyIn};
@@ -12,13 +11,10 @@ use meaning::System;
 pub fn base_supply(n: usize, tec: [Kw; 256], demand: [Kw; 256]) -> [i64; 256]
     ensures { λ r. ⌜ r ≡ baseSupply n tec demand ⌝ }
 {
-    if n > 256 {
-        return [0i64; 256];
-    }
-    let total = totals::total_of(n, tec);
-    let wanted = totals::total_of(n, demand);
-    if totals::passes(total, wanted) {
-        return nodes::supplies(n, scaled::scaled(n, tec, Kw(wanted), Kw(total)), demand);
+    let total = totals::total(n, tec);
+    let wanted = totals::total(n, demand);
+    if totals::sound(wanted, total) {
+        return nodes::supplies(n, scaled::scaled(n, tec, wanted, total), demand);
     }
     [0i64; 256]
 }

@@ -4,17 +4,19 @@ use mathlib.Core.List.{List}
 use Prim.Native.Nat.{ℕ, _≤_, _<_}
 use native.Mathlib.Omega.{arith}
 use lib.ListN.{length}
+use Rattle.integers.proofs.Sum.{sum-same}
 use Rattle.meaning.specs.declared.Kw.{Kw}
 use Rattle.meaning.specs.Answers.{_orElse_}
 use Rattle.meaning.specs.Columns.{kilowatts, kwAt}
-use Rattle.meaning.specs.Grid.{gridOf, nodeDemand, nodeTec}
+use Rattle.meaning.specs.Grid.{gridOf, nodeDemand, nodeTec, totalsStage}
 use Rattle.meaning.specs.Network.{reachStage}
 use Rattle.meaning.specs.Outcome.{rowsStage, gridStage}
 use Rattle.meaning.proofs.Answers.{Passes}
 use Rattle.meaning.proofs.Rows.{rows-at}
 use Rattle.meaning.proofs.Tables.{Rowwise, rows-pass}
+use Rattle.totals.proofs.TotalLaws.{same-totals}
 use Rattle.layout.specs.Readable.{readable}
-use Rattle.layout.proofs.Rows.{counts-are, few, stations-few}
+use Rattle.layout.proofs.Rows.{counts-are, few}
 use Rattle.columns.specs.Columns.{nodesOf}
 use Rattle.columns.specs.Tec.{tecOf}
 use Rattle.tables.specs.declared.read.Read.{Read}
@@ -22,7 +24,6 @@ use Rattle.tables.specs.Reads.{Reads, SoundRows, endsOf, totalsIn}
 use Rattle.tables.specs.Walk.{endsNetwork}
 use Rattle.tables.proofs.ReachLaws.{ends-walk, ends-stage}
 use Rattle.tables.proofs.ReadLaws.{reference-is}
-use Rattle.tables.proofs.TotalLaws.{demand-small, tec-small, totals-are}
 
 module _ {file : List ℕ} {a : Read} (t : Reads file a) (p : Passes (rowsStage (readable file))) where
   rowwise : Rowwise (readable file)
@@ -44,12 +45,15 @@ module _ {file : List ℕ} {a : Read} (t : Reads file a) (p : Passes (rowsStage 
       record {
         reference = omega (arith, reference-is t, rowwise .settings .reference .least);
         walks = ends-walk t rowwise;
-        demand = demand-small rowwise (stations-few file) nodes-are (a .nodes .demand) (a .tec .scaling) demands tecs;
-        tec = tec-small rowwise (stations-few file) nodes-are (a .nodes .demand) (a .tec .scaling) demands tecs;
       }
+
+  totals-are : totalsIn a ≡ totalsStage (gridOf (readable file))
+  unfolding totalsStage gridOf
+  totals-are =
+      let n = a .counts .nodes in
+      rw (same-totals n (a .nodes .demand) (a .tec .scaling) (few file (t .counts) .nodes-low), sum-same n _ _ demands, sum-same n _ _ tecs, nodes-are) refl
 
   pub grid-answer : (reachStage (endsNetwork (endsOf a)) orElse totalsIn a) ≡ gridStage (gridOf (readable file))
   unfolding gridStage
   grid-answer =
-      ap₂ _orElse_ (ends-stage t rowwise)
-      (totals-are rowwise (stations-few file) nodes-are (a .nodes .demand) (a .tec .scaling) demands tecs)
+      ap₂ _orElse_ (ends-stage t rowwise) totals-are

@@ -1,5 +1,4 @@
 pub mod WalkLaws
-pub mod TotalLaws
 pub mod ReadLaws
 pub mod ReachLaws
 pub mod GridLaws

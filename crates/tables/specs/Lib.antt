@@ -1,6 +1,4 @@
--- What the contracts of `tables` cite beside `meaning`, `layout`, `columns` and `rows`.
-pub mod Settings
+-- What the contracts of `tables` cite beside `meaning`, `layout`, `totals`, `columns` and `rows`.
 pub mod Walk
-pub mod Totals
 pub mod Reads
 pub mod Opens

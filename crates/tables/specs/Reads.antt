@@ -2,17 +2,19 @@
 use mathlib.Core.Path.{_≡_}
 use mathlib.Core.List.{List}
 use Prim.Native.Nat.{ℕ, _-_, _≤_}
-use Rattle.integers.specs.Numbers.{sum}
 use Rattle.meaning.specs.declared.Answer.{Answer}
-use Rattle.meaning.specs.Columns.{kwAt}
+use Rattle.meaning.specs.declared.Answer.the-variants.{BadTotal}
+use Rattle.meaning.specs.declared.Kw.{Kw}
+use Rattle.meaning.specs.Answers.{unless}
+use Rattle.meaning.specs.Grid.{soundTotals}
 use Rattle.meaning.specs.Tables.{circuitsStage, stationsStage}
 use Rattle.layout.specs.Readable.{readable}
 use Rattle.layout.specs.Frame.{countsOf, settingsIn}
+use Rattle.totals.specs.Totals.{totalOf}
 use Rattle.columns.specs.Columns.{nodesOf, circuitsOf}
 use Rattle.columns.specs.Tec.{tecOf}
 use Rattle.tables.specs.declared.read.Read.{Read}
 use Rattle.tables.specs.declared.reach.Ends.{Ends}
-use Rattle.tables.specs.Totals.{Small, totalsOf}
 use Rattle.tables.specs.Walk.{Walks}
 
 -- the columns of a file, and what stops its circuits and its stations
@@ -36,13 +38,14 @@ endsOf a =
       second = a .circuits .second;
     }
 
--- 7, of the columns
-abbrev pub totalsIn : Read → Answer
-totalsIn a = totalsOf (sum (a .counts .nodes) (kwAt (a .nodes .demand))) (sum (a .counts .nodes) (kwAt (a .tec .scaling)))
+-- 7, of the columns of n nodes
+abbrev pub totalsOf : (n : ℕ) (demand tec : List Kw) → Answer
+totalsOf n demand tec = unless (soundTotals (totalOf n demand .0) (totalOf n tec .0)) BadTotal
 
--- what 6 and 7 are told: rows that are sound
+abbrev pub totalsIn : Read → Answer
+totalsIn a = totalsOf (a .counts .nodes) (a .nodes .demand) (a .tec .scaling)
+
+-- what 6 is told: rows that are sound
 pub record SoundRows (a : Read) : Type 0 where
   pub reference : 1 ≤ a .settings .reference
   pub walks : Walks (endsOf a)
-  pub demand : Small (a .nodes .demand) (a .counts .nodes)
-  pub tec : Small (a .tec .scaling) (a .counts .nodes)

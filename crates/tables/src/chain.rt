@@ -3,8 +3,8 @@ use crate::reach;
 use crate::reach::Ends;
 use crate::read::Read;
 use crate::settings;
-use crate::totals;
 use meaning::Answer;
+use meaning::Kw;
 ghost use mathlib.Core.Path.{_≡_};
 ghost use mathlib.Core.Bool.{_&&_};
 ghost use lib.Dec.{eqb};
@@ -13,7 +13,7 @@ ghost use Rattle.meaning.specs.Grid.{gridOf};
 ghost use Rattle.meaning.specs.Network.{reachStage};
 ghost use Rattle.meaning.specs.Outcome.{rowsStage, gridStage, tablesStage};
 ghost use Rattle.layout.specs.Readable.{readable};
-ghost use Rattle.tables.specs.Reads.{Reads, SoundRows, endsOf, totalsIn};
+ghost use Rattle.tables.specs.Reads.{Reads, SoundRows, endsOf, totalsOf, totalsIn};
 ghost use Rattle.tables.specs.Walk.{endsNetwork, Walks};
 
 // The first answer where it is a refusal, else the second.
@@ -61,6 +61,16 @@ pub fn ends(all: Read) -> Ends
     }
 }
 
+// 7: a total out of its range, or less TEC than demand.
+pub fn totals_stage(n: usize, demand: [Kw; 256], tec: [Kw; 256]) -> Answer
+    ensures { λ r. ⌜ r ≡ totalsOf n demand tec ⌝ }
+{
+    if totals::sound(totals::total(n, demand), totals::total(n, tec)) {
+        return Answer::Accepted(0);
+    }
+    Answer::BadTotal
+}
+
 // 6 and 7.
 pub fn grid_stage(all: Read) -> Answer
     requires { ⌜ SoundRows all ⌝ }
@@ -73,7 +83,7 @@ pub fn grid_stage(all: Read) -> Answer
     let scaling = tec.scaling;
     or_else(
         reach::stage(ends(all)),
-        totals::stage(counts.nodes, demand, scaling),
+        totals_stage(counts.nodes, demand, scaling),
     )
 }
 

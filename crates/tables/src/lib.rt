@@ -3,7 +3,6 @@ mod chain;
 mod reach;
 mod read;
 mod settings;
-mod totals;
 
 ghost use mathlib.Core.Path.{_≡_};
 ghost use Rattle.meaning.specs.Outcome.{tablesStage};

@@ -2,9 +2,8 @@
 ghost use mathlib.Core.Path.{_≡_};
 ghost use Rattle.meaning.specs.Answers.{unless};
 ghost use Rattle.meaning.specs.Rows.{_between_and_};
-ghost use Rattle.meaning.specs.Tables.{soundSettings};
+ghost use Rattle.meaning.specs.Tables.{soundScales, soundSettings};
 ghost use Rattle.layout.specs.Frame.{settingsIn};
-ghost use Rattle.tables.specs.Settings.{soundScales};
 use layout::StudySettings;
 use meaning::Answer;
 

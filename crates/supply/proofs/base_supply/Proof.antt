@@ -1,80 +1,60 @@
 use mathlib.Core.Path.{_≡_, sym, _∙_}
-use mathlib.Core.Bool.{true, false}
-use mathlib.Core.List.{List}
-use Prim.Native.Nat.{ℕ, _≤_}
-use native.Mathlib.Omega.{arith}
+use mathlib.Core.Bool.{true}
 use borrow.Author.Needs.{needs}
-use Rattle.meaning.specs.declared.Kw.{Kw}
-use Rattle.supply.specs.Supply.{passesTotals}
-use Rattle.supply.proofs.Bounds.{too-many, refused, can-scale, small-demand, small-scaled, supplied}
+use Rattle.meaning.specs.Grid.{soundTotals}
+use Rattle.supply.proofs.Bounds.{refused, can-scale, small-demand, small-scaled, supplied}
 use Rattle.supply.proofs.base_supply.Statement.{statement}
 use Rattle.supply.proofs.base_supply.Tie as tie
 
--- where the totals are tested
-module _ (c : tie.After-passes) where
-  abbrev s : tie.Start
-  s = c .before .before .before .before
+total-requires : tie.Need-total-requires
+total-requires c κs = search needs
 
-  few : s .args .n ≤ 256
-  few = omega arith
+total-requires-2 : tie.Need-total-requires-2
+total-requires-2 c κs = search needs
 
-  abbrev total : ℕ
-  total = c .before .before .total-of .result
+sound-requires : tie.Need-sound-requires
+sound-requires c κs = search needs
 
-  abbrev wanted : ℕ
-  wanted = c .before .total-of2 .result
-
--- where they pass
-module _ (c : tie.Then2) where
-  abbrev b : tie.After-passes
+-- where 7 passes the totals
+module _ (c : tie.Then1) where
+  abbrev b : tie.After-sound
   b = c .before
 
-  held : passesTotals (total b) (wanted b) ≡ true
-  held = sym (b .passes .ensures) ∙ c .if2 .taken
-
-returns : tie.Need-returns
-returns c = too-many _ _ _ (c .if1 .taken)
-
-total-of-requires : tie.Need-total-of-requires
-total-of-requires c κs = search needs
-
-total-of-requires-2 : tie.Need-total-of-requires-2
-total-of-requires-2 c κs = search needs
-
-passes-requires : tie.Need-passes-requires
-passes-requires c κs = search needs
+  held : soundTotals (b .before .total2 .result .0) (b .before .before .total .result .0) ≡ true
+  held = sym (b .sound .ensures) ∙ c .if1 .taken
 
 scaled-requires : tie.Need-scaled-requires
-scaled-requires c κs = let p = b c in can-scale (s p .args .n) (s p .args .tec) (s p .args .demand) (few p) _ _ (p .before .before .total-of .ensures) (p .before .total-of2 .ensures) (held c)
+scaled-requires c κs = let p = b c .before in can-scale _ _ _ _ _ (p .before .total .ensures) (p .total2 .ensures) (held c)
 
 supplies-requires : tie.Need-supplies-requires
 supplies-requires c κs =
     let d = c .before in
-    let p = b d in
-    let t = p .before .before .total-of .ensures in
-    let w = p .before .total-of2 .ensures in
-    (few p, small-scaled (s p .args .n) (s p .args .tec) (s p .args .demand) (few p) _ _ t w (held d) _ (c .scaled .ensures), small-demand (s p .args .n) (s p .args .tec) (s p .args .demand) (few p) _ _ t w (held d))
+    let p = b d .before in
+    let a = p .before .before .args in
+    let t = p .before .total .ensures in
+    let w = p .total2 .ensures in
+    (can-scale _ _ _ _ _ t w (held d) .nodes, small-scaled (a .n) (a .tec) (a .demand) _ _ t w (held d) _ (c .scaled .ensures), small-demand (a .n) (a .tec) (a .demand) _ _ t w (held d))
+
+returns : tie.Need-returns
+returns c =
+    let d = c .before .before in
+    let p = b d .before in
+    let a = p .before .before .args in
+    supplied (a .n) (a .tec) (a .demand) _ _ (p .before .total .ensures) (p .total2 .ensures) (held d) _ (c .before .scaled .ensures) _ (c .supplies .ensures)
 
 returns-2 : tie.Need-returns-2
 returns-2 c =
-    let d = c .before .before in
-    let p = b d in
-    supplied (s p .args .n) (s p .args .tec) (s p .args .demand) (few p) _ _ (p .before .before .total-of .ensures) (p .before .total-of2 .ensures) (held d) _ (c .before .scaled .ensures) _ (c .supplies .ensures)
-
-returns-3 : tie.Need-returns-3
-returns-3 c =
-    let p = c .before in
-    refused (s p .args .n) (s p .args .tec) (s p .args .demand) (few p) _ _ (p .before .before .total-of .ensures) (p .before .total-of2 .ensures) (sym (p .passes .ensures) ∙ c .if2 .left)
+    let p = c .before .before in
+    refused _ _ _ _ _ (p .before .total .ensures) (p .total2 .ensures) (sym (c .before .sound .ensures) ∙ c .if1 .left)
 
 pub base-supply-spec : {M : Type 1} → statement M
 base-supply-spec =
     tie.close
     (tie.spec
-    returns
-    total-of-requires
-    total-of-requires-2
-    passes-requires
+    total-requires
+    total-requires-2
+    sound-requires
     scaled-requires
     supplies-requires
-    returns-2
-    returns-3)
+    returns
+    returns-2)
