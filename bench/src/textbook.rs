@@ -1,7 +1,7 @@
 //! Document 01 as a good Rust programmer writes it without a thought of speed: records in `Vec`, names and zones in `HashMap`, the sheet by
 //! `write!` to a `String`.
 
-use crate::answer::Answer;
+use crate::answer::{accepted, refused, Answer};
 use std::collections::{HashMap, HashSet};
 use std::fmt::Write;
 
@@ -161,31 +161,31 @@ fn station(row: &[u8], places: &HashMap<Name, usize>) -> Option<Station> {
 
 /// Refusals 1 to 5.
 fn study(file: &[u8], runs: [&[i64]; 3]) -> Result<Study, Answer> {
-    let [first, second, third, fourth] = sections(file).ok_or(Answer::refused(1, 0, 0))?;
+    let [first, second, third, fourth] = sections(file).ok_or(refused(1, 0, 0))?;
     let numbers = second.len() / 24 + third.len() / 44;
     if runs.iter().any(|run| run.len() != numbers) {
-        return Err(Answer::refused(1, 0, 0));
+        return Err(refused(1, 0, 0));
     }
-    let settings = settings(first, second.len() / 24).ok_or(Answer::refused(2, 0, 0))?;
+    let settings = settings(first, second.len() / 24).ok_or(refused(2, 0, 0))?;
     let mut places = HashMap::new();
     let mut nodes = Vec::new();
     for (k, row) in second.chunks(24).enumerate() {
-        let node = node(row, &settings).ok_or(Answer::refused(3, 0, k + 1))?;
+        let node = node(row, &settings).ok_or(refused(3, 0, k + 1))?;
         if places.insert(node.name, k).is_some() {
-            return Err(Answer::refused(3, 0, k + 1));
+            return Err(refused(3, 0, k + 1));
         }
         nodes.push(node);
     }
     let mut circuits = Vec::new();
     for (k, row) in third.chunks(44).enumerate() {
-        circuits.push(circuit(row, &settings, &places).ok_or(Answer::refused(4, 0, k + 1))?);
+        circuits.push(circuit(row, &settings, &places).ok_or(refused(4, 0, k + 1))?);
     }
     let mut identifiers = HashSet::new();
     let mut stations = Vec::new();
     for (k, row) in fourth.chunks(32).enumerate() {
-        let station = station(row, &places).ok_or(Answer::refused(5, 0, k + 1))?;
+        let station = station(row, &places).ok_or(refused(5, 0, k + 1))?;
         if !identifiers.insert(name_at(row, 0)) {
-            return Err(Answer::refused(5, 0, k + 1));
+            return Err(refused(5, 0, k + 1));
         }
         stations.push(station);
     }
@@ -232,12 +232,12 @@ fn system(study: &Study, number: u64, limit: i64, supply: &[i64], offset: &[i64]
     let reference = study.settings.reference - 1;
     for (k, z) in potentials.iter().enumerate() {
         if z.unsigned_abs() > limit as u64 || (k == reference && *z != 0) {
-            return Err(Answer::refused(8, number, k + 1));
+            return Err(refused(8, number, k + 1));
         }
     }
     for (k, z) in flows.iter().enumerate() {
         if z.unsigned_abs() > 100_000_000_000_000 {
-            return Err(Answer::refused(8, number, potentials.len() + k + 1));
+            return Err(refused(8, number, potentials.len() + k + 1));
         }
     }
     let mut net = vec![0; study.nodes.len()];
@@ -246,7 +246,7 @@ fn system(study: &Study, number: u64, limit: i64, supply: &[i64], offset: &[i64]
         net[circuit.second] -= flow;
     }
     if let Some(node) = net.iter().zip(supply).position(|(net, supply)| net != supply) {
-        return Err(Answer::refused(9, number, node + 1));
+        return Err(refused(9, number, node + 1));
     }
     let mut misses = 0i128;
     for ((circuit, flow), offset) in study.circuits.iter().zip(flows).zip(offset) {
@@ -254,7 +254,7 @@ fn system(study: &Study, number: u64, limit: i64, supply: &[i64], offset: &[i64]
         misses += miss.unsigned_abs() as i128;
     }
     if misses > 100_000_000 {
-        return Err(Answer::refused(10, number, 0));
+        return Err(refused(10, number, 0));
     }
     Ok(())
 }
@@ -268,7 +268,7 @@ fn proposals(study: &Study, tec: &[i64], demand: i64, total: i64, runs: [&[i64];
     let mut signed = Vec::new();
     for (k, (circuit, flow)) in study.circuits.iter().zip(&runs[0][study.nodes.len()..]).enumerate() {
         if circuit.length > 0 && (200_000_001..=400_000_000).contains(&flow.abs()) {
-            return Err(Answer::refused(11, 1, k + 1));
+            return Err(refused(11, 1, k + 1));
         }
         signed.push(if flow.abs() <= 400_000_000 { 0 } else { 1_000_000 * circuit.length * flow.signum() });
     }
@@ -373,7 +373,7 @@ fn sheet(study: &Study, tec: &[i64], demand: i64, total: i64, wider: &[i64], loc
 fn judged(file: &[u8], runs: [&[i64]; 3]) -> Result<String, Answer> {
     let study = study(file, runs)?;
     if let Some(node) = unreached(&study) {
-        return Err(Answer::refused(6, 0, node + 1));
+        return Err(refused(6, 0, node + 1));
     }
     let mut tec = vec![0; study.nodes.len()];
     for station in &study.stations {
@@ -382,7 +382,7 @@ fn judged(file: &[u8], runs: [&[i64]; 3]) -> Result<String, Answer> {
     let demand: i64 = study.nodes.iter().map(|node| node.demand).sum();
     let total: i64 = tec.iter().sum();
     if !(1..=100_000_000).contains(&demand) || !(1..=100_000_000).contains(&total) || total < demand {
-        return Err(Answer::refused(7, 0, 0));
+        return Err(refused(7, 0, 0));
     }
     proposals(&study, &tec, demand, total, runs)?;
     Ok(sheet(&study, &tec, demand, total, runs[1], runs[2]))
@@ -392,10 +392,10 @@ fn judged(file: &[u8], runs: [&[i64]; 3]) -> Result<String, Answer> {
 pub fn write(file: &[u8], base: &[i64], wider: &[i64], local: &[i64], out: &mut [u8]) -> Answer {
     match judged(file, [base, wider, local]) {
         Err(refusal) => refusal,
-        Ok(sheet) if sheet.len() > out.len() => Answer::refused(12, 0, 0),
+        Ok(sheet) if sheet.len() > out.len() => refused(12, 0, 0),
         Ok(sheet) => {
             out[..sheet.len()].copy_from_slice(sheet.as_bytes());
-            Answer::accepted(sheet.len())
+            accepted(sheet.len())
         }
     }
 }

@@ -15,6 +15,7 @@ pub mod replay;
 pub mod sheet;
 pub mod solutions;
 pub mod solver;
+pub mod standard;
 pub mod tables;
 pub mod text;
 

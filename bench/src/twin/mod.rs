@@ -10,7 +10,7 @@ mod proposal;
 mod sheet;
 mod tables;
 
-use crate::answer::Answer;
+use crate::answer::{accepted, refused, Answer};
 
 /// Judges a case and writes its sheet into the lent buffer.
 pub fn write(file: &[u8], base: &[i64], wider: &[i64], local: &[i64], out: &mut [u8]) -> Answer {
@@ -23,7 +23,7 @@ pub fn write(file: &[u8], base: &[i64], wider: &[i64], local: &[i64], out: &mut 
     let figures = charges::figures(&case, wider, local);
     let length = sheet::write(&figures, file, out);
     if out.len() < length {
-        return Answer::refused(12, 0, 0);
+        return refused(12, 0, 0);
     }
-    Answer::accepted(length)
+    accepted(length)
 }

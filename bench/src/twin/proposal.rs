@@ -1,7 +1,7 @@
 //! Proposed solutions judged once over supply and offset: refusals 8 to 11.
 
 use super::columns::Columns;
-use crate::answer::Answer;
+use crate::answer::{refused, Answer};
 
 type Judged = Result<(), Answer>;
 
@@ -67,19 +67,19 @@ fn system(c: &Columns, number: u64, limit: i64, supply: &[i64; 256], offset: &[i
             limit
         };
         if !(-most..=most).contains(z) {
-            return Err(Answer::refused(8, number, i + 1));
+            return Err(refused(8, number, i + 1));
         }
     }
     let net = net_flows(c, run);
     for v in 0..c.nodes {
         if net[v] != supply[v] {
-            return Err(Answer::refused(9, number, v + 1));
+            return Err(refused(9, number, v + 1));
         }
     }
     if misses_low(c, offset, run) {
         return Ok(());
     }
-    Err(Answer::refused(10, number, 0))
+    Err(refused(10, number, 0))
 }
 
 fn net_flows(c: &Columns, run: &[i64]) -> [i64; 256] {
@@ -109,7 +109,7 @@ fn directions(c: &Columns, base: &[i64]) -> Judged {
     for i in 0..c.circuits {
         let flow = base[c.nodes + i].unsigned_abs();
         if c.length[i] > 0 && flow > 200_000_000 && flow <= 400_000_000 {
-            return Err(Answer::refused(11, 1, i + 1));
+            return Err(refused(11, 1, i + 1));
         }
     }
     Ok(())

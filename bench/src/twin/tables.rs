@@ -2,12 +2,12 @@
 
 use super::columns::{Columns, Settings, Stations};
 use super::fields::{key_at, name_at, name_formed, repeated, u32_at};
-use crate::answer::Answer;
+use crate::answer::{refused, Answer};
 
 type Judged = Result<(), Answer>;
 
 fn refuse(number: u64, row: usize) -> Judged {
-    Err(Answer::refused(number, 0, row))
+    Err(refused(number, 0, row))
 }
 
 /// Circuits and stations are judged with what was read of them, and answered for in their turn.

@@ -1,8 +1,7 @@
 //! Makes, shows and solves case files. Standard input to standard output; faults to standard error.
 
 use reference::file::{whole_case, Case};
-use reference::{largest, random, solver, text};
-use std::io::{self, Read, Write};
+use reference::{largest, random, solver, standard, text};
 use std::process::ExitCode;
 
 const USE: &str = "\
@@ -18,29 +17,16 @@ fn main() -> ExitCode {
     let words: Vec<String> = std::env::args().skip(1).collect();
     let words: Vec<&str> = words.iter().map(String::as_str).collect();
     let output = match words[..] {
-        ["make"] => input().and_then(|text| text::make(&text).map_err(|faults| joined(&faults))),
-        ["show"] => input().map(|file| text::show(&file).into_bytes()),
-        ["solve"] => input().and_then(|input| solve(&input)),
+        ["make"] => standard::input().and_then(|text| text::make(&text).map_err(|faults| joined(&faults))),
+        ["show"] => standard::input().map(|file| text::show(&file).into_bytes()),
+        ["solve"] => standard::input().and_then(|input| solve(&input)),
         ["largest"] => Ok(largest::largest().bytes()),
         ["random", seed] => by_chance(seed, "12"),
         ["random", seed, nodes] => by_chance(seed, nodes),
-        ["spoil", seed] => input().and_then(|file| spoil(&file, seed)),
+        ["spoil", seed] => standard::input().and_then(|file| spoil(&file, seed)),
         _ => Err(USE.to_string()),
     };
-    match output.and_then(|bytes| io::stdout().lock().write_all(&bytes).map_err(|fault| fault.to_string())) {
-        Ok(()) => ExitCode::SUCCESS,
-        Err(message) => {
-            eprintln!("{message}");
-            ExitCode::FAILURE
-        }
-    }
-}
-
-/// All of standard input.
-fn input() -> Result<Vec<u8>, String> {
-    let mut bytes = Vec::new();
-    io::stdin().lock().read_to_end(&mut bytes).map_err(|fault| fault.to_string())?;
-    Ok(bytes)
+    standard::finish(output)
 }
 
 /// Faults of a text, one a line.

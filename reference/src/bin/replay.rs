@@ -1,7 +1,6 @@
 //! Makes the archive of labelled cases and the text the program prints for them.
 
-use reference::replay;
-use std::io::{self, Read, Write};
+use reference::{replay, standard};
 use std::process::ExitCode;
 
 const USE: &str = "\
@@ -14,24 +13,13 @@ fn main() -> ExitCode {
     let words: Vec<&str> = words.iter().map(String::as_str).collect();
     let output = match words[..] {
         ["make"] => Ok(replay::archive(&replay::cases())),
-        ["expect"] => input().and_then(|archive| replay::expected(&archive).map_err(|fault| fault.to_string())),
+        ["expect"] => {
+            standard::input().and_then(|archive| replay::expected(&archive).map_err(|fault| fault.to_string()))
+        }
         ["list"] => Ok(list().into_bytes()),
         _ => Err(USE.to_string()),
     };
-    match output.and_then(|bytes| io::stdout().lock().write_all(&bytes).map_err(|fault| fault.to_string())) {
-        Ok(()) => ExitCode::SUCCESS,
-        Err(message) => {
-            eprintln!("{message}");
-            ExitCode::FAILURE
-        }
-    }
-}
-
-/// All of standard input.
-fn input() -> Result<Vec<u8>, String> {
-    let mut bytes = Vec::new();
-    io::stdin().lock().read_to_end(&mut bytes).map_err(|fault| fault.to_string())?;
-    Ok(bytes)
+    standard::finish(output)
 }
 
 /// One line a case.
