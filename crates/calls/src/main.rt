@@ -33,20 +33,27 @@ fn sevens(out: &[u8]) -> usize {
     count
 }
 
-// One call: what it answers, and how much of the buffer is as it was.
-fn call(file: &[u8], base: &[i64], wider: &[i64], local: &[i64], out: &mut [u8]) {
-    let answer = sheet::write(file, base, wider, local, out);
-    let carried = answers::values(answer);
-    io::print_decimal(STDOUT_FILENO, carried.number as u64);
+// A number and a space.
+fn print_number(number: usize) {
+    io::print_decimal(STDOUT_FILENO, number as u64);
     io::write_all(STDOUT_FILENO, b" ");
-    io::print_decimal(STDOUT_FILENO, carried.system as u64);
-    io::write_all(STDOUT_FILENO, b" ");
-    io::print_decimal(STDOUT_FILENO, carried.row as u64);
-    io::write_all(STDOUT_FILENO, b" ");
-    io::print_decimal(STDOUT_FILENO, carried.length as u64);
+}
+
+// A length, and how many bytes of the buffer are as they were, to the end of the line.
+fn print_length(length: usize, out: &[u8]) {
+    io::print_decimal(STDOUT_FILENO, length as u64);
     io::write_all(STDOUT_FILENO, b", as before: ");
     io::print_decimal(STDOUT_FILENO, sevens(out) as u64);
     io::write_all(STDOUT_FILENO, b"\n");
+}
+
+// One call: what it answers, and how much of the buffer is as it was.
+fn call(file: &[u8], base: &[i64], wider: &[i64], local: &[i64], out: &mut [u8]) {
+    let carried = answers::values(sheet::write(file, base, wider, local, out));
+    print_number(carried.number);
+    print_number(carried.system);
+    print_number(carried.row);
+    print_length(carried.length, out);
 }
 
 // A call with a buffer of 200 bytes.
@@ -82,10 +89,15 @@ fn wrong_runs(file: &[u8], base: &[i64], wider: &[i64], local: &[i64], long: &[i
 // The line of a refusal: how long it is, and how much of the buffer is as it was.
 fn refuse(out: &mut [u8]) {
     let length = text::refuse(Answer::ShortBuffer, out);
-    io::print_decimal(STDOUT_FILENO, length as u64);
-    io::write_all(STDOUT_FILENO, b", as before: ");
-    io::print_decimal(STDOUT_FILENO, sevens(out) as u64);
-    io::write_all(STDOUT_FILENO, b"\n");
+    print_length(length, out);
+}
+
+// That line, into a buffer that holds any and into one that is a byte shorter.
+fn lines() {
+    let mut room = [7u8; 96];
+    refuse(&mut room);
+    let mut short = [7u8; 95];
+    refuse(&mut short);
 }
 
 fn main() {
@@ -98,8 +110,5 @@ fn main() {
     buffers(file, &base[0..6], &wider[0..6], &local[0..6]);
     let long = run_at(file, 380);
     wrong_runs(file, &base[0..6], &wider[0..6], &local[0..6], &long);
-    let mut room = [7u8; 96];
-    refuse(&mut room);
-    let mut short = [7u8; 95];
-    refuse(&mut short);
+    lines();
 }
