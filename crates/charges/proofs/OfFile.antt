@@ -19,12 +19,12 @@ use Rattle.meaning.proofs.Starts as starts
 use Rattle.sizes.proofs.Accepted.{solved-in-range}
 use Rattle.claims.proofs.Accepted.{judged-pass}
 use Rattle.layout.specs.declared.RowCounts.{RowCounts}
-use Rattle.columns.specs.declared.NodeColumns.{NodeColumns}
-use Rattle.columns.specs.declared.TecColumns.{TecColumns}
+use Rattle.node_table.specs.declared.NodeColumns.{NodeColumns}
+use Rattle.station_table.specs.declared.TecColumns.{TecColumns}
 use Rattle.layout.specs.Readable.{readable}
 use Rattle.layout.specs.Frame.{countsOf, settingsIn}
-use Rattle.columns.specs.Columns.{nodesOf}
-use Rattle.columns.specs.Tec.{tecOf}
+use Rattle.node_table.specs.Columns.{nodesOf}
+use Rattle.station_table.specs.Tec.{tecOf}
 use Rattle.layout.proofs.Rows.{readable-whole}
 use Rattle.tables.specs.declared.Opened.{Opened}
 use Rattle.tables.proofs.Sound.{passes-whole}

@@ -31,11 +31,6 @@ pub complement-fits : (m : ℕ) → m < 2 ^ 63 → SFits w64 (negsuc 0 -ℤ pos 
 complement-fits m = simp Z (omega arith)
 
 module _ (file : List ℕ) (at : ℕ) where
-  -- its upper half is past the end
-  pub u64-low : length file ≤ at + 4 → u64 file at ≡ u32 file at
-  unfolding u64
-  u64-low h = omega (arith, u32-past file (at + 4) h)
-
   pub i64-above : (v : ℕ) → v ≡ u64 file at → v < 2 ^ 63 → pos v ≡ i64 file at
   unfolding i64
   i64-above v e h = rw (← e, lt-ltb _ _ h)

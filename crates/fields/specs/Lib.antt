@@ -1,4 +1,2 @@
 -- What the contracts of `fields` cite beside `meaning`.
 pub mod Field
-pub mod Rest
-pub mod Search

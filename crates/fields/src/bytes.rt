@@ -2,21 +2,14 @@
 ghost use mathlib.Core.Path.{_≡_};
 ghost use Prim.Native.Nat.{_+_, _≤_, _<_};
 ghost use lib.ListN.{length, getD};
-ghost use Rattle.meaning.specs.File.{u64};
-ghost use Rattle.fields.specs.Field.{Field, Bytes};
-
-fn wide(x: u8) -> usize
-    ensures { λ r. ⌜ (r ≡ x) × (r < 256) ⌝ }
-{
-    x as usize
-}
+ghost use Rattle.fields.specs.Field.{Field};
 
 // A byte of the file.
 fn byte(file: &[u8], at: usize) -> usize
     requires { ⌜ at < length (now file) ⌝ }
     ensures { λ r. ⌜ (r ≡ getD (now (file .entry)) at 0) × (r < 256) ⌝ }
 {
-    wide(file[at])
+    file[at] as usize
 }
 
 // A byte of the file, or 0 past its end.
@@ -32,20 +25,12 @@ fn byte_at(file: &[u8], at: usize) -> usize
 // A u32 whose four bytes are in the file.
 pub fn whole_u32(file: &[u8], at: usize) -> usize
     requires { ⌜ at + 4 ≤ length (now file) ⌝ }
-    ensures { λ r. ⌜ Field (now (file .entry)) at r × Bytes (now (file .entry)) at 4 ⌝ }
+    ensures { λ r. ⌜ Field (now (file .entry)) at r ⌝ }
 {
     byte(file, at)
         + 256 * byte(file, at + 1)
         + 65536 * byte(file, at + 2)
         + 16777216 * byte(file, at + 3)
-}
-
-// A u64 whose eight bytes are in the file.
-pub fn whole_u64(file: &[u8], at: usize) -> usize
-    requires { ⌜ at + 8 ≤ length (now file) ⌝ }
-    ensures { λ r. ⌜ (r ≡ u64 (now (file .entry)) at) × Bytes (now (file .entry)) at 8 ⌝ }
-{
-    whole_u32(file, at) + 4294967296 * whole_u32(file, at + 4)
 }
 
 // A u32 that the file's end cuts after one to three bytes.

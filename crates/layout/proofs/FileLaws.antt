@@ -6,8 +6,7 @@ use mathlib.Core.Bool.{Bool, true, false, _&&_}
 use Prim.Native.Nat.{ℕ, zero, suc, _+_, _*_, _-_, _≤_, _<_, _^_}
 use native.Mathlib.Nat.{mul-le-mul}
 use native.Mathlib.Omega.{arith}
-use borrow.Author.Tests.{ltb-true, lt-ltb}
-use lib.Dec.{eqb, leb, ltb}
+use lib.Dec.{eqb, leb}
 use lib.ListN.{length}
 use Rattle.meaning.specs.Rows.{_between_and_, all, rows}
 use Rattle.meaning.specs.File.{u32, recordSize, trailer, sectionCount, sectionOffset, sectionStart, counted, chained, fileWhole, runIn, runsIn}
@@ -25,9 +24,6 @@ is-false {b} {P} s n = go b refl
     go : (t : Bool) → b ≡ t → false ≡ t
     go true e = absurd (n (s .0 e))
     go false e = refl
-
-pub says-lt : {m n : ℕ} → Says (ltb m n) (m < n)
-says-lt {m} {n} = (ltb-true m n, lt-ltb m n)
 
 -- numbers below 3
 three : (P : ℕ → Type 0) → P 0 → P 1 → P 2 → (k : ℕ) → k < 3 → P k

@@ -7,7 +7,7 @@ use native.Mathlib.Omega.{arith}
 use lib.ListN.{length}
 use Rattle.meaning.specs.Rows.{rows}
 use Rattle.meaning.specs.Study.{Settings, Study, Node, Circuit, Station, node, circuit, station}
-use Rattle.meaning.specs.File.{u32, u64, sectionCount, sectionStart, settingsAt, nodeAt, circuitAt, stationAt, fileWhole, studyOf, runsIn}
+use Rattle.meaning.specs.File.{u32, u64, nameAt, sectionCount, sectionStart, settingsAt, nodeAt, circuitAt, stationAt, fileWhole, studyOf, runsIn}
 use Rattle.meaning.proofs.Rows.{length-rows}
 use Rattle.meaning.proofs.Starts as starts
 use Rattle.layout.proofs.FileLaws.{whole-file, start-zero}
@@ -106,6 +106,17 @@ module _ (file : List ℕ) where
   unfolding noStudy
   node-row = either (λ T. (i : ℕ) → i < length (T .nodes) → node (T .nodes) i ≡ nodeAt file (64 + 24 * i))
       (λ e i h. let w = whole-file file e in starts.node-row file (runsIn file) w i (omega (arith, starts.counts file (runsIn file) w .0)))
+      (λ i h. absurd (omega arith))
+
+  pub node-name : (i : ℕ) → i < length (S .nodes) → node (S .nodes) i .name ≡ nameAt file (64 + 24 * i)
+  unfolding nodeAt
+  node-name i h = rw (node-row i h) refl
+
+  -- the nodes' table is inside the file
+  pub node-inside : (i : ℕ) → i < length (S .nodes) → 64 + 24 * i < length file
+  unfolding noStudy
+  node-inside = either (λ T. (i : ℕ) → i < length (T .nodes) → 64 + 24 * i < length file)
+      (λ e i h. let w = whole-file file e in omega (arith, starts.counts file (runsIn file) w .0, starts.file-length file (runsIn file) w))
       (λ i h. absurd (omega arith))
 
   pub circuit-row : (i : ℕ) → i < length (S .circuits) → circuit (S .circuits) i ≡ circuitAt file (64 + 24 * length (S .nodes) + 44 * i)

@@ -6,8 +6,10 @@ use mathlib.Core.Option.{Option, none, some, Option·getD}
 use mathlib.Core.Bool.{Bool, true, false, not, cond, true≢false}
 use Prim.Native.Nat.{ℕ, suc, _-_, _≤_, _<_}
 use native.Mathlib.Omega.{arith}
+use lib.Dec.{ltb}
 use lib.ListN.{length}
-use Rattle.meaning.specs.Rows.{lowest, failing}
+use borrow.Author.Tests.{lt-ltb, le-ltb}
+use Rattle.meaning.specs.Rows.{lowest, found, failing}
 use Rattle.meaning.specs.Name.{Name, sameName}
 use Rattle.meaning.specs.Study.{Settings, Node, Circuit, Station, Study, node, circuit, station}
 use Rattle.meaning.specs.declared.Answer.{Answer}
@@ -140,6 +142,15 @@ module _ (S : Study) where
     first = λ c h. placed-at _ (r .circuits c h .first);
     second = λ c h. placed-at _ (r .circuits c h .second);
   }
+
+-- a name that some node has is one whose place is a row of the nodes' table
+pub known-place : (nodes : List Node) (name : Name) → known nodes name ≡ ltb (place nodes name) (length nodes)
+unfolding known place found
+known-place nodes name = go (lowest-is (λ v. sameName (node nodes v .name) name) (length nodes))
+  where
+    go : {o : Option ℕ} → Lowest (λ v. sameName (node nodes v .name) name) (length nodes) o → found o ≡ ltb (Option·getD o (length nodes)) (length nodes)
+    go (nothing h) = sym (le-ltb (length nodes) (length nodes) (omega arith))
+    go (first i h t f) = sym (lt-ltb i (length nodes) h)
 
 -- names are unique, so a name's place is its own row
 pub place-own : (S : Study) → Rowwise S → (v : ℕ) → v < length (S .nodes) → place (S .nodes) (node (S .nodes) v .name) ≡ v

@@ -20,5 +20,6 @@ pub mod Edges
 pub mod Conditions
 pub mod Read
 pub mod Demands
--- no words of 01: arrays as code has them
+-- no words of 01: arrays and searches as code has them
 pub mod Columns
+pub mod First

@@ -20,11 +20,12 @@ use Rattle.meaning.proofs.Says.{says-le, _also_}
 use Rattle.meaning.proofs.Tables.{says-totals}
 use Rattle.layout.specs.declared.RowCounts.{RowCounts}
 use Rattle.layout.specs.declared.StudySettings.{StudySettings}
-use Rattle.columns.specs.declared.NodeColumns.{NodeColumns}
-use Rattle.columns.specs.declared.CircuitColumns.{CircuitColumns}
-use Rattle.columns.specs.Lengths.{lengthInRange, lengthIfInRange}
+use Rattle.node_table.specs.declared.NodeColumns.{NodeColumns}
+use Rattle.circuit_table.specs.declared.CircuitColumns.{CircuitColumns}
+use Rattle.circuit_table.specs.Lengths.{lengthInRange, lengthIfInRange}
 use Rattle.layout.specs.Frame.{countsOf, settingsIn}
-use Rattle.columns.specs.Columns.{nodesOf, circuitsOf}
+use Rattle.node_table.specs.Columns.{nodesOf}
+use Rattle.circuit_table.specs.Columns.{circuitsOf}
 use Rattle.proposal.specs.Columns.{Filled}
 use Rattle.meaning.specs.Columns.{kilowatts, kwAt}
 use Rattle.tables.specs.declared.Opened.{Opened}

@@ -13,8 +13,8 @@ use Rattle.meaning.specs.File.{studyOf}
 use Rattle.meaning.specs.Grid.{gridOf}
 use Rattle.meaning.specs.Systems.{proposalsStage}
 use Rattle.meaning.specs.Outcome.{judged}
-use Rattle.columns.specs.declared.TecColumns.{TecColumns}
-use Rattle.columns.specs.Tec.{tecOf}
+use Rattle.station_table.specs.declared.TecColumns.{TecColumns}
+use Rattle.station_table.specs.Tec.{tecOf}
 use Rattle.tables.specs.declared.Opened.{Opened}
 use Rattle.tables.specs.Opens.{Opens}
 use Rattle.tables.proofs.Sound.{SoundOpened, opened-sound}

@@ -12,7 +12,7 @@ use Rattle.meaning.specs.Answers.{_orElse_, at, unless}
 use Rattle.meaning.specs.Rows.{failing}
 use Rattle.meaning.specs.Network.{Network}
 use Rattle.meaning.specs.Proposal.{Proposed, potential, flow, same, numberInRange, balanced, flowOut, flowIn, miss, missSum, rangeStage, balanceStage, missStage, systemStage}
-use Rattle.columns.proofs.PlaceLaws.{lowest-same}
+use Rattle.meaning.proofs.Rows.{lowest-same}
 
 -- ---- two proposals that say the same of each node and circuit
 pub record Alike (N M : Network) (P Q : Proposed) : Type 0 where

@@ -20,7 +20,7 @@ use Rattle.meaning.specs.Systems.{limitOf}
 use Rattle.meaning.proofs.Says.{says-le}
 use Rattle.meaning.proofs.Answers.{passed-passes, orElse-stops, orElse-passes}
 use Rattle.meaning.proofs.Rows.{rows-at}
-use Rattle.columns.proofs.PlaceLaws.{lowest-same}
+use Rattle.meaning.proofs.Rows.{lowest-same}
 use Rattle.numbers.specs.Numbers.{evenIn, pinned, rowOf}
 use Rattle.proposal.specs.Columns.{number, netFlow, Ranged}
 use Rattle.numbers.proofs.Found.{AllPass, row-is, row-below, row-beyond}

@@ -25,7 +25,7 @@ use Rattle.meaning.specs.Direction.{overheadFactor, cableFactor, expandedLength
 use Rattle.meaning.specs.Systems.{runOf, net, supply, lengthOf, offset, proposed, solutionStage, directionClear, directionStage, proposalsStage}
 use Rattle.meaning.specs.Conditions.{InRange, SoundSettings}
 use Rattle.meaning.proofs.Rows.{rows-at, length-rows}
-use Rattle.columns.proofs.PlaceLaws.{lowest-same}
+use Rattle.meaning.proofs.Rows.{lowest-same}
 use Rattle.proposal.specs.declared.case.Case.{Case}
 use Rattle.proposal.specs.Columns.{number, Filled}
 use Rattle.numbers.specs.Numbers.{clearBy}

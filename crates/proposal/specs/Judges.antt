@@ -8,8 +8,9 @@ use Rattle.meaning.specs.Study.{Runs}
 use Rattle.meaning.specs.Outcome.{judged}
 use Rattle.layout.specs.Readable.{readable}
 use Rattle.layout.specs.Frame.{countsOf, settingsIn}
-use Rattle.columns.specs.Columns.{nodesOf, circuitsOf}
-use Rattle.columns.specs.Tec.{tecOf}
+use Rattle.node_table.specs.Columns.{nodesOf}
+use Rattle.circuit_table.specs.Columns.{circuitsOf}
+use Rattle.station_table.specs.Tec.{tecOf}
 use Rattle.tables.specs.declared.Opened.{Opened}
 
 -- the three runs as one record

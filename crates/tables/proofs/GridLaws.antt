@@ -17,8 +17,8 @@ use Rattle.meaning.proofs.Tables.{Rowwise, rows-pass}
 use Rattle.totals.proofs.TotalLaws.{same-totals}
 use Rattle.layout.specs.Readable.{readable}
 use Rattle.layout.proofs.Rows.{counts-are, few}
-use Rattle.columns.specs.Columns.{nodesOf}
-use Rattle.columns.specs.Tec.{tecOf}
+use Rattle.node_table.specs.Columns.{nodesOf}
+use Rattle.station_table.specs.Tec.{tecOf}
 use Rattle.tables.specs.declared.read.Read.{Read}
 use Rattle.tables.specs.Reads.{Reads, SoundRows, endsOf, totalsIn}
 use Rattle.tables.specs.Walk.{endsNetwork}

@@ -15,11 +15,10 @@ use Rattle.meaning.specs.Network.{Network, networkOf, Reached, here, ahead, bac
 use Rattle.meaning.proofs.Says.{says-as, agree}
 use Rattle.meaning.proofs.Walk.{Placed, reached-is}
 use Rattle.meaning.proofs.Tables.{Rowwise, placed}
-use Rattle.meaning.proofs.Rows.{rows-at}
+use Rattle.meaning.proofs.Rows.{lowest-same, rows-at}
 use Rattle.layout.specs.Readable.{readable}
 use Rattle.layout.proofs.Rows.{counts-are, few}
-use Rattle.columns.specs.Columns.{circuitsOf}
-use Rattle.columns.proofs.PlaceLaws.{lowest-same}
+use Rattle.circuit_table.specs.Columns.{circuitsOf}
 use Rattle.tables.specs.declared.read.Read.{Read}
 use Rattle.tables.specs.Reads.{Reads, endsOf}
 use Rattle.tables.specs.Walk.{endsNetwork, Walks}

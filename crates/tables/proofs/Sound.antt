@@ -16,8 +16,9 @@ use Rattle.meaning.proofs.Says.{_also_, says-eq}
 use Rattle.meaning.proofs.Starts as starts
 use Rattle.meaning.proofs.Tables.{sound-pass}
 use Rattle.layout.specs.Frame.{countsOf, settingsIn}
-use Rattle.columns.specs.Columns.{nodesOf, circuitsOf}
-use Rattle.columns.specs.Tec.{tecOf}
+use Rattle.node_table.specs.Columns.{nodesOf}
+use Rattle.circuit_table.specs.Columns.{circuitsOf}
+use Rattle.station_table.specs.Tec.{tecOf}
 use Rattle.layout.proofs.FileLaws.{whole-file}
 use Rattle.layout.proofs.Rows.{readable-whole}
 use Rattle.tables.specs.declared.Opened.{Opened}

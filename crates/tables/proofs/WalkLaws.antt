@@ -12,13 +12,13 @@ use lib.Seq.{getD-set-same, getD-set-other}
 use borrow.Author.Tests.{eq-eqb, ne-eqb, eqb-true, eqb-false}
 use Rattle.meaning.specs.declared.Answer.the-variants.{Unreached}
 use Rattle.meaning.specs.Answers.{passed}
+use Rattle.meaning.specs.First.{IsFirst}
 use Rattle.meaning.specs.Network.{Network, Reached, here, ahead, back, marked, reachedNodes, reachStage}
+use Rattle.meaning.proofs.First.{first-as, at-first, at-none}
 use Rattle.meaning.proofs.Walk.{Placed, reached-is}
 use Rattle.meaning.proofs.Says.{Says, says-as, says-eq, agree}
 use Rattle.meaning.proofs.Rows.{below-suc}
-use Rattle.rows.specs.First.{IsFirst}
 use Rattle.tables.specs.Walk.{Marks, Closed, joined, joins, unmarked, Swept, Walked, unmarkedAt}
-use Rattle.rows.proofs.FirstLaws.{first-as, at-first, at-none}
 
 -- ---- a byte set to 1
 fewer-le : (l : List ℕ) (i : ℕ) → unmarked (set l i 1) ≤ unmarked l

@@ -5,8 +5,9 @@ use Prim.Native.Nat.{ℕ}
 use Rattle.meaning.specs.Outcome.{tablesStage}
 use Rattle.layout.specs.Readable.{readable}
 use Rattle.layout.specs.Frame.{countsOf, settingsIn}
-use Rattle.columns.specs.Columns.{nodesOf, circuitsOf}
-use Rattle.columns.specs.Tec.{tecOf}
+use Rattle.node_table.specs.Columns.{nodesOf}
+use Rattle.circuit_table.specs.Columns.{circuitsOf}
+use Rattle.station_table.specs.Tec.{tecOf}
 use Rattle.tables.specs.declared.Opened.{Opened}
 
 -- of a file, and the lengths of the three runs

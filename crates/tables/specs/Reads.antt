@@ -11,8 +11,9 @@ use Rattle.meaning.specs.Tables.{circuitsStage, stationsStage}
 use Rattle.layout.specs.Readable.{readable}
 use Rattle.layout.specs.Frame.{countsOf, settingsIn}
 use Rattle.totals.specs.Totals.{totalOf}
-use Rattle.columns.specs.Columns.{nodesOf, circuitsOf}
-use Rattle.columns.specs.Tec.{tecOf}
+use Rattle.node_table.specs.Columns.{nodesOf}
+use Rattle.circuit_table.specs.Columns.{circuitsOf}
+use Rattle.station_table.specs.Tec.{tecOf}
 use Rattle.tables.specs.declared.read.Read.{Read}
 use Rattle.tables.specs.declared.reach.Ends.{Ends}
 use Rattle.tables.specs.Walk.{Walks}

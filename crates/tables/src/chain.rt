@@ -38,7 +38,7 @@ pub fn rows_stage(file: &[u8], all: Read) -> Answer
     let setting = settings::stage(read, counts.nodes);
     or_else(
         setting,
-        or_else(rows::nodes(file), or_else(circuit, station)),
+        or_else(node_table::judge(file), or_else(circuit, station)),
     )
 }
 

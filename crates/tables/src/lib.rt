@@ -7,12 +7,12 @@ mod settings;
 ghost use mathlib.Core.Path.{_≡_};
 ghost use Rattle.meaning.specs.Outcome.{tablesStage};
 ghost use Rattle.tables.specs.Opens.{Opens};
-use columns::CircuitColumns;
-use columns::NodeColumns;
-use columns::TecColumns;
+use circuit_table::CircuitColumns;
 use layout::RowCounts;
 use layout::StudySettings;
 use meaning::Answer;
+use node_table::NodeColumns;
+use station_table::TecColumns;
 
 // A case file opened: what stops it first among 1 to 7, and its columns.
 pub struct Opened {

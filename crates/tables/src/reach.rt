@@ -3,7 +3,7 @@ ghost use mathlib.Core.Path.{_≡_};
 ghost use Prim.Native.Nat.{_≤_, _<_};
 ghost use lib.ListN.{length};
 ghost use Rattle.meaning.specs.Network.{reachStage};
-ghost use Rattle.rows.specs.First.{IsFirst};
+ghost use Rattle.meaning.specs.First.{IsFirst};
 ghost use Rattle.tables.specs.Walk.{endsNetwork, Marks, joined, joins, Swept, Walked, Walks, unmarkedAt};
 use meaning::Answer;
 

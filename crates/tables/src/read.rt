@@ -1,11 +1,11 @@
 // A file's tables read once, each judged row by row as it is read.
 ghost use Rattle.tables.specs.Reads.{Reads};
-use columns::CircuitColumns;
-use columns::NodeColumns;
-use columns::TecColumns;
+use circuit_table::CircuitColumns;
 use layout::RowCounts;
 use layout::StudySettings;
 use meaning::Answer;
+use node_table::NodeColumns;
+use station_table::TecColumns;
 
 // The columns of a file, and what stops its circuits and its stations.
 pub struct Read {
@@ -24,11 +24,11 @@ pub fn tables(file: &[u8]) -> Read
 {
     let counts = layout::counts(file);
     let settings = layout::settings(file);
-    let nodes = columns::nodes(file);
-    let judged = rows::circuits(file);
+    let nodes = node_table::columns(file);
+    let judged = circuit_table::judge(file);
     let circuits = judged.columns;
     let circuit = judged.answer;
-    let summed = rows::stations(file);
+    let summed = station_table::judge(file);
     let tec = summed.tec;
     let station = summed.answer;
     Read {

@@ -1,7 +1,6 @@
 use native.Mathlib.Omega.{arith}
 use borrow.Author.Needs.{needs}
 use Rattle.meaning.specs.File.{u32}
-use Rattle.fields.proofs.ByteLaws.{bytes-four}
 use Rattle.fields.proofs.bytes.whole_u32.Statement.{statement}
 use Rattle.fields.proofs.bytes.whole_u32.Tie as tie
 
@@ -46,9 +45,7 @@ add-result-3 c = search needs
 
 returns : tie.Need-returns
 unfolding u32
-returns c =
-    let a = c .before .before .before .before .before .args in
-    (omega arith, bytes-four (a .file .now) (a .at) (omega arith) (omega arith) (omega arith) (omega arith))
+returns c = omega arith
 
 pub whole-u32-spec : {M : Type 1} → statement M
 whole-u32-spec =

@@ -6,7 +6,7 @@ use borrow.Author.Needs.{needs}
 use borrow.Author.Tests.{eq-eqb, ne-eqb}
 use Rattle.meaning.proofs.Rows.{Passed, passed-zero, passed-more}
 use Rattle.tables.specs.Walk.{unmarkedAt}
-use Rattle.rows.proofs.FirstLaws.{first-stops, first-ends}
+use Rattle.meaning.proofs.First.{first-stops, first-ends}
 use Rattle.tables.proofs.reach.first_unmarked.Statement.{statement}
 use Rattle.tables.proofs.reach.first_unmarked.Tie as tie
 

@@ -1,0 +1,3 @@
+pub mod LengthLaws
+pub mod ColumnLaws
+pub mod CircuitLaws

@@ -1,0 +1,68 @@
+// 01, step 4: the expanded length of a circuit, by voltage.
+use layout::StudySettings;
+ghost use mathlib.Core.Path.{_≡_};
+ghost use Prim.Native.Nat.{_+_, _*_, _≤_};
+ghost use Rattle.meaning.specs.File.{circuitAt};
+ghost use Rattle.meaning.specs.Columns.{column};
+ghost use Rattle.meaning.specs.Direction.{overheadFactor, cableFactor};
+ghost use Rattle.circuit_table.specs.Lengths.{sized, lengthIfInRange};
+ghost use Rattle.layout.specs.Frame.{settingsIn};
+
+// The factor of overhead line; a voltage that no sound row has takes that of 132 kV.
+pub fn overhead_factor(factors: StudySettings, voltage: usize) -> usize
+    ensures { λ r. ⌜ r ≡ overheadFactor (settingsIn factors) voltage ⌝ }
+{
+    match voltage {
+        400 => factors.overhead400,
+        275 => factors.overhead275,
+        _ => factors.overhead132,
+    }
+}
+
+// The factor of cable.
+pub fn cable_factor(factors: StudySettings, voltage: usize) -> usize
+    ensures { λ r. ⌜ r ≡ cableFactor (settingsIn factors) voltage ⌝ }
+{
+    match voltage {
+        400 => factors.cable400,
+        275 => factors.cable275,
+        _ => factors.cable132,
+    }
+}
+
+// The expanded length in mm of two lengths by their factors; 0 where one is above its range.
+pub fn sized(overhead: usize, over: usize, cable: usize, under: usize) -> u64
+    ensures { λ r. ⌜ r ≡ sized overhead over cable under ⌝ }
+{
+    if (overhead <= 500_000) & (cable <= 500_000) & (over <= 30_000) & (under <= 30_000) {
+        return (overhead * over + cable * under) as u64;
+    }
+    0
+}
+
+// The expanded length of the circuit at a place.
+pub fn length_at(file: &[u8], at: usize, factors: StudySettings) -> u64
+    requires { ⌜ at ≤ 131072 ⌝ }
+    ensures { λ r. ⌜ r ≡ lengthIfInRange (settingsIn factors) (circuitAt (now (file .entry)) at) ⌝ }
+{
+    let voltage = fields::u32_at(file, at + 24);
+    let overhead = fields::u32_at(file, at + 32);
+    let cable = fields::u32_at(file, at + 36);
+    let over = overhead_factor(factors, voltage);
+    let under = cable_factor(factors, voltage);
+    sized(overhead, over, cable, under)
+}
+
+// Expanded lengths of the circuits.
+pub fn by_circuit(file: &[u8], start: usize, count: usize, factors: StudySettings) -> [u64; 512]
+    requires { ⌜ (start ≤ 65536) × (count ≤ 512) ⌝ }
+    ensures { λ r. ⌜ r ≡ column 0 512 count (λ i. lengthIfInRange (settingsIn factors) (circuitAt (now (file .entry)) (start + 44 * i))) ⌝ }
+{
+    let mut all = [0u64; 512];
+    let mut i = 0;
+    while i < count {
+        all[i] = length_at(file, start + 44 * i, factors);
+        i += 1;
+    }
+    all
+}

@@ -1,0 +1,57 @@
+// The circuits' table: its columns, and refusal 4 of document 01. A file that is not whole reads as one without rows, and so has no bad one.
+mod lengths;
+mod row;
+
+ghost use mathlib.Core.Path.{_≡_};
+ghost use Rattle.meaning.specs.Tables.{circuitsStage};
+ghost use Rattle.layout.specs.Readable.{readable};
+ghost use Rattle.circuit_table.specs.Columns.{circuitsOf};
+use meaning::Answer;
+
+// Numbers of each circuit's end nodes, the count of nodes where there is none; reactance, expanded length in mm, local mark.
+pub struct CircuitColumns {
+    pub first: [usize; 512],
+    pub second: [usize; 512],
+    pub x: [u64; 512],
+    pub length: [u64; 512],
+    pub mark: [u64; 512],
+}
+
+// The table judged, and its columns: names are resolved once for both.
+pub struct JudgedCircuits {
+    pub answer: Answer,
+    pub columns: CircuitColumns,
+}
+
+// The columns of the circuits.
+pub fn columns(file: &[u8]) -> CircuitColumns
+    ensures { λ r. ⌜ r ≡ circuitsOf (readable (now (file .entry))) ⌝ }
+{
+    let rows = layout::counts(file);
+    let nodes = rows.nodes as u32;
+    let count = rows.circuits;
+    let factors = layout::settings(file);
+    let start = 64 + 24 * nodes;
+    let first = names::places(file, start, 44, count, nodes);
+    let second = names::places(file, start + 12, 44, count, nodes);
+    let x = fields::column(file, start + 28, 44, count);
+    let length = lengths::by_circuit(file, start as usize, count, factors);
+    let mark = fields::column(file, start + 40, 44, count);
+    CircuitColumns {
+        first,
+        second,
+        x,
+        length,
+        mark,
+    }
+}
+
+// 4: the lowest circuit that is not sound.
+pub fn judge(file: &[u8]) -> JudgedCircuits
+    ensures { λ r. ⌜ (r .answer ≡ circuitsStage (readable (now (file .entry)))) × (r .columns ≡ circuitsOf (readable (now (file .entry)))) ⌝ }
+{
+    let rows = layout::counts(file);
+    let columns = columns(file);
+    let answer = row::stage(file, rows, 64 + 24 * rows.nodes, columns);
+    JudgedCircuits { answer, columns }
+}

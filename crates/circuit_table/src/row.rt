@@ -1,0 +1,79 @@
+// 4: the rows of the circuits' table, their ends resolved.
+ghost use mathlib.Core.Path.{_≡_};
+ghost use mathlib.Core.Bool.{_||_};
+ghost use lib.Dec.{eqb};
+ghost use Rattle.meaning.specs.File.{u32, circuitAt};
+ghost use Rattle.meaning.specs.Tables.{soundCircuitRow, circuitsStage};
+ghost use Rattle.layout.specs.Readable.{readable};
+ghost use Rattle.meaning.specs.First.{IsFirst};
+ghost use Rattle.circuit_table.specs.Told.{soundEnds, ToldEnds, ToldCircuits, unsoundCircuit};
+use crate::CircuitColumns;
+use layout::RowCounts;
+use meaning::Answer;
+
+// Whether there are circuits of the voltage at a place.
+pub fn known_voltage(file: &[u8], at: usize) -> bool
+    ensures { λ r. ⌜ r ≡ (eqb (u32 (now (file .entry)) at) 132 || eqb (u32 (now (file .entry)) at) 275 || eqb (u32 (now (file .entry)) at) 400) ⌝ }
+{
+    let voltage = fields::u32_at(file, at);
+    (voltage == 132) | (voltage == 275) | (voltage == 400)
+}
+
+// Whether the ends of the row at a place are well formed, known and not the same.
+pub fn sound_ends(file: &[u8], at: usize, nodes: usize, first: usize, second: usize) -> bool
+    requires { ⌜ ToldEnds (now file) at nodes first second ⌝ }
+    ensures { λ r. ⌜ r ≡ soundEnds (readable (now (file .entry)) .nodes) (circuitAt (now (file .entry)) at) ⌝ }
+{
+    names::name_formed(file, at)
+        & names::name_formed(file, at + 12)
+        & (first < nodes)
+        & (second < nodes)
+        & !names::same_name(file, at, at + 12)
+}
+
+// Whether the row at a place, with the ends that its names have, is sound.
+pub fn sound_row(file: &[u8], at: usize, nodes: usize, first: usize, second: usize) -> bool
+    requires { ⌜ ToldEnds (now file) at nodes first second ⌝ }
+    ensures { λ r. ⌜ r ≡ soundCircuitRow (readable (now (file .entry)) .nodes) (circuitAt (now (file .entry)) at) ⌝ }
+{
+    sound_ends(file, at, nodes, first, second)
+        & known_voltage(file, at + 24)
+        & fields::between(file, at + 28, 1, 10000)
+        & fields::at_most(file, at + 32, 500000)
+        & fields::at_most(file, at + 36, 500000)
+        & fields::at_most(file, at + 40, 1)
+}
+
+// The lowest row that is not; the count of rows where there is none.
+pub fn first_unsound(file: &[u8], rows: RowCounts, start: usize, columns: CircuitColumns) -> usize
+    requires { ⌜ ToldCircuits (now file) rows start columns ⌝ }
+    ensures { λ r. ⌜ IsFirst (unsoundCircuit (now (file .entry)) start) (rows .circuits) r ⌝ }
+{
+    let mut i = 0;
+    while i < rows.circuits {
+        if sound_row(
+            file,
+            start + 44 * i,
+            rows.nodes,
+            columns.first[i],
+            columns.second[i],
+        ) {
+            i += 1;
+        } else {
+            return i;
+        }
+    }
+    rows.circuits
+}
+
+// The stage: the lowest row that is malformed, out of range, or has an unknown end or equal ends.
+pub fn stage(file: &[u8], rows: RowCounts, start: usize, columns: CircuitColumns) -> Answer
+    requires { ⌜ ToldCircuits (now file) rows start columns ⌝ }
+    ensures { λ r. ⌜ r ≡ circuitsStage (readable (now (file .entry))) ⌝ }
+{
+    let row = first_unsound(file, rows, start, columns);
+    if row < rows.circuits {
+        return Answer::BadCircuit(row + 1);
+    }
+    Answer::Accepted(0)
+}

@@ -1,5 +1,0 @@
--- What the contracts of `columns` cite beside `meaning` and `layout`.
-pub mod Column
-pub mod Lengths
-pub mod Columns
-pub mod Tec

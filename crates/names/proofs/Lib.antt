@@ -1,0 +1,4 @@
+pub mod NameLaws
+pub mod ByteLaws
+pub mod RowLaws
+pub mod PlaceLaws

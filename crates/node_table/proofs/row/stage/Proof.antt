@@ -1,0 +1,43 @@
+use native.Mathlib.Omega.{arith}
+use Rattle.meaning.proofs.First.{first-lowest}
+use Rattle.node_table.proofs.NodeLaws.{node-unsound, node-repeated, nodes-sound}
+use borrow.Author.Needs.{needs}
+use Rattle.node_table.proofs.row.stage.Statement.{statement}
+use Rattle.node_table.proofs.row.stage.Tie as tie
+
+first-unsound-requires : tie.Need-first-unsound-requires
+first-unsound-requires c κs = search needs
+
+cast-repeated : tie.Need-cast-repeated
+cast-repeated c = search needs
+
+repeated-requires : tie.Need-repeated-requires
+repeated-requires c κs = search needs
+
+add-t9 : tie.Need-add-t9
+add-t9 c = search needs
+
+returns : tie.Need-returns
+returns c = let p = c .before .before in node-unsound (p .before .before .pre .0) (p .first-unsound .ensures) (first-lowest (c .before .repeated .ensures)) (omega arith)
+
+add-t10 : tie.Need-add-t10
+add-t10 c = search needs
+
+returns-2 : tie.Need-returns-2
+returns-2 c = let p = c .before .before .before in node-repeated (p .before .before .pre .0) (p .first-unsound .ensures) (first-lowest (c .before .before .repeated .ensures)) (omega arith) (omega arith)
+
+returns-3 : tie.Need-returns-3
+returns-3 c = let p = c .before .before .before in nodes-sound (p .before .before .pre .0) (p .first-unsound .ensures) (first-lowest (c .before .before .repeated .ensures)) (omega arith) (omega arith)
+
+pub stage-spec : {M : Type 1} → statement M
+stage-spec =
+    tie.close
+    (tie.spec
+    first-unsound-requires
+    cast-repeated
+    repeated-requires
+    add-t9
+    returns
+    add-t10
+    returns-2
+    returns-3)

@@ -1,3 +1,0 @@
--- What the contracts of `rows` cite beside `meaning` and `columns`.
-pub mod First
-pub mod Told

@@ -1,0 +1,4 @@
+pub mod ColumnLaws
+pub mod ColumnAt
+pub mod TecLaws
+pub mod StationLaws

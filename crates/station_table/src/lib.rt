@@ -1,0 +1,126 @@
+// The stations' table: its columns, the TEC of each node, and refusal 5 of document 01. A file that is not whole reads as one without rows, and so has no bad one.
+mod row;
+mod tec;
+
+ghost use mathlib.Core.Path.{_≡_};
+ghost use Rattle.meaning.specs.Tables.{stationsStage};
+ghost use Rattle.meaning.specs.Grid.{plantOf, scales as scalesIn, pays as paysIn};
+ghost use Rattle.layout.specs.Readable.{readable};
+ghost use Rattle.station_table.specs.Columns.{stationsOf};
+ghost use Rattle.station_table.specs.Tec.{tecOf};
+use meaning::Answer;
+use meaning::Kw;
+use meaning::Plant;
+
+// The number of each station's node, its plant type and TEC.
+pub struct StationColumns {
+    pub node: [usize; 512],
+    pub plant: [u64; 512],
+    pub tec: [Kw; 512],
+}
+
+// TEC by node: what scales and weighs, and what pays.
+pub struct TecColumns {
+    pub scaling: [Kw; 256],
+    pub paying: [Kw; 256],
+}
+
+// The stations, and their TEC added up: names are resolved once for both.
+pub struct CapacityColumns {
+    pub stations: StationColumns,
+    pub tec: TecColumns,
+}
+
+// The table judged, and its TEC added up: names are resolved once for both.
+pub struct JudgedStations {
+    pub answer: Answer,
+    pub tec: TecColumns,
+}
+
+// The columns of the stations.
+pub fn columns(file: &[u8]) -> StationColumns
+    ensures { λ r. ⌜ r ≡ stationsOf (readable (now (file .entry))) ⌝ }
+{
+    let rows = layout::counts(file);
+    let nodes = rows.nodes;
+    let circuits = rows.circuits;
+    let count = rows.stations;
+    let start = 64 + 24 * nodes + 44 * circuits;
+    let at = start as u32;
+    let node = names::places(file, at + 12, 32, count, nodes as u32);
+    let plant = fields::column(file, at + 24, 32, count);
+    let tec = tec::by_station(file, start + 28, count);
+    StationColumns { node, plant, tec }
+}
+
+// The plant type of a number.
+pub fn plant_of(number: usize) -> Plant
+    ensures { λ r. ⌜ r ≡ plantOf number ⌝ }
+{
+    match number {
+        1 => Plant::Intermittent,
+        2 => Plant::NuclearAndCcs,
+        3 => Plant::Interconnector,
+        4 => Plant::Hydro,
+        5 => Plant::PumpedStorage,
+        6 => Plant::Peaking,
+        _ => Plant::Other,
+    }
+}
+
+// Whether the TEC of a plant type scales and weighs.
+pub fn scales(plant: Plant) -> bool
+    ensures { λ r. ⌜ r ≡ scalesIn plant ⌝ }
+{
+    match plant {
+        Plant::Intermittent => true,
+        Plant::NuclearAndCcs => true,
+        Plant::Interconnector => true,
+        Plant::Hydro => true,
+        Plant::PumpedStorage => true,
+        Plant::Peaking => true,
+        Plant::Other => true,
+    }
+}
+
+// Whether the TEC of a plant type pays.
+pub fn pays(plant: Plant) -> bool
+    ensures { λ r. ⌜ r ≡ paysIn plant ⌝ }
+{
+    match plant {
+        Plant::Intermittent => true,
+        Plant::NuclearAndCcs => true,
+        Plant::Interconnector => true,
+        Plant::Hydro => true,
+        Plant::PumpedStorage => true,
+        Plant::Peaking => true,
+        Plant::Other => true,
+    }
+}
+
+// The columns of the stations, and the TEC of each node.
+pub fn capacity(file: &[u8]) -> CapacityColumns
+    ensures { λ r. ⌜ (r .stations ≡ stationsOf (readable (now (file .entry)))) × (r .tec ≡ tecOf (readable (now (file .entry)))) ⌝ }
+{
+    let rows = layout::counts(file);
+    let columns = columns(file);
+    let by_type = tec::by_type(columns, rows.nodes, rows.stations);
+    let sums = tec::by_node(by_type);
+    CapacityColumns {
+        stations: columns,
+        tec: sums,
+    }
+}
+
+// 5: the lowest station that is not sound.
+pub fn judge(file: &[u8]) -> JudgedStations
+    ensures { λ r. ⌜ (r .answer ≡ stationsStage (readable (now (file .entry)))) × (r .tec ≡ tecOf (readable (now (file .entry)))) ⌝ }
+{
+    let rows = layout::counts(file);
+    let capacity = capacity(file);
+    let columns = capacity.stations;
+    let start = 64 + 24 * rows.nodes + 44 * rows.circuits;
+    let answer = row::stage(file, rows, start, columns);
+    let tec = capacity.tec;
+    JudgedStations { answer, tec }
+}

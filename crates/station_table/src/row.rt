@@ -1,0 +1,54 @@
+// 5: the rows of the stations' table, their nodes resolved.
+ghost use mathlib.Core.Path.{_≡_};
+ghost use Rattle.meaning.specs.File.{stationAt};
+ghost use Rattle.meaning.specs.Tables.{soundStationRow, stationsStage};
+ghost use Rattle.layout.specs.Readable.{readable};
+ghost use Rattle.meaning.specs.First.{IsFirst};
+ghost use Rattle.station_table.specs.Told.{ToldNode, ToldStations, unsoundStation};
+use crate::StationColumns;
+use layout::RowCounts;
+use meaning::Answer;
+
+// Whether the row at a place, with the node that its name has, is sound by itself.
+pub fn sound_row(file: &[u8], at: usize, nodes: usize, node: usize) -> bool
+    requires { ⌜ ToldNode (now file) at nodes node ⌝ }
+    ensures { λ r. ⌜ r ≡ soundStationRow (readable (now (file .entry)) .nodes) (stationAt (now (file .entry)) at) ⌝ }
+{
+    names::name_formed(file, at)
+        & names::name_formed(file, at + 12)
+        & (node < nodes)
+        & fields::between(file, at + 24, 1, 7)
+        & fields::at_most(file, at + 28, 20000000)
+}
+
+// The lowest row that is not; the count of rows where there is none.
+pub fn first_unsound(file: &[u8], rows: RowCounts, start: usize, columns: StationColumns) -> usize
+    requires { ⌜ ToldStations (now file) rows start columns ⌝ }
+    ensures { λ r. ⌜ IsFirst (unsoundStation (now (file .entry)) start) (rows .stations) r ⌝ }
+{
+    let mut i = 0;
+    while i < rows.stations {
+        if sound_row(file, start + 32 * i, rows.nodes, columns.node[i]) {
+            i += 1;
+        } else {
+            return i;
+        }
+    }
+    rows.stations
+}
+
+// The stage: the lowest row that is not, or whose identifier is seen earlier.
+pub fn stage(file: &[u8], rows: RowCounts, start: usize, columns: StationColumns) -> Answer
+    requires { ⌜ ToldStations (now file) rows start columns ⌝ }
+    ensures { λ r. ⌜ r ≡ stationsStage (readable (now (file .entry))) ⌝ }
+{
+    let unsound = first_unsound(file, rows, start, columns);
+    let repeated = names::repeated(file, start as u32, 32, rows.stations as u32);
+    if unsound < repeated {
+        return Answer::BadStation(unsound + 1);
+    }
+    if repeated < rows.stations {
+        return Answer::BadStation(repeated + 1);
+    }
+    Answer::Accepted(0)
+}
