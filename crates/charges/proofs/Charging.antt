@@ -5,22 +5,15 @@ use mathlib.Core.List.{List}
 use Prim.Native.Nat.{ℕ}
 use Rattle.meaning.specs.Answers.{stops}
 use Rattle.meaning.specs.Study.{Runs}
-use Rattle.meaning.specs.File.{studyOf}
-use Rattle.meaning.specs.Grid.{gridOf}
 use Rattle.meaning.specs.Outcome.{judged}
-use Rattle.meaning.specs.Proposal.{potential}
-use Rattle.meaning.proofs.Answers.{Passes}
+use Rattle.meaning.specs.declared.Figures.{Figures}
 use Rattle.tables.specs.declared.Opened.{Opened}
 use Rattle.proposal.specs.Judges.{Judges}
-use Rattle.meaning.specs.declared.Figures.{Figures}
-use Rattle.charges.specs.declared.Charged.{Charged}
-use Rattle.charges.specs.Sides.{figuresFrom, CaseFits}
-use Rattle.charges.specs.Case.{CaseOf}
-use Rattle.charges.specs.Inputs.{generationIn, demandIn, moneyIn}
-use Rattle.charges.specs.Charged.{chargedOf}
 use Rattle.steps.specs.Nothing.{noFigures}
-use Rattle.charges.proofs.OfCase.{case-is, case-fits}
-use Rattle.charges.proofs.OfFile.{case-of-file}
+use Rattle.tariffs.specs.Case.{figuresOver}
+use Rattle.charges.specs.declared.Charged.{Charged}
+use Rattle.charges.specs.Charged.{chargedOf}
+use Rattle.charges.proofs.OfFile.{figures-of-file}
 
 module _ (file : List ℕ) (runs : Runs) (o : Opened) (j : Judges file runs o) (told : Bool) (e : told ≡ stops (o .answer)) where
   told-judged : stops (judged file runs) ≡ told
@@ -30,17 +23,10 @@ module _ (file : List ℕ) (runs : Runs) (o : Opened) (j : Judges file runs o) (
   unfolding chargedOf
   stopped h ef = rw (j .answer, told-judged, h, ef) refl
 
-  module _ (h : told ≡ false) where
-    passes : Passes (judged file runs)
-    passes = told-judged ∙ h
-
-    of-grid : CaseOf (gridOf (studyOf file)) runs (generationIn o) (demandIn o) (moneyIn o)
-    of-grid = case-of-file file runs passes o j
-
-    pub fitting : CaseFits (generationIn o) (demandIn o) (moneyIn o) (runs .wider) (runs .local)
-    fitting = case-fits (gridOf (studyOf file)) runs (generationIn o) (demandIn o) (moneyIn o) of-grid
-
-    pub charged : {f : Figures} → f ≡ figuresFrom (generationIn o) (demandIn o) (moneyIn o) (potential (runs .wider)) (potential (runs .local))
-        → _≡_ {A = Charged} (record { answer = o .answer; figures = f }) (chargedOf file runs)
-    unfolding chargedOf
-    charged ef = rw (j .answer, passes, ef) (rw (case-is (gridOf (studyOf file)) runs (generationIn o) (demandIn o) (moneyIn o) of-grid) refl)
+  pub charged : {f : Figures} → told ≡ false
+      → f ≡ figuresOver (o .counts .nodes) (o .settings) (o .nodes .«generation_zone») (o .tec .scaling) (o .tec .paying) (o .nodes .«demand_zone») (o .nodes .demand) (runs .wider) (runs .local)
+      → _≡_ {A = Charged} (record { answer = o .answer; figures = f }) (chargedOf file runs)
+  unfolding chargedOf
+  charged h ef =
+      let passes = told-judged ∙ h in
+      rw (j .answer, passes, ef) (rw (figures-of-file file runs passes o j) refl)

@@ -1,258 +1,191 @@
--- What is made of the zones of a grid, with C, tariffs, incomes and rests, are the figures of the grid.
-use mathlib.Core.Path.{_≡_, refl, sym, _∙_, ap, ap₂, subst}
+-- What is made of the columns of a grid are the figures of the grid.
+use mathlib.Core.Path.{_≡_, refl, sym, _∙_, ap, ap₂}
+use mathlib.Core.Bool.{true}
 use mathlib.Core.List.{List}
-use Prim.Native.Nat.{ℕ, suc, _*_, _≤_, _<_}
+use Prim.Native.Nat.{ℕ, _*_, _-_, _≤_, _<_}
 use native.Mathlib.Omega.{arith}
-use lib.IntN.{ℤ, pos, natAbs, _+ℤ_, _-ℤ_, _*ℤ_}
-use lib.ListN.{length}
+use lib.IntN.{ℤ, pos, natAbs, _-ℤ_, _*ℤ_}
+use lib.ListN.{length, getD}
 use Rattle.integers.specs.Numbers.{sum, Σ}
 use Rattle.integers.proofs.Sum.{sum-same, Σ-same}
 use Rattle.meaning.specs.declared.Kw.{Kw}
 use Rattle.meaning.specs.declared.Metres.{Metres}
-use Rattle.meaning.specs.declared.MicroPerKw.{MicroPerKw}
-use Rattle.meaning.specs.declared.Side.{Side}
 use Rattle.meaning.specs.declared.Side.the-variants.{Generation, Demand}
-use Rattle.meaning.specs.declared.ZoneFigures.{ZoneFigures}
 use Rattle.meaning.specs.declared.SideFigures.{SideFigures}
 use Rattle.meaning.specs.declared.LocalFigures.{LocalFigures}
 use Rattle.meaning.specs.declared.Figures.{Figures}
-use Rattle.meaning.specs.Study.{Runs}
-use Rattle.meaning.specs.Grid.{Grid}
-use Rattle.meaning.specs.Columns.{kilowatts, distance, price, kwAt, column, noLine, noLocal}
+use Rattle.meaning.specs.Study.{Settings, Runs}
+use Rattle.meaning.specs.Grid.{Grid, payingTec}
+use Rattle.meaning.specs.Rows.{_between_and_}
+use Rattle.meaning.specs.Columns.{kilowatts, distance, price, kwAt, column, noLocal}
 use Rattle.meaning.specs.Proposal.{potential}
-use Rattle.meaning.specs.Figures.{metres, tariff, zones, weight, paying, zoneWeight, zonePaying, totalPaying, overZones, target, zonalMetres, C, afterC, zoneTariff, localMetres, localTariff, localIncome, rest, residual, residualOf, remainder, remainderOf, zoneTotal}
-use Rattle.meaning.proofs.Columns.{column-same}
-use Rattle.meaning.proofs.Rows.{rows-at}
-use Rattle.sizes.specs.Bounds.{KilowattsFit, MetresFit}
-use Rattle.charges.specs.declared.case.MoneySettings.{MoneySettings}
-use Rattle.charges.specs.declared.sums.SideColumns.{SideColumns}
-use Rattle.charges.specs.declared.sums.ZoneSums.{ZoneSums}
-use Rattle.charges.specs.declared.zones.Zones.{Zones}
-use Rattle.charges.specs.Zones.{metresFrom, zonesFrom, noSums, overFrom, sumsAt, cFrom, SumsFit, ZonesFit}
-use Rattle.charges.specs.Tariffs.{shifted, tariffFrom, incomeFrom}
-use Rattle.charges.specs.Local.{localFrom, localAt}
-use Rattle.charges.specs.Rests.{shareOf, restFrom}
-use Rattle.charges.specs.Sides.{lineFrom, termsOf, sideFrom, cOf, localIncomeFrom, figuresFrom, CaseFits}
-use Rattle.charges.specs.Case.{zoneFigures, sideFigures, localFigures, figuresOf, moneyOf, SideOf, CaseOf}
-use Rattle.charges.proofs.OfGrid.{sumsOn, zonesOn, zones-are, columns-fit}
+use Rattle.meaning.specs.Figures.{metres, tariff, zones, weight, paying, totalPaying, C, localMetres, localTariff, localIncome}
+use Rattle.meaning.proofs.Columns.{column-at, column-same}
+use Rattle.meaning.proofs.Says.{says-le, _also_}
+use Rattle.layout.specs.declared.StudySettings.{StudySettings}
+use Rattle.layout.specs.Frame.{settingsIn}
+use Rattle.zones.specs.declared.ZoneSums.{ZoneSums}
+use Rattle.zones.specs.Sums.{reachedOf}
+use Rattle.zones.proofs.Laws.{reached-all}
+use Rattle.prices.specs.Prices.{priceOf, localFrom, localAt, linesOf, worthOf, worthAt, incomeOf}
+use Rattle.prices.proofs.Laws.{price-is, price-most, worth-is, income-is}
+use Rattle.tariffs.specs.Over.{overFrom, cFrom}
+use Rattle.tariffs.specs.Sides.{sideFrom}
+use Rattle.tariffs.specs.Case.{settingsFit, totalsFit, overUp, overDown, figuresFrom, figuresIn, figuresOver}
+use Rattle.tariffs.proofs.CaseLaws.{ranged}
+use Rattle.charges.specs.Case.{localFigures, figuresOf, sideFigures}
+use Rattle.charges.proofs.OfGrid.{SideOf, GridFits, sums, over-is, total-is}
+use Rattle.charges.proofs.OfSide.{shiftOf, targetOf, termsOn, side-is}
 
-module _ (G : Grid) (runs : Runs) (side : Side) (most : zones G side ≤ 32) where
-  abbrev Zs : Zones
-  Zs = zonesOn G runs side
-
-  -- the sums of zone k + 1
-  sums-at : (k : ℕ) → k < zones G side → sumsAt Zs k ≡ sumsOn G runs side (suc k)
-  unfolding zonesOn
-  sums-at k h = rows-at noSums 32 _ k (omega arith)
-
-  weight-at : (k : ℕ) → k < zones G side → sumsAt Zs k .weight ≡ kilowatts (zoneWeight G side (suc k))
-  unfolding sumsOn
-  weight-at k h = ap (λ (z : ZoneSums). z .weight) (sums-at k h)
-
-  pays-at : (k : ℕ) → k < zones G side → sumsAt Zs k .paying .0 ≡ zonePaying G side (suc k)
-  unfolding sumsOn
-  pays-at k h = ap (λ (z : ZoneSums). z .paying .0) (sums-at k h)
-
-  metres-at : (k : ℕ) → k < zones G side → metresFrom (sumsAt Zs k) ≡ zonalMetres G runs side (suc k)
-  unfolding metresFrom sumsOn zonalMetres
-  metres-at k h = ap metresFrom (sums-at k h)
-
-  -- step 8: over zones
-  over-is : Zs .over .metres ≡ overZones G side (zonalMetres G runs side)
-  unfolding overFrom overZones zonesOn
-  over-is = Σ-same (zones G side) _ _ (λ k h. ap₂ (λ (m : ℤ) (w : ℕ). m *ℤ pos w) (metres-at k h) (pays-at k h))
-
-  pays-all : KilowattsFit G → sum (zones G side) (λ k. sumsAt Zs k .paying .0) ≡ totalPaying G side
-  pays-all kf = sum-same (zones G side) _ (λ k. zonePaying G side (suc k)) pays-at ∙ kf .zonesAll side
-
-  total-is : KilowattsFit G → Zs .over .total .0 ≡ totalPaying G side
-  unfolding overFrom zonesOn
-  total-is kf = pays-all kf
-
-  sums-fit : KilowattsFit G → MetresFit G runs → SumsFit (Zs .sums) (Zs .count)
-  unfolding zonesOn
-  sums-fit kf mf =
-      record {
-        few = most;
-        near = λ k h. subst (λ (m : ℤ). natAbs m ≤ 10000000) (sym (metres-at k h)) (mf .zonal side (suc k));
-        pays = rw (pays-all kf) (kf .all side .most);
-      }
-
-  over-most : MetresFit G runs → natAbs (overZones G side (zonalMetres G runs side)) ≤ 1000000000000000
-  unfolding overZones
-  over-most mf = mf .zonesTo side (zones G side) (omega arith)
-
-  pub zones-fit : KilowattsFit G → MetresFit G runs → ZonesFit Zs
-  zones-fit kf mf =
-      record {
-        sums = sums-fit kf mf;
-        over = record { metres = rw over-is (over-most mf); total = rw (total-is kf) (kf .all side .most) };
-      }
-
-c-is : (G : Grid) (runs : Runs) → KilowattsFit G → ((side : Side) → zones G side ≤ 32)
-    → cFrom (G .settings .p) (zonesOn G runs Generation .over) (zonesOn G runs Demand .over) ≡ C G runs
-unfolding cFrom C
-c-is G runs kf most =
-    rw (
-      over-is G runs Generation (most Generation),
-      over-is G runs Demand (most Demand),
-      total-is G runs Generation (most Generation) kf,
-      total-is G runs Demand (most Demand) kf,
-    )
-
-shifted-is : (G : Grid) (runs : Runs) (side : Side) (zone : ℕ) → shifted side (zonalMetres G runs side zone) (C G runs) ≡ afterC G runs side zone
-unfolding shifted afterC
-shifted-is G runs Generation zone = refl
-shifted-is G runs Demand zone = refl
-
-target-is : (G : Grid) (side : Side) → pos (G .settings .revenue * shareOf side (G .settings .p) * 1000) ≡ target G side
-unfolding shareOf target
-target-is G Generation = refl
-target-is G Demand = refl
-
-lined : {a b : Kw} {m n p q : Metres} {t u x y : MicroPerKw} → a ≡ b → m ≡ n → p ≡ q → t ≡ u → x ≡ y
-    → _≡_ {A = ZoneFigures} (record { weight = a; metres = m; «after_c» = p; tariff = t; total = x })
-    (record { weight = b; metres = n; «after_c» = q; tariff = u; total = y })
-lined ea em ep et ex = rw (ea, em, ep, et, ex)
-
-sided : {a b : ℕ} {r q : MicroPerKw} {m n : ℤ} {k l : List ZoneFigures} → a ≡ b → r ≡ q → m ≡ n → k ≡ l
-    → _≡_ {A = SideFigures} (record { zones = a; residual = r; remainder = m; zone = k }) (record { zones = b; residual = q; remainder = n; zone = l })
-sided ea er em ek = rw (ea, er, em, ek)
-
--- steps 9 and 10 of a side
-module _ (G : Grid) (runs : Runs) (side : Side) (most : zones G side ≤ 32) (kf : KilowattsFit G) where
-  abbrev Z : Zones
-  Z = zonesOn G runs side
-
-  abbrev by : Metres
-  by = distance (C G runs)
-
-  abbrev M : MoneySettings
-  M = moneyOf (G .settings)
-
-  after-is : (k : ℕ) → k < zones G side → shifted side (metresFrom (sumsAt Z k)) (C G runs) ≡ afterC G runs side (suc k)
-  after-is k h = ap (λ (m : ℤ). shifted side m (C G runs)) (metres-at G runs side most k h) ∙ shifted-is G runs side (suc k)
-
-  tariff-is : (k : ℕ) → k < zones G side → tariffFrom (termsOf Z by M) (sumsAt Z k) ≡ zoneTariff G runs side (suc k)
-  unfolding tariffFrom zoneTariff zonesOn
-  tariff-is k h = ap (λ (m : ℤ). tariff m (G .settings .constant) (G .settings .widerFactor)) (after-is k h)
-
-  income-is : incomeFrom (termsOf Z by M) Z ≡ overZones G side (zoneTariff G runs side)
-  unfolding incomeFrom overZones zonesOn
-  income-is =
-      Σ-same (zones G side) _ _ (λ k h. ap₂ (λ (t : ℤ) (w : ℕ). t *ℤ pos w) (tariff-is k h) (pays-at G runs side most k h))
-
-  abbrev restOf : ℤ
-  restOf = restFrom (Z .side) (M .p) (M .revenue) (incomeFrom (termsOf Z by M) Z) (localIncome G runs side)
-
-  rest-is : restOf ≡ rest G runs side
-  unfolding restFrom rest zonesOn
-  rest-is = ap₂ (λ (t i : ℤ). t -ℤ i -ℤ localIncome G runs side) (target-is G side) income-is
-
-  line-is : (k : ℕ) → k < zones G side
-      → lineFrom (termsOf Z by M) (price (residual G runs side)) (sumsAt Z k) ≡ zoneFigures G runs side (suc k)
-  unfolding lineFrom zoneFigures zoneTotal zonesOn
-  line-is k h =
-      lined (weight-at G runs side most k h) (ap distance (metres-at G runs side most k h)) (ap distance (after-is k h)) (ap price (tariff-is k h))
-      (ap (λ (t : ℤ). price (t +ℤ residual G runs side)) (tariff-is k h))
-
-  residual-is : price (residualOf restOf (Z .over .total .0)) ≡ price (residual G runs side)
-  unfolding residual
-  residual-is = ap₂ (λ (z : ℤ) (w : ℕ). price (residualOf z w)) rest-is (total-is G runs side most kf)
-
-  remainder-is : remainderOf restOf (Z .over .total .0) ≡ remainder G runs side
-  unfolding remainder
-  remainder-is = ap₂ remainderOf rest-is (total-is G runs side most kf)
-
-  pub side-is : sideFrom Z by M (localIncome G runs side) ≡ sideFigures G runs side
-  unfolding sideFrom sideFigures zonesOn
-  side-is =
-      sided refl residual-is remainder-is
-      (column-same noLine 32 (zones G side) _ (λ k. zoneFigures G runs side (suc k))
-      (λ k h. ap (λ (r : MicroPerKw). lineFrom (termsOf Z by M) r (sumsAt Z k)) residual-is ∙ line-is k h))
-
--- local lines and local income
-module _ (G : Grid) (runs : Runs) (g : SideColumns) (o : SideOf G Generation g) where
-  abbrev local : ℕ → ℤ
-  local = potential (runs .local)
-
-  abbrev n : ℕ
-  n = length (G .nodes)
-
-  abbrev localPrice : ℕ → ℤ
-  localPrice v = tariff (metres (local v)) (G .settings .constant) (G .settings .localFactor)
-
-  local-income-is : localIncomeFrom g (moneyOf (G .settings)) local ≡ localIncome G runs Generation
-  unfolding localIncomeFrom localIncome localTariff localMetres paying
-  local-income-is =
-      ap (λ (m : ℕ). Σ m (λ v. localPrice v *ℤ pos (kwAt (g .paying) v))) (o .nodes)
-      ∙ Σ-same n _ _ (λ v h. ap (λ (w : ℕ). localPrice v *ℤ pos w) (o .pays v h))
-
-  local-line-is : (v : ℕ) → v < n → localAt g local (moneyOf (G .settings) .local) v ≡ localFigures G runs v
-  unfolding localFrom localFigures localTariff localMetres weight
-  local-line-is v h =
-      ap (λ (kw : ℕ). record { tec = kilowatts kw; metres = distance (metres (local v)); tariff = price (localPrice v) }) (o .weighs v h)
-
-  lines-are : column noLocal 256 (g .nodes) (localAt g local (moneyOf (G .settings) .local)) ≡ column noLocal 256 n (localFigures G runs)
-  lines-are =
-      ap (λ (m : ℕ). column noLocal 256 m (localAt g local (moneyOf (G .settings) .local))) (o .nodes)
-      ∙ column-same noLocal 256 n _ (localFigures G runs) local-line-is
-
--- the whole
 cased : {c e : Metres} {p q r t : SideFigures} {m n : ℕ} {k l : List LocalFigures} → c ≡ e → p ≡ q → r ≡ t → m ≡ n → k ≡ l
     → _≡_ {A = Figures} (record { c = c; generation = p; demand = r; nodes = m; local = k }) (record { c = e; generation = q; demand = t; nodes = n; local = l })
 cased ec ep er em ek = rw (ec, ep, er, em, ek)
 
-same-side : (s : MoneySettings) {y z : Zones} {b c : Metres} {i j : ℤ} → y ≡ z → b ≡ c → i ≡ j → sideFrom y b s i ≡ sideFrom z c s j
-same-side s ez ec ei = rw (ez, ec, ei)
+-- ---- local lines and local income
+module _ (G : Grid) (runs : Runs) (f : GridFits G runs) (n : ℕ) (zone : List ℕ) (tec pays : List Kw) (o : SideOf G Generation n zone tec pays) where
+  abbrev local : List ℤ
+  local = runs .local
 
-module _ (G : Grid) (runs : Runs) (g d : SideColumns) (og : SideOf G Generation g) (od : SideOf G Demand d) (most : (side : Side) → zones G side ≤ 32) (kf : KilowattsFit G) where
-  abbrev S : MoneySettings
-  S = moneyOf (G .settings)
+  abbrev k : ℕ
+  k = G .settings .constant
 
-  abbrev W : ℕ → ℤ
-  W = potential (runs .wider)
+  abbrev by : ℕ
+  by = G .settings .localFactor
 
-  centre-is : cOf g d S W ≡ distance (C G runs)
-  centre-is = ap distance (ap₂ (λ (a b : Zones). cFrom (S .p) (a .over) (b .over)) (zones-are G runs Generation g og) (zones-are G runs Demand d od) ∙ c-is G runs kf most)
+  few : n ≤ 256
+  few = omega (arith, o .nodes, f .few)
 
-  pub figures-are : figuresFrom g d S W (potential (runs .local)) ≡ figuresOf G runs
-  unfolding figuresFrom figuresOf localIncome
-  figures-are =
-      cased centre-is
-      (same-side S (zones-are G runs Generation g og) centre-is (local-income-is G runs g og) ∙ side-is G runs Generation (most Generation) kf)
-      (same-side S (zones-are G runs Demand d od) centre-is refl ∙ side-is G runs Demand (most Demand) kf)
+  tariff-at : (v : ℕ) → v < n → priceOf (metres (potential local v)) k by ≡ localTariff G runs v
+  unfolding localTariff localMetres
+  tariff-at v h =
+      price-is (metres (potential local v)) k by (omega (arith, f .metresFit .localNode v (omega (arith, o .nodes)))) (f .constant) (f .localFactor)
+
+  line-at : (v : ℕ) → v < n → localAt tec local k by v ≡ localFigures G runs v
+  unfolding localFrom localFigures localMetres weight
+  line-at v h =
+      ap₂ (λ (w : ℕ) (x : ℤ). record { tec = kilowatts w; metres = distance (metres (potential local v)); tariff = price x }) (o .weighs v h) (tariff-at v h)
+
+  abbrev lines : List LocalFigures
+  lines = linesOf n tec local k by
+
+  lines-column : lines ≡ column noLocal 256 n (localAt tec local k by)
+  unfolding linesOf
+  lines-column = ap (λ (m : ℕ). column noLocal 256 m (localAt tec local k by)) (reached-all n (length local) few (omega (arith, o .nodes, f .local)))
+
+  pub lines-are : lines ≡ column noLocal 256 (length (G .nodes)) (localFigures G runs)
+  lines-are = lines-column ∙ column-same noLocal 256 n _ (localFigures G runs) line-at ∙ ap (λ (m : ℕ). column noLocal 256 m (localFigures G runs)) (o .nodes)
+
+  price-at : (v : ℕ) → v < n → getD lines v noLocal .tariff .0 ≡ priceOf (metres (potential local v)) k by
+  unfolding localFrom
+  price-at v h =
+      ap (λ (l : List LocalFigures). getD l v noLocal .tariff .0) lines-column
+      ∙ ap (λ (x : LocalFigures). x .tariff .0) (column-at noLocal 256 (localAt tec local k by) noLocal n v h (omega (arith, few)))
+
+  worth-at : (v : ℕ) → v < n → worthAt lines pays v ≡ localTariff G runs v *ℤ pos (payingTec G v)
+  unfolding paying
+  worth-at v h =
+      ap₂ worthOf (price-at v h) (o .paid v h)
+      ∙ worth-is (priceOf (metres (potential local v)) k by) (payingTec G v) (price-most (metres (potential local v)) k by)
+      ∙ ap (λ (x : ℤ). x *ℤ pos (payingTec G v)) (tariff-at v h)
+
+  all-reached : reachedOf n 256 ≡ n
+  all-reached = reached-all n 256 few few
+
+  light : sum (reachedOf n 256) (kwAt pays) ≤ 100000000
+  unfolding totalPaying
+  light =
+      let e = all-reached in
+      let s : sum n (kwAt pays) ≡ totalPaying G Generation = sum-same n _ _ (o .paid) ∙ ap (λ (m : ℕ). sum m (paying G Generation)) (o .nodes) in
+      rw e (rw s (f .kilowattsFit .all Generation .most))
+
+  pub income-are : incomeOf n lines pays ≡ localIncome G runs Generation
+  unfolding localIncome
+  income-are =
+      income-is lines pays n light
+      ∙ ap (λ (m : ℕ). Σ m (worthAt lines pays)) all-reached
+      ∙ Σ-same n _ _ worth-at
+      ∙ ap (λ (m : ℕ). Σ m (λ v. localTariff G runs v *ℤ pos (payingTec G v))) (o .nodes)
+
+-- ---- the whole
+module _ (G : Grid) (runs : Runs) (f : GridFits G runs) (n : ℕ) (gz : List ℕ) (tec pays : List Kw) (dz : List ℕ) (demand : List Kw)
+    (og : SideOf G Generation n gz tec pays) (od : SideOf G Demand n dz demand demand) where
+  abbrev up : List ZoneSums
+  up = sums G runs f Generation n gz tec pays og
+
+  abbrev down : List ZoneSums
+  down = sums G runs f Demand n dz demand demand od
+
+  -- the figures by the settings of a study
+  unfoldable byC : Settings → (c : ℤ) (lines : List LocalFigures) (income : ℤ) → Figures
+  byC x c lines income =
+      record {
+        c = distance c;
+        generation = sideFrom up (x .generationZones) (overFrom up (x .generationZones) .total)
+            (record { shift = distance c; constant = x .constant; factor = x .widerFactor; target = x .revenue * (1000 - x .p) * 1000 }) income;
+        demand = sideFrom down (x .demandZones) (overFrom down (x .demandZones) .total)
+            (record { shift = distance (pos 0 -ℤ c); constant = x .constant; factor = x .widerFactor; target = x .revenue * x .p * 1000 }) (pos 0);
+        nodes = n;
+        local = lines;
+      }
+
+  abbrev centreBy : Settings → ℤ
+  centreBy x = cFrom (x .p) (overFrom up (x .generationZones)) (overFrom down (x .demandZones))
+
+  by-settings : (s : StudySettings) → settingsIn s ≡ G .settings → (lines : List LocalFigures) (income : ℤ)
+      → figuresFrom s up down n lines income ≡ byC (G .settings) (centreBy (G .settings)) lines income
+  unfolding figuresFrom settingsIn byC
+  by-settings s es lines income = ap (λ (x : Settings). byC x (centreBy x) lines income) es
+
+  centre-is : centreBy (G .settings) ≡ C G runs
+  unfolding cFrom C zones
+  centre-is =
+      rw (
+        over-is G runs f Generation n gz tec pays og,
+        over-is G runs f Demand n dz demand demand od,
+        total-is G runs f Generation n gz tec pays og,
+        total-is G runs f Demand n dz demand demand od,
+      )
+
+  figures-are : (lines : List LocalFigures) (income : ℤ)
+      → lines ≡ column noLocal 256 (length (G .nodes)) (localFigures G runs)
+      → income ≡ localIncome G runs Generation
+      → byC (G .settings) (C G runs) lines income ≡ figuresOf G runs
+  unfolding byC figuresOf zones termsOn shiftOf targetOf localIncome
+  figures-are lines income el ei =
+      cased refl
+      (ap (sideFrom up (zones G Generation) (overFrom up (zones G Generation) .total) (termsOn G runs Generation)) ei
+      ∙ side-is G runs f Generation n gz tec pays og _ (total-is G runs f Generation n gz tec pays og))
+      (side-is G runs f Demand n dz demand demand od _ (total-is G runs f Demand n dz demand demand od))
       (og .nodes)
-      (lines-are G runs g og)
+      el
 
-module _ (G : Grid) (runs : Runs) (g d : SideColumns) (s : MoneySettings) (o : CaseOf G runs g d s) where
-  pub case-is : figuresFrom g d s (potential (runs .wider)) (potential (runs .local)) ≡ figuresOf G runs
-  case-is =
-      let e = o .money in
-      rw e (figures-are G runs g d (o .generation) (o .demand) (o .zonesMost) (o .kilowattsFit))
+  module _ (s : StudySettings) (es : settingsIn s ≡ G .settings) where
+    settings-fit : settingsFit s ≡ true
+    unfolding settingsFit settingsIn zones
+    settings-fit =
+        let a : s .«generation_zones» ≤ 32 = omega (arith, ap (λ (x : Settings). x .generationZones) es, f .zonesMost Generation) in
+        let b : s .«demand_zones» ≤ 32 = omega (arith, ap (λ (x : Settings). x .demandZones) es, f .zonesMost Demand) in
+        let c : s .p ≤ 1000 = omega (arith, ap (λ (x : Settings). x .p) es, f .p) in
+        let d : s .revenue ≤ 10000000000 = omega (arith, ap (λ (x : Settings). x .revenue) es, f .revenue) in
+        (says-le also says-le also says-le also says-le) .1 (((a, b), c), d)
 
-  some-at : (side : Side) → 1 ≤ zonesOn G runs side .over .total .0
-  some-at side = rw (total-is G runs side (o .zonesMost side) (o .kilowattsFit)) (o .kilowattsFit .all side .least)
+    totals-fit : totalsFit (overUp s up down) (overDown s up down) ≡ true
+    unfolding totalsFit _between_and_ settingsIn zones
+    totals-fit =
+        let u : overUp s up down .total .0 ≡ totalPaying G Generation = ap (λ (x : Settings). overFrom up (x .generationZones) .total .0) es ∙ total-is G runs f Generation n gz tec pays og in
+        let d : overDown s up down .total .0 ≡ totalPaying G Demand = ap (λ (x : Settings). overFrom down (x .demandZones) .total .0) es ∙ total-is G runs f Demand n dz demand demand od in
+        let a = f .kilowattsFit .all Generation in
+        let b = f .kilowattsFit .all Demand in
+        rw (u, d) (((says-le also says-le) also (says-le also says-le)) .1 ((a .least, a .most), (b .least, b .most)))
 
-  pub case-fits : CaseFits g d s (runs .wider) (runs .local)
-  unfolding localMetres
-  case-fits =
-      let e = o .money in
-      let og = o .generation in
-      let od = o .demand in
-      let kf = o .kilowattsFit in
-      let mf = o .metresFit in
-      rw e (record {
-        generation = columns-fit G runs Generation g og (o .few) (o .zonesIn Generation) kf mf;
-        demand = columns-fit G runs Demand d od (o .few) (o .zonesIn Demand) kf mf;
-        generationReached = omega (arith, og .nodes, o .widerReached);
-        demandReached = omega (arith, od .nodes, o .widerReached);
-        localReached = omega (arith, og .nodes, o .localReached);
-        generationZones = subst ZonesFit (sym (zones-are G runs Generation g og)) (zones-fit G runs Generation (o .zonesMost Generation) kf mf);
-        demandZones = subst ZonesFit (sym (zones-are G runs Demand d od)) (zones-fit G runs Demand (o .zonesMost Demand) kf mf);
-        someGeneration = subst (λ (z : Zones). 1 ≤ z .over .total .0) (sym (zones-are G runs Generation g og)) (some-at Generation);
-        someDemand = subst (λ (z : Zones). 1 ≤ z .over .total .0) (sym (zones-are G runs Demand d od)) (some-at Demand);
-        near = subst (λ (c : Metres). natAbs (c .0) ≤ 10000000) (sym (centre-is G runs g d og od (o .zonesMost) kf)) (mf .centre);
-        settings = o .moneyFits;
-        localNear = λ v h. mf .localNode v (omega (arith, og .nodes));
-      })
+    pub case-is : figuresOver n s gz tec pays dz demand (runs .wider) (runs .local) ≡ figuresOf G runs
+    unfolding figuresOver settingsIn
+    case-is =
+        let e : linesOf n tec (runs .local) (s .constant) (s .«local_factor») ≡ lines G runs f n gz tec pays og = ap (λ (x : Settings). linesOf n tec (runs .local) (x .constant) (x .localFactor)) es in
+        let l = lines G runs f n gz tec pays og in
+        let i = incomeOf n l pays in
+        rw e
+        (sym (ranged s up down n l i settings-fit refl refl totals-fit)
+        ∙ by-settings s es l i
+        ∙ ap (λ (c : ℤ). byC (G .settings) c l i) centre-is
+        ∙ figures-are l i (lines-are G runs f n gz tec pays og) (income-are G runs f n gz tec pays og))

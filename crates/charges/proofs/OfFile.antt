@@ -1,28 +1,32 @@
 -- The columns of a file that nothing stops are those of its grid: all that the figures ask of a case.
-use mathlib.Core.Path.{_≡_, refl, ap}
+use mathlib.Core.Path.{_≡_, ap}
 use mathlib.Core.List.{List}
 use Prim.Native.Nat.{ℕ, _≤_, _<_}
 use native.Mathlib.Omega.{arith}
 use lib.ListN.{length}
 use Rattle.meaning.specs.declared.Kw.{Kw}
+use Rattle.meaning.specs.declared.Side.{Side}
 use Rattle.meaning.specs.declared.Side.the-variants.{Generation, Demand}
 use Rattle.meaning.specs.Rows.{rows}
-use Rattle.meaning.specs.Study.{Settings, Study, Runs}
+use Rattle.meaning.specs.Study.{Study, Runs}
 use Rattle.meaning.specs.File.{studyOf}
 use Rattle.meaning.specs.Grid.{gridOf}
 use Rattle.meaning.specs.Figures.{zones, zoneOf, weight, paying}
 use Rattle.meaning.specs.Outcome.{tablesStage, judged}
-use Rattle.meaning.specs.Conditions.{Acceptable}
+use Rattle.meaning.specs.Conditions.{InRange, SoundTables, Acceptable}
 use Rattle.meaning.proofs.Answers.{Passes, passes-orElse}
 use Rattle.meaning.proofs.Rows.{rows-at}
 use Rattle.meaning.proofs.Starts as starts
+use Rattle.sizes.specs.Bounds.{PotentialsInRange}
+use Rattle.sizes.proofs.Kilowatts.{kilowatts-fit}
+use Rattle.sizes.proofs.Figures.{figures-fit}
 use Rattle.sizes.proofs.Accepted.{solved-in-range}
 use Rattle.claims.proofs.Accepted.{judged-pass}
 use Rattle.layout.specs.declared.RowCounts.{RowCounts}
 use Rattle.node_table.specs.declared.NodeColumns.{NodeColumns}
 use Rattle.station_table.specs.declared.TecColumns.{TecColumns}
 use Rattle.layout.specs.Readable.{readable}
-use Rattle.layout.specs.Frame.{countsOf, settingsIn}
+use Rattle.layout.specs.Frame.{countsOf}
 use Rattle.node_table.specs.Columns.{nodesOf}
 use Rattle.station_table.specs.Tec.{tecOf}
 use Rattle.layout.proofs.Rows.{readable-whole}
@@ -30,9 +34,10 @@ use Rattle.tables.specs.declared.Opened.{Opened}
 use Rattle.tables.proofs.Sound.{passes-whole}
 use Rattle.proposal.specs.Judges.{Judges}
 use Rattle.meaning.specs.Columns.{kilowatts, numberAt, kwAt}
-use Rattle.charges.specs.Inputs.{generationIn, demandIn, moneyIn}
-use Rattle.charges.specs.Case.{moneyOf, SideOf, CaseOf}
-use Rattle.charges.proofs.OfTables.{case-of}
+use Rattle.tariffs.specs.Case.{figuresOver}
+use Rattle.charges.specs.Case.{figuresOf}
+use Rattle.charges.proofs.OfGrid.{SideOf, GridFits}
+use Rattle.charges.proofs.OfCase.{case-is}
 
 -- row v of a column
 number-row : {column : List ℕ} (f : ℕ → ℕ) (v : ℕ) → column ≡ rows 256 f → v < 256 → numberAt column v ≡ f v
@@ -42,33 +47,61 @@ kw-row : {column : List Kw} (f : ℕ → ℕ) (v : ℕ) → column ≡ rows 256 
 kw-row f v e h = rw e (ap (λ (k : Kw). k .0) (rows-at (kilowatts 0) 256 (λ i. kilowatts (f i)) v h))
 
 -- ---- the columns of a study
-module _ (S : Study) (few : length (S .nodes) ≤ 256) (o : Opened) (ec : o .counts .nodes ≡ length (S .nodes))
-    (es : settingsIn (o .settings) ≡ S .settings) (en : o .nodes ≡ nodesOf S) (et : o .tec ≡ tecOf S) where
-  generation-of : SideOf (gridOf S) Generation (generationIn o)
-  unfolding gridOf generationIn settingsIn nodesOf tecOf zones zoneOf weight paying
+module _ (S : Study) (few : length (S .nodes) ≤ 256) (o : Opened) (ec : o .counts .nodes ≡ length (S .nodes)) (en : o .nodes ≡ nodesOf S) (et : o .tec ≡ tecOf S) where
+  generation-of : SideOf (gridOf S) Generation (o .counts .nodes) (o .nodes .«generation_zone») (o .tec .scaling) (o .tec .paying)
+  unfolding gridOf nodesOf tecOf zoneOf weight paying
   generation-of = record {
-    which = refl;
     nodes = ec;
-    count = ap (λ (x : Settings). x .generationZones) es;
     inZone = λ v h. number-row _ v (ap (λ (x : NodeColumns). x .«generation_zone») en) (omega arith);
     weighs = λ v h. kw-row _ v (ap (λ (x : TecColumns). x .scaling) et) (omega arith);
-    pays = λ v h. kw-row _ v (ap (λ (x : TecColumns). x .paying) et) (omega arith);
+    paid = λ v h. kw-row _ v (ap (λ (x : TecColumns). x .paying) et) (omega arith);
   }
 
-  demand-of : SideOf (gridOf S) Demand (demandIn o)
-  unfolding gridOf demandIn settingsIn nodesOf zones zoneOf weight paying
+  demand-of : SideOf (gridOf S) Demand (o .counts .nodes) (o .nodes .«demand_zone») (o .nodes .demand) (o .nodes .demand)
+  unfolding gridOf nodesOf zoneOf weight paying
   demand-of = record {
-    which = refl;
     nodes = ec;
-    count = ap (λ (x : Settings). x .demandZones) es;
     inZone = λ v h. number-row _ v (ap (λ (x : NodeColumns). x .«demand_zone») en) (omega arith);
     weighs = λ v h. kw-row _ v (ap (λ (x : NodeColumns). x .demand) en) (omega arith);
-    pays = λ v h. kw-row _ v (ap (λ (x : NodeColumns). x .demand) en) (omega arith);
+    paid = λ v h. kw-row _ v (ap (λ (x : NodeColumns). x .demand) en) (omega arith);
   }
 
-  money-of : moneyIn o ≡ moneyOf (S .settings)
-  unfolding moneyIn settingsIn
-  money-of = ap moneyOf es
+-- ---- sound tables
+module _ (S : Study) (sound : SoundTables S) where
+  zones-most : (side : Side) → zones (gridOf S) side ≤ 32
+  unfolding gridOf zones
+  zones-most Generation = sound .settings .generationZones .most
+  zones-most Demand = sound .settings .demandZones .most
+
+  zones-in : (side : Side) (v : ℕ) → v < length (S .nodes) → InRange (zoneOf (gridOf S) side v) 1 32
+  unfolding gridOf zoneOf
+  zones-in Generation v h =
+      let r = sound .nodes v h .generationZone in
+      record { least = r .least; most = omega (arith, r .most, sound .settings .generationZones .most) }
+  zones-in Demand v h =
+      let r = sound .nodes v h .demandZone in
+      record { least = r .least; most = omega (arith, r .most, sound .settings .demandZones .most) }
+
+  grid-fits : (runs : Runs) → PotentialsInRange (length (S .nodes)) runs
+      → length (S .nodes) ≤ 256 → length (S .nodes) ≤ length (runs .wider) → length (S .nodes) ≤ length (runs .local)
+      → GridFits (gridOf S) runs
+  unfolding gridOf
+  grid-fits runs u few wider local =
+      let s = sound .settings in
+      record {
+        few = few;
+        wider = wider;
+        local = local;
+        zonesMost = zones-most;
+        zonesIn = zones-in;
+        p = s .p;
+        constant = s .constant .most;
+        widerFactor = s .widerFactor .most;
+        localFactor = s .localFactor .most;
+        revenue = s .revenue;
+        kilowattsFit = kilowatts-fit S sound;
+        metresFit = figures-fit S sound runs u .metres;
+      }
 
 -- ---- the columns of a file that nothing stops
 module _ (file : List ℕ) (runs : Runs) (p : Passes (judged file runs)) where
@@ -85,26 +118,32 @@ module _ (file : List ℕ) (runs : Runs) (p : Passes (judged file runs)) where
   few-nodes : length (studyOf file .nodes) ≤ 256
   few-nodes = omega (arith, starts.counts file runs (accepted .whole) .0, accepted .whole .nodes .most)
 
+  fits : GridFits (gridOf (studyOf file)) runs
+  fits =
+      let S = studyOf file in
+      let w = accepted .whole in
+      let e = starts.counts file runs w .0 in
+      let wider = w .solutions 5 (record { least = omega arith; most = omega arith }) in
+      let local = w .solutions 6 (record { least = omega arith; most = omega arith }) in
+      grid-fits S (accepted .tables) runs (solved-in-range S runs (accepted .solved)) few-nodes
+      (omega (arith, e, wider, w .widerRun))
+      (omega (arith, e, local, w .localRun))
+
   -- opened by the judge
   module _ (o : Opened) (j : Judges file runs o) where
     node-count : o .counts .nodes ≡ length (studyOf file .nodes)
     unfolding countsOf
     node-count = ap (λ (c : RowCounts). c .nodes) (rw read at (j .counts))
 
-    pub case-of-file : CaseOf (gridOf (studyOf file)) runs (generationIn o) (demandIn o) (moneyIn o)
-    case-of-file =
+    pub figures-of-file : figuresOver (o .counts .nodes) (o .settings) (o .nodes .«generation_zone») (o .tec .scaling) (o .tec .paying) (o .nodes .«demand_zone») (o .nodes .demand) (runs .wider) (runs .local)
+        ≡ figuresOf (gridOf (studyOf file)) runs
+    unfolding gridOf
+    figures-of-file =
         let S = studyOf file in
         let es = rw read at (j .settings) in
         let en = rw read at (j .nodes) in
         let et = rw read at (j .tec) in
-        let w = accepted .whole in
-        let e = starts.counts file runs w .0 in
-        let wider = w .solutions 5 (record { least = omega arith; most = omega arith }) in
-        let local = w .solutions 6 (record { least = omega arith; most = omega arith }) in
-        case-of S (accepted .tables) runs _ _ _ (solved-in-range S runs (accepted .solved))
-        few-nodes
-        (omega (arith, e, wider, w .widerRun))
-        (omega (arith, e, local, w .localRun))
-        (generation-of S few-nodes o node-count es en et)
-        (demand-of S few-nodes o node-count es en et)
-        (money-of S few-nodes o node-count es en et)
+        case-is (gridOf S) runs fits (o .counts .nodes) (o .nodes .«generation_zone») (o .tec .scaling) (o .tec .paying) (o .nodes .«demand_zone») (o .nodes .demand)
+        (generation-of S few-nodes o node-count en et)
+        (demand-of S few-nodes o node-count en et)
+        (o .settings) es

@@ -1,14 +1,4 @@
 // 01, steps 6 to 10: what each zone and each node pays. The figures of a case that nothing stops.
-mod case;
-mod income;
-mod inputs;
-mod local;
-mod rests;
-mod sides;
-mod sums;
-mod tariffs;
-mod zones;
-
 use meaning::Answer;
 use meaning::Figures;
 ghost use mathlib.Core.Path.{_≡_};
@@ -33,8 +23,23 @@ pub fn charge(file: &[u8], base: &[i64], wider: &[i64], local: &[i64]) -> Charge
             figures: steps::no_figures(),
         };
     }
+    let generation_zone = opened.nodes.generation_zone;
+    let demand_zone = opened.nodes.demand_zone;
+    let demand = opened.nodes.demand;
+    let tec = opened.tec.scaling;
+    let paying = opened.tec.paying;
     Charged {
         answer: answer,
-        figures: inputs::figures_in(opened, wider, local),
+        figures: tariffs::figures(
+            opened.counts.nodes,
+            opened.settings,
+            generation_zone,
+            tec,
+            paying,
+            demand_zone,
+            demand,
+            wider,
+            local,
+        ),
     }
 }

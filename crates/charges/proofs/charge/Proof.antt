@@ -4,7 +4,7 @@ use Prim.Native.Nat.{ℕ}
 use Rattle.meaning.specs.Study.{Runs}
 use Rattle.tables.specs.declared.Opened.{Opened}
 use Rattle.proposal.specs.Judges.{runsOf}
-use Rattle.charges.proofs.Charging.{stopped, fitting, charged}
+use Rattle.charges.proofs.Charging.{stopped, charged}
 use borrow.Author.Needs.{needs}
 use Rattle.charges.proofs.charge.Statement.{statement}
 use Rattle.charges.proofs.charge.Tie as tie
@@ -38,16 +38,14 @@ returns c =
     let a = d .before in
     stopped (bytes a) (runs a) (read a) (a .before .«open» .ensures) _ (a .is-refusal .ensures) (d .if1 .taken) (c .no-figures .ensures)
 
-figures-in-requires : tie.Need-figures-in-requires
-figures-in-requires c κs =
-    let a = c .before in
-    fitting (bytes a) (runs a) (read a) (a .before .«open» .ensures) _ (a .is-refusal .ensures) (c .if1 .left)
+figures-requires : tie.Need-figures-requires
+figures-requires c κs = search needs
 
 returns-2 : tie.Need-returns-2
 returns-2 c =
-    let d = c .before in
+    let d = c .before .before .before .before .before .before in
     let a = d .before in
-    charged (bytes a) (runs a) (read a) (a .before .«open» .ensures) _ (a .is-refusal .ensures) (d .if1 .left) (c .figures-in .ensures)
+    charged (bytes a) (runs a) (read a) (a .before .«open» .ensures) _ (a .is-refusal .ensures) (d .if1 .left) (c .figures .ensures)
 
 pub charge-spec : {M : Type 1} → statement M
 charge-spec =
@@ -57,5 +55,5 @@ charge-spec =
     is-refusal-requires
     no-figures-requires
     returns
-    figures-in-requires
+    figures-requires
     returns-2)

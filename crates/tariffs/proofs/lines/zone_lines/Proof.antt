@@ -1,0 +1,83 @@
+-- The invariant: a column of the zones passed.
+use mathlib.Core.Path.{_≡_, sym, _∙_, ap}
+use mathlib.Core.List.{List}
+use Prim.Native.Nat.{ℕ, _≤_, _-_}
+use native.Mathlib.Omega.{arith}
+use lib.ListN.{replicate}
+use Rattle.meaning.specs.declared.MicroPerKw.{MicroPerKw}
+use Rattle.meaning.specs.declared.ZoneFigures.{ZoneFigures}
+use Rattle.meaning.specs.Columns.{column, noLine}
+use Rattle.meaning.proofs.Columns.{column-none, column-turn}
+use Rattle.zones.specs.declared.ZoneSums.{ZoneSums}
+use Rattle.tariffs.specs.declared.lines.Terms.{Terms}
+use Rattle.tariffs.specs.Over.{sumsIn}
+use Rattle.tariffs.specs.Lines.{lineFrom}
+use Rattle.tariffs.proofs.lines.zone_lines.Statement.{statement}
+use Rattle.tariffs.proofs.lines.zone_lines.Tie as tie
+
+abbrev mine : Terms → MicroPerKw → List ZoneSums → ℕ → ZoneFigures
+mine terms residual sums k = lineFrom terms residual (sumsIn sums k)
+
+abbrev Inv-loop : tie.InvT-loop
+Inv-loop count terms residual sums all₀ k₀ all k = (k ≤ count) × (all ≡ column noLine 32 k (mine terms residual sums))
+
+abbrev μ-loop : tie.MeasureT-loop
+μ-loop count terms residual sums all₀ k₀ all k = count - k
+
+no-line-requires : tie.Need-no-line-requires Inv-loop μ-loop
+no-line-requires c κs = tt
+
+loop-holds : tie.Need-loop-holds Inv-loop μ-loop
+loop-holds c = (omega arith, ap (replicate 32) (c .no-line .ensures) ∙ sym (column-none _ _ _))
+
+mul-zone-line : tie.Need-mul-zone-line Inv-loop μ-loop
+mul-zone-line c = omega arith
+
+array-copy-out-zone-line : tie.Need-array-copy-out-zone-line Inv-loop μ-loop
+array-copy-out-zone-line c = omega arith
+
+zone-line-requires : tie.Need-zone-line-requires Inv-loop μ-loop
+zone-line-requires c κs =
+    let l = c .before .before in
+    let p = l .before .before .pre in
+    (p .0 .each (l .loop .k) (omega arith), p .2, p .3)
+
+mul-all : tie.Need-mul-all Inv-loop μ-loop
+mul-all c = omega arith
+
+array-set-from-all : tie.Need-array-set-from-all Inv-loop μ-loop
+array-set-from-all c = omega arith
+
+add-k : tie.Need-add-k Inv-loop μ-loop
+add-k c = omega arith
+
+loop-less : tie.Need-loop-less Inv-loop μ-loop
+loop-less c = omega arith
+
+loop-again : tie.Need-loop-again Inv-loop μ-loop
+loop-again c =
+    let l = c .before .before .before in
+    (omega arith, column-turn noLine 32 _ (l .loop .k) (omega arith) (l .loop .inv .1) (c .zone-line .ensures))
+
+returns : tie.Need-returns Inv-loop μ-loop
+returns c =
+    let e : c .before .loop .k ≡ c .before .before .before .args .count = omega arith in
+    rw e at (c .before .loop .inv .1)
+
+pub zone-lines-spec : {M : Type 1} → statement M
+zone-lines-spec =
+    tie.close
+    (tie.spec
+    Inv-loop
+    μ-loop
+    no-line-requires
+    loop-holds
+    mul-zone-line
+    array-copy-out-zone-line
+    zone-line-requires
+    mul-all
+    array-set-from-all
+    add-k
+    loop-less
+    loop-again
+    returns)

@@ -1,0 +1,4 @@
+pub mod Over
+pub mod Lines
+pub mod Sides
+pub mod Case

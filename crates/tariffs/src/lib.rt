@@ -1,0 +1,33 @@
+// 01, steps 6 to 10 of a case, from its columns: C, tariffs, incomes, rests and residuals. Every input has its answer: no figures where a setting or a total is out of range.
+mod case;
+mod lines;
+mod over;
+mod rests;
+
+use layout::StudySettings;
+use meaning::Figures;
+use meaning::Kw;
+use meaning::Side;
+ghost use mathlib.Core.Path.{_≡_};
+ghost use Rattle.tariffs.specs.Case.{figuresOver};
+
+// The figures of a case, by each node's zones, TEC that weighs, TEC that pays and demand, and by its wider and local potentials.
+pub fn figures(
+    nodes: usize,
+    settings: StudySettings,
+    generation_zone: [usize; 256],
+    tec: [Kw; 256],
+    paying: [Kw; 256],
+    demand_zone: [usize; 256],
+    demand: [Kw; 256],
+    wider: &[i64],
+    local: &[i64],
+) -> Figures
+    ensures { λ r. ⌜ r ≡ figuresOver nodes settings «generation_zone» tec paying «demand_zone» demand (now (wider .entry)) (now (local .entry)) ⌝ }
+{
+    let up = zones::sums_by_zone(Side::Generation, nodes, generation_zone, tec, paying, wider);
+    let down = zones::sums_by_zone(Side::Demand, nodes, demand_zone, demand, demand, wider);
+    let lines = prices::local_lines(nodes, tec, local, settings.constant, settings.local_factor);
+    let income = prices::local_income(nodes, lines, paying);
+    case::ranged_figures(settings, up, down, nodes, lines, income)
+}
