@@ -4,13 +4,11 @@ mod tec;
 
 ghost use mathlib.Core.Path.{_≡_};
 ghost use Rattle.meaning.specs.Tables.{stationsStage};
-ghost use Rattle.meaning.specs.Grid.{plantOf, scales as scalesIn, pays as paysIn};
 ghost use Rattle.layout.specs.Readable.{readable};
 ghost use Rattle.station_table.specs.Columns.{stationsOf};
 ghost use Rattle.station_table.specs.Tec.{tecOf};
 use meaning::Answer;
 use meaning::Kw;
-use meaning::Plant;
 
 // The number of each station's node, its plant type and TEC.
 pub struct StationColumns {
@@ -51,51 +49,6 @@ pub fn columns(file: &[u8]) -> StationColumns
     let plant = fields::column(file, at + 24, 32, count);
     let tec = tec::by_station(file, start + 28, count);
     StationColumns { node, plant, tec }
-}
-
-// The plant type of a number.
-pub fn plant_of(number: usize) -> Plant
-    ensures { λ r. ⌜ r ≡ plantOf number ⌝ }
-{
-    match number {
-        1 => Plant::Intermittent,
-        2 => Plant::NuclearAndCcs,
-        3 => Plant::Interconnector,
-        4 => Plant::Hydro,
-        5 => Plant::PumpedStorage,
-        6 => Plant::Peaking,
-        _ => Plant::Other,
-    }
-}
-
-// Whether the TEC of a plant type scales and weighs.
-pub fn scales(plant: Plant) -> bool
-    ensures { λ r. ⌜ r ≡ scalesIn plant ⌝ }
-{
-    match plant {
-        Plant::Intermittent => true,
-        Plant::NuclearAndCcs => true,
-        Plant::Interconnector => true,
-        Plant::Hydro => true,
-        Plant::PumpedStorage => true,
-        Plant::Peaking => true,
-        Plant::Other => true,
-    }
-}
-
-// Whether the TEC of a plant type pays.
-pub fn pays(plant: Plant) -> bool
-    ensures { λ r. ⌜ r ≡ paysIn plant ⌝ }
-{
-    match plant {
-        Plant::Intermittent => true,
-        Plant::NuclearAndCcs => true,
-        Plant::Interconnector => true,
-        Plant::Hydro => true,
-        Plant::PumpedStorage => true,
-        Plant::Peaking => true,
-        Plant::Other => true,
-    }
 }
 
 // The columns of the stations, and the TEC of each node.

@@ -59,11 +59,11 @@ pub fn by_type(stations: StationColumns, nodes: usize, count: usize) -> [Kw; 179
 pub fn is_added(paying: bool, cell: usize) -> bool
     ensures { λ r. ⌜ r ≡ added paying (plantOf (cell % 7 + 1)) ⌝ }
 {
-    let plant = crate::plant_of(cell % 7 + 1);
+    let plant = plants::plant_of(cell % 7 + 1);
     if paying {
-        return crate::pays(plant);
+        return plants::pays(plant);
     }
-    crate::scales(plant)
+    plants::scales(plant)
 }
 
 // What is added up of a cell's TEC.

@@ -1,8 +1,8 @@
 use mathlib.Core.Path.{sym, ap}
 use borrow.Author.Tests.{ne-eqb}
 use Rattle.meaning.specs.Grid.{plantOf}
-use Rattle.station_table.proofs.plant_of.Statement.{statement}
-use Rattle.station_table.proofs.plant_of.Tie as tie
+use Rattle.plants.proofs.plant_of.Statement.{statement}
+use Rattle.plants.proofs.plant_of.Tie as tie
 
 returns : tie.Need-returns
 unfolding plantOf
