@@ -9,7 +9,7 @@ use Rattle.integers.specs.Numbers.{sum}
 use Rattle.integers.proofs.Sum.{sum-same}
 use Rattle.meaning.specs.declared.Kw.{Kw}
 use Rattle.meaning.specs.Rows as R
-use Rattle.meaning.specs.Study.{Settings, Circuit, Study}
+use Rattle.meaning.specs.Study.{Settings, Circuit, Study, Runs}
 use Rattle.meaning.specs.Grid.{gridOf, nodeTec, nodeDemand, totalTec, totalDemand}
 use Rattle.meaning.specs.declared.System.the-variants.{Base}
 use Rattle.meaning.specs.Scaled.{scaled}
@@ -18,6 +18,7 @@ use Rattle.meaning.specs.Direction.{expandedLength}
 use Rattle.meaning.specs.Conditions.{SoundSettings, SoundTables}
 use Rattle.meaning.proofs.Says.{says-le, _also_}
 use Rattle.meaning.proofs.Tables.{says-totals}
+use Rattle.sizes.proofs.Scaling.{systems-fit}
 use Rattle.layout.specs.declared.RowCounts.{RowCounts}
 use Rattle.layout.specs.declared.StudySettings.{StudySettings}
 use Rattle.node_table.specs.declared.NodeColumns.{NodeColumns}
@@ -26,14 +27,12 @@ use Rattle.circuit_table.specs.Lengths.{lengthInRange, lengthIfInRange}
 use Rattle.layout.specs.Frame.{countsOf, settingsIn}
 use Rattle.node_table.specs.Columns.{nodesOf}
 use Rattle.circuit_table.specs.Columns.{circuitsOf}
-use Rattle.proposal.specs.Columns.{Filled}
 use Rattle.meaning.specs.Columns.{kilowatts, kwAt}
 use Rattle.tables.specs.declared.Opened.{Opened}
 use Rattle.supply.specs.Supply.{baseSupply}
 use Rattle.supply.proofs.Bounds.{base-supply-at}
 use Rattle.proposal.specs.Case.{caseOf}
-use Rattle.proposal.proofs.Filled.{filled-as}
-use Rattle.proposal.proofs.Told.{Told, kw-at, scaled-same, filled-rows, overhead-in, cable-in}
+use Rattle.proposal.proofs.Told.{Told, kw-at, scaled-same, of-rows, overhead-in, cable-in}
 
 -- a sound row's length is in range
 long-is : (s : Settings) (nodes : ℕ) → SoundSettings nodes s → (c : Circuit) → c .overhead ≤ 500000 → c .cable ≤ 500000 → lengthIfInRange s c ≡ expandedLength s c
@@ -71,21 +70,21 @@ module _ (S : Study) (sound : SoundTables S) (few : length (S .nodes) ≤ 256) (
   unfolding settingsIn
   reference-row = ap (λ (s : Settings). s .reference) es
 
-  tec-filled : Filled (kilowatts 0) 256 (λ v. kilowatts (nodeTec (gridOf S) v)) (rows .nodes) scaling
-  tec-filled = filled-rows (kilowatts 0) 256 _ _ scaling (omega (arith, node-count)) et
+  tec-at : (v : ℕ) → v < rows .nodes → kwAt scaling v ≡ nodeTec (gridOf S) v
+  tec-at v h = kw-at (of-rows (kilowatts 0) 256 _ _ scaling (omega (arith, node-count)) et v h)
 
-  demand-filled : Filled (kilowatts 0) 256 (λ v. kilowatts (nodeDemand (gridOf S) v)) (rows .nodes) (nodes .demand)
+  demand-at : (v : ℕ) → v < rows .nodes → kwAt (nodes .demand) v ≡ nodeDemand (gridOf S) v
   unfolding nodesOf gridOf
-  demand-filled = filled-rows (kilowatts 0) 256 _ _ (nodes .demand) (omega (arith, node-count)) (ap (λ (n : NodeColumns). n .demand) en)
+  demand-at v h = kw-at (of-rows (kilowatts 0) 256 _ _ (nodes .demand) (omega (arith, node-count)) (ap (λ (n : NodeColumns). n .demand) en) v h)
 
   total-tec : sum (rows .nodes) (kwAt scaling) ≡ totalTec (gridOf S)
   unfolding gridOf
-  total-tec = sum-same (rows .nodes) (kwAt scaling) (nodeTec (gridOf S)) (λ v h. kw-at (tec-filled .at v h)) ∙ ap (λ (n : ℕ). sum n (nodeTec (gridOf S))) node-count
+  total-tec = sum-same (rows .nodes) (kwAt scaling) (nodeTec (gridOf S)) tec-at ∙ ap (λ (n : ℕ). sum n (nodeTec (gridOf S))) node-count
 
   total-demand : sum (rows .nodes) (kwAt (nodes .demand)) ≡ totalDemand (gridOf S)
   unfolding gridOf
   total-demand =
-      sum-same (rows .nodes) (kwAt (nodes .demand)) (nodeDemand (gridOf S)) (λ v h. kw-at (demand-filled .at v h)) ∙ ap (λ (n : ℕ). sum n (nodeDemand (gridOf S))) node-count
+      sum-same (rows .nodes) (kwAt (nodes .demand)) (nodeDemand (gridOf S)) demand-at ∙ ap (λ (n : ℕ). sum n (nodeDemand (gridOf S))) node-count
 
   pub reference-least : 1 ≤ settings .reference
   reference-least = omega (arith, reference-row, sound .settings .reference .least)
@@ -97,22 +96,22 @@ module _ (S : Study) (sound : SoundTables S) (few : length (S .nodes) ≤ 256) (
       base-supply-at (rows .nodes) scaling (nodes .demand) (omega (arith, node-count))
       (rw (total-demand, total-tec) (says-totals _ _ .1 ((sound .demandTotal, sound .tecTotal), sound .enough))) v h
       ∙ ap₂ (λ (a d : ℕ). pos 1000000 *ℤ (pos a -ℤ pos d))
-      (scaled-same (rows .nodes) (kwAt scaling) (nodeTec (gridOf S)) (sum (rows .nodes) (kwAt (nodes .demand))) (λ i l. kw-at (tec-filled .at i l)) v h
+      (scaled-same (rows .nodes) (kwAt scaling) (nodeTec (gridOf S)) (sum (rows .nodes) (kwAt (nodes .demand))) tec-at v h
       ∙ ap₂ (λ (n d : ℕ). scaled n (nodeTec (gridOf S)) d v) node-count total-demand)
-      (kw-at (demand-filled .at v h))
+      (demand-at v h)
 
-  pub case-told : Told (gridOf S) (caseOf o)
+  pub case-told : Runs → Told (gridOf S) (caseOf o)
   unfolding caseOf circuitsOf gridOf
-  case-told =
-      let m : rows .circuits ≤ 512 = omega (arith, circuit-count) in
+  case-told runs =
       record {
         nodes = node-count;
-        circuits = circuit-count;
         reference = ap (λ (r : ℕ). r - 1) reference-row;
-        first = filled-rows 0 512 _ _ (ends .first) m (ap (λ (e : CircuitColumns). e .first) ee);
-        second = filled-rows 0 512 _ _ (ends .second) m (ap (λ (e : CircuitColumns). e .second) ee);
-        x = filled-rows 0 512 _ _ (ends .x) m (ap (λ (e : CircuitColumns). e .x) ee);
-        lengths = filled-as (λ c h. let r = sound .circuits c (omega (arith, circuit-count)) in long-is (S .settings) _ (sound .settings) _ (r .overhead) (r .cable)) (filled-rows 0 512 _ _ (ends .length) m (ap (λ (e : CircuitColumns). e .length) ee));
-        marks = filled-rows 0 512 _ _ (ends .mark) m (ap (λ (e : CircuitColumns). e .mark) ee);
+        first = of-rows 0 512 _ _ (ends .first) fewer (ap (λ (e : CircuitColumns). e .first) ee);
+        second = of-rows 0 512 _ _ (ends .second) fewer (ap (λ (e : CircuitColumns). e .second) ee);
+        x = of-rows 0 512 _ _ (ends .x) fewer (ap (λ (e : CircuitColumns). e .x) ee);
+        lengths = λ c h. of-rows 0 512 _ _ (ends .length) fewer (ap (λ (e : CircuitColumns). e .length) ee) c h
+            ∙ (let r = sound .circuits c h in long-is (S .settings) _ (sound .settings) _ (r .overhead) (r .cable));
+        short = systems-fit S sound runs .expanded;
+        marks = of-rows 0 512 _ _ (ends .mark) fewer (ap (λ (e : CircuitColumns). e .mark) ee);
         supply = supplied;
       }

@@ -1,10 +1,5 @@
-pub mod Sizes
-pub mod Filled
-pub mod Net
-pub mod MissSum
 pub mod Stages
 pub mod Same
-pub mod Marks
 pub mod Cases
 pub mod Told
 pub mod Sound

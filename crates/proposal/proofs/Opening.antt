@@ -11,18 +11,21 @@ use Rattle.meaning.specs.Answers.{stops}
 use Rattle.meaning.specs.Study.{Study, Runs}
 use Rattle.meaning.specs.File.{studyOf}
 use Rattle.meaning.specs.Grid.{gridOf}
-use Rattle.meaning.specs.Systems.{proposalsStage}
+use Rattle.meaning.specs.declared.System.{System}
+use Rattle.meaning.specs.declared.System.the-variants.{Base, Wider, Local}
+use Rattle.meaning.specs.Systems.{runOf, proposalsStage}
 use Rattle.meaning.specs.Outcome.{judged}
 use Rattle.station_table.specs.declared.TecColumns.{TecColumns}
 use Rattle.station_table.specs.Tec.{tecOf}
 use Rattle.tables.specs.declared.Opened.{Opened}
 use Rattle.tables.specs.Opens.{Opens}
 use Rattle.tables.proofs.Sound.{SoundOpened, opened-sound}
-use Rattle.proposal.specs.declared.case.Case.{Case}
+use Rattle.flows.specs.declared.Case.{Case}
+use Rattle.flows.specs.Flows.{circuitsIn}
 use Rattle.proposal.specs.Case.{caseOf, proposalsIn, Judgeable}
 use Rattle.proposal.specs.Judges.{withAnswer, Judges}
 use Rattle.proposal.proofs.Told.{Told, proposals-told}
-use Rattle.proposal.proofs.Sound.{judgeable}
+use Rattle.proposal.proofs.Sound.{circuits-in, judgeable}
 use Rattle.proposal.proofs.CaseOf.{reference-least, case-told}
 use Rattle.proposal.proofs.Chain.{chain-stops, chain-passes}
 
@@ -59,11 +62,19 @@ module _ (file : List ℕ) (runs : Runs) (o : Opened) (t : Opens file (length (r
     unfolding tecOf
     told-case =
         case-told S (s .tables) few fewer o (s .counts) (s .settings) (s .nodes) (s .circuits)
-        (ap (λ (c : TecColumns). c .scaling) (s .tec))
+        (ap (λ (c : TecColumns). c .scaling) (s .tec)) runs
+
+    of-length : {m : ℕ} → m ≡ o .counts .nodes + o .counts .circuits → m ≡ length (S .nodes) + length (S .circuits)
+    of-length l = omega (arith, s .nodeCount, s .circuitCount)
 
     can-judge : (run : List ℤ) → length run ≡ o .counts .nodes + o .counts .circuits → Judgeable (caseOf o) (runs .base) run
-    can-judge run l =
-        judgeable S (caseOf o) told-case (s .tables) few fewer runs run (omega (arith, s .baseRun, s .nodeCount, s .circuitCount)) (omega (arith, s .nodeCount, s .circuitCount))
+    can-judge run l = judgeable S (caseOf o) told-case (s .tables) few fewer (runs .base) run (of-length (s .baseRun)) (of-length l)
+
+    circuits-of : (system : System) → circuitsIn (caseOf o .nodes) (length (runOf runs system)) ≡ length (S .circuits)
+    unfolding runOf
+    circuits-of Base = circuits-in S (caseOf o) told-case (s .tables) few fewer (runs .base) (of-length (s .baseRun))
+    circuits-of Wider = circuits-in S (caseOf o) told-case (s .tables) few fewer (runs .wider) (of-length (s .widerRun))
+    circuits-of Local = circuits-in S (caseOf o) told-case (s .tables) few fewer (runs .local) (of-length (s .localRun))
 
     pub passed-judgeable : (k : Case) → k ≡ caseOf o → Judgeable k (runs .base) (runs .base) × Judgeable k (runs .base) (runs .wider) × Judgeable k (runs .base) (runs .local)
     passed-judgeable k q = rw q (can-judge _ (s .baseRun), can-judge _ (s .widerRun), can-judge _ (s .localRun))
@@ -74,4 +85,4 @@ module _ (file : List ℕ) (runs : Runs) (o : Opened) (t : Opens file (length (r
     proposals-decide k q r f w g =
         rw g (with-answer r
         (chain-passes _ (proposalsStage (gridOf S) runs) (o .answer) told (t .answer) e r h
-        (f ∙ ap (λ (c : Case). proposalsIn c (runs .base) (runs .wider) (runs .local)) q ∙ proposals-told (gridOf S) (caseOf o) told-case (s .nodesFew .most) runs (s .tables .settings))))
+        (f ∙ ap (λ (c : Case). proposalsIn c (runs .base) (runs .wider) (runs .local)) q ∙ proposals-told (gridOf S) (caseOf o) told-case (s .nodesFew .most) runs (s .tables .settings) circuits-of)))

@@ -4,11 +4,12 @@ use mathlib.Core.Bool.{Bool, true, false, not}
 use mathlib.Core.List.{List}
 use mathlib.Core.Option.{none, some}
 use Prim.Native.Nat.{ℕ, suc, _+_, _≤_, _<_}
-use native.Mathlib.Decide.{ℕ-discrete}
+use native.Mathlib.Decide.{ℕ-discrete, decLt}
 use native.Mathlib.Numerals.{add-one}
 use native.Mathlib.Omega.{arith}
 use lib.Dec.{leb}
 use lib.IntN.{ℤ, pos, natAbs}
+use lib.ListN.{length, List·getD-eq-default}
 use Rattle.meaning.specs.declared.System.{System}
 use Rattle.meaning.specs.declared.System.the-variants.{Base, Wider, Local}
 use Rattle.meaning.specs.declared.Answer.the-variants.{BadNumber, Unbalanced, MissesTooHigh}
@@ -22,7 +23,7 @@ use Rattle.meaning.proofs.Answers.{passed-passes, orElse-stops, orElse-passes}
 use Rattle.meaning.proofs.Rows.{rows-at}
 use Rattle.meaning.proofs.Rows.{lowest-same}
 use Rattle.numbers.specs.Numbers.{evenIn, pinned, rowOf}
-use Rattle.proposal.specs.Columns.{number, netFlow, Ranged}
+use Rattle.flows.specs.Flows.{number, netFlow}
 use Rattle.numbers.proofs.Found.{AllPass, row-is, row-below, row-beyond}
 use Rattle.numbers.proofs.Range.{flow-in-range, reference-in-range, potential-in-range}
 
@@ -48,13 +49,13 @@ module _ (N : Network) (P : Proposed) where
   number-row row k limit e l h = rw (← e, ← l) h
 
   -- what was found among 256 rows, of the network's nodes
-  module _ (row : ℕ) (net supply : List ℤ) (few : N .nodes ≤ 256) (s : P .supply ≡ number supply) (e : net ≡ rows 256 (netFlow N (P .run)))
+  module _ (row : ℕ) (net supply : List ℤ) (few : N .nodes ≤ 256) (s : P .supply ≡ number supply) (e : net ≡ rows 256 (netFlow N (flow N (P .run))))
       (h : row ≡ rowOf (failing (evenIn net supply) 256) 256) where
     nodes-as : failing (evenIn net supply) (N .nodes) ≡ failing (nodes N P) (N .nodes)
     unfolding balanced
     nodes-as =
         lowest-same (λ v. not (evenIn net supply v)) (λ v. not (nodes N P v)) (N .nodes)
-        (λ v l. ap not (ap₂ same (ap (λ l. number l v) e ∙ rows-at (pos 0) 256 (netFlow N (P .run)) v (omega arith)) (ap (λ f. f v) (sym s))))
+        (λ v l. ap not (ap₂ same (ap (λ l. number l v) e ∙ rows-at (pos 0) 256 (netFlow N (flow N (P .run))) v (omega arith)) (ap (λ f. f v) (sym s))))
 
     pub node-found : row < N .nodes → failing (nodes N P) (N .nodes) ≡ some row
     node-found l = sym nodes-as ∙ row-below (evenIn net supply) (N .nodes) 256 row few h l
@@ -69,15 +70,19 @@ limit-small Base = omega arith
 limit-small Wider = omega arith
 limit-small Local = omega arith
 
-pub ranged : (N : Network) (limit : ℕ) (run : List ℤ) → limit ≤ 2000000000000000000 → AllPass (numberInRange N limit run) (N .nodes + N .circuits) → Ranged (N .nodes) (N .circuits) run
-ranged N limit run h p = record {
-  potentials = λ v l. go v l (ℕ-discrete v (N .reference));
-  flows = λ c l. says-le .0 (sym (flow-in-range N limit run (N .nodes + c) (omega arith)) ∙ p .each (N .nodes + c) (omega arith));
-}
-  where
-    go : (v : ℕ) → v < N .nodes → Dec (v ≡ N .reference) → natAbs (potential run v) ≤ 2000000000000000000
-    go v l (yes e) = omega (arith, says-le {m = natAbs (potential run v)} {n = 0} .0 (sym (reference-in-range N limit run v l e) ∙ p .each v (omega arith)))
-    go v l (no e) = omega (arith, says-le {m = natAbs (potential run v)} {n = limit} .0 (sym (potential-in-range N limit run v l e) ∙ p .each v (omega arith)))
+module _ (N : Network) (limit : ℕ) (run : List ℤ) (h : limit ≤ 2000000000000000000) (p : AllPass (numberInRange N limit run) (N .nodes + N .circuits)) where
+  pub flows-small : (c : ℕ) → c < N .circuits → natAbs (flow N run c) ≤ 100000000000000
+  flows-small c l = says-le .0 (sym (flow-in-range N limit run (N .nodes + c) (omega arith)) ∙ p .each (N .nodes + c) (omega arith))
+
+  -- any number of the run, and 0 past its end
+  pub numbers-small : length run ≡ N .nodes + N .circuits → (i : ℕ) → natAbs (potential run i) ≤ 2000000000000000000
+  numbers-small e i = go (decLt i (N .nodes)) (ℕ-discrete i (N .reference)) (decLt i (length run))
+    where
+      go : Dec (i < N .nodes) → Dec (i ≡ N .reference) → Dec (i < length run) → natAbs (potential run i) ≤ 2000000000000000000
+      go (yes l) (yes q) k = omega (arith, says-le {m = natAbs (potential run i)} {n = 0} .0 (sym (reference-in-range N limit run i l q) ∙ p .each i (omega arith)))
+      go (yes l) (no q) k = omega (arith, says-le {m = natAbs (potential run i)} {n = limit} .0 (sym (potential-in-range N limit run i l q) ∙ p .each i (omega arith)))
+      go (no l) q (yes k) = omega (arith, says-le {m = natAbs (potential run i)} {n = 100000000000000} .0 (sym (flow-in-range N limit run i (omega arith)) ∙ p .each i (omega arith)))
+      go (no l) q (no k) = rw (List·getD-eq-default run (pos 0) {n = i} (omega arith)) (omega arith)
 
 -- ---- the chain
 module _ (N : Network) (P : Proposed) where

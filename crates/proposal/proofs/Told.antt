@@ -26,32 +26,29 @@ use Rattle.meaning.specs.Systems.{runOf, net, supply, lengthOf, offset, propose
 use Rattle.meaning.specs.Conditions.{InRange, SoundSettings}
 use Rattle.meaning.proofs.Rows.{rows-at, length-rows}
 use Rattle.meaning.proofs.Rows.{lowest-same}
-use Rattle.proposal.specs.declared.case.Case.{Case}
-use Rattle.proposal.specs.Columns.{number, Filled}
+use Rattle.flows.specs.declared.Case.{Case}
+use Rattle.flows.specs.Flows.{number, circuitsIn, netIn, signedBy, offsetIn, offsetAt}
+use Rattle.flows.proofs.Signed.{signed-is}
 use Rattle.numbers.specs.Numbers.{clearBy}
-use Rattle.proposal.specs.Offsets.{offsetIn, offsetAt}
-use Rattle.meaning.specs.Columns.{kilowatts}
+use Rattle.meaning.specs.Columns.{kilowatts, numberAt}
 use Rattle.supply.specs.Supply.{supplyIn}
-use Rattle.proposal.specs.Case.{netIn, offeredIn, solutionIn, doubtIn, proposalsIn}
+use Rattle.proposal.specs.Case.{offeredIn, solutionIn, doubtIn, proposalsIn}
 use Rattle.proposal.proofs.Same.{system-alike}
 
--- a column made row by row
-pub filled-rows : {A : Type 0} (nothing : A) (size count : ℕ) (f : ℕ → A) (column : List A) → count ≤ size → column ≡ rows size f → Filled nothing size f count column
-filled-rows nothing size count f column h e = record {
-  long = ap (λ (l : List _). length l) e ∙ length-rows size f;
-  at = λ i k. ap (λ (l : List _). getD l i nothing) e ∙ rows-at nothing size f i (omega arith);
-}
+-- number i of a column made row by row
+pub of-rows : {A : Type 0} (nothing : A) (size count : ℕ) (f : ℕ → A) (column : List A) → count ≤ size → column ≡ rows size f → (i : ℕ) → i < count → getD column i nothing ≡ f i
+of-rows nothing size count f column h e i k = ap (λ (l : List _). getD l i nothing) e ∙ rows-at nothing size f i (omega arith)
 
 -- the columns of a grid
 pub record Told (G : Grid) (k : Case) : Type 0 where
   pub nodes : k .nodes ≡ length (G .nodes)
-  pub circuits : k .circuits ≡ length (G .circuits)
   pub reference : k .reference ≡ G .settings .reference - 1
-  pub first : Filled 0 512 (λ c. place (G .nodes) (circuit (G .circuits) c .first)) (k .circuits) (k .first)
-  pub second : Filled 0 512 (λ c. place (G .nodes) (circuit (G .circuits) c .second)) (k .circuits) (k .second)
-  pub x : Filled 0 512 (λ c. circuit (G .circuits) c .x) (k .circuits) (k .x)
-  pub lengths : Filled 0 512 (λ c. expandedLength (G .settings) (circuit (G .circuits) c)) (k .circuits) (k .length)
-  pub marks : Filled 0 512 (λ c. circuit (G .circuits) c .localMark) (k .circuits) (k .mark)
+  pub first : (c : ℕ) → c < length (G .circuits) → numberAt (k .first) c ≡ place (G .nodes) (circuit (G .circuits) c .first)
+  pub second : (c : ℕ) → c < length (G .circuits) → numberAt (k .second) c ≡ place (G .nodes) (circuit (G .circuits) c .second)
+  pub x : (c : ℕ) → c < length (G .circuits) → numberAt (k .x) c ≡ circuit (G .circuits) c .x
+  pub lengths : (c : ℕ) → c < length (G .circuits) → numberAt (k .length) c ≡ expandedLength (G .settings) (circuit (G .circuits) c)
+  pub short : (c : ℕ) → c < length (G .circuits) → expandedLength (G .settings) (circuit (G .circuits) c) ≤ 30000000000
+  pub marks : (c : ℕ) → c < length (G .circuits) → numberAt (k .mark) c ≡ circuit (G .circuits) c .localMark
   pub supply : (v : ℕ) → v < k .nodes → number (k .supply) v ≡ supply G Base v
 
 -- ---- step 1 sees the TEC of the n nodes alone
@@ -117,43 +114,46 @@ module _ (G : Grid) (k : Case) (t : Told G k) (few : k .nodes ≤ 256) (runs : R
   supply-told Wider v h = getD-replicate 256 v (pos 0) (pos 0) (omega arith)
   supply-told Local v h = getD-replicate 256 v (pos 0) (pos 0) (omega arith)
 
-  pub offset-told : (system : System) (c : ℕ) → c < k .circuits → offsetAt system (k .nodes) (k .length) (k .mark) (runs .base) c ≡ offset G runs system c
-  unfolding offsetIn offset lengthOf signedLength networkOf
-  offset-told Base c h = refl
-  offset-told Wider c h = rw (t .marks .at c h, t .lengths .at c h, t .nodes) refl
-  offset-told Local c h = rw (t .marks .at c h, t .lengths .at c h, t .nodes) refl
+  length-told : (c : ℕ) → c < length (G .circuits) → signedBy (numberAt (k .length) c) (number (runs .base) (k .nodes + c)) ≡ lengthOf G runs c
+  unfolding lengthOf signedLength networkOf
+  length-told c h = rw (t .lengths c h, t .nodes) (signed-is _ _ (t .short c h))
 
-  pub net-alike : (system : System) → solutionIn system k (runs .base) (runOf runs system) ≡ solutionStage G runs system
+  offset-told : (system : System) (c : ℕ) → c < length (G .circuits) → offsetAt system k (runs .base) c ≡ offset G runs system c
+  unfolding offsetIn offset
+  offset-told Base c h = refl
+  offset-told Wider c h = rw (t .marks c h, length-told c h) refl
+  offset-told Local c h = rw (t .marks c h, length-told c h) refl
+
+  pub net-alike : (system : System) → circuitsIn (k .nodes) (length (runOf runs system)) ≡ length (G .circuits) → solutionIn system k (runs .base) (runOf runs system) ≡ solutionStage G runs system
   unfolding networkOf proposed
-  net-alike system = system-alike (netIn k) (networkOf G) (offeredIn system k (runs .base) (runOf runs system)) (proposed G runs system) (record {
+  net-alike system m = system-alike (netIn k (runOf runs system)) (networkOf G) (offeredIn system k (runs .base) (runOf runs system)) (proposed G runs system) (record {
     nodes = t .nodes;
-    circuits = t .circuits;
+    circuits = m;
     reference = t .reference;
     system = refl;
     limit = refl;
     run = refl;
-    first = t .first .at;
-    second = t .second .at;
-    x = t .x .at;
-    offset = offset-told system;
+    first = λ c h. t .first c (omega arith);
+    second = λ c h. t .second c (omega arith);
+    x = λ c h. t .x c (omega arith);
+    offset = λ c h. offset-told system c (omega arith);
     supply = λ v h. supply-told system v h;
   })
 
   -- 11
-  clear-same : SoundSettings (length (G .nodes)) (G .settings) → (c : ℕ) → c < k .circuits → clearBy (k .nodes) (k .length) (runs .base) c ≡ directionClear G runs c
+  clear-same : SoundSettings (length (G .nodes)) (G .settings) → (c : ℕ) → c < length (G .circuits) → clearBy (k .nodes) (k .length) (runs .base) c ≡ directionClear G runs c
   unfolding directionClear clearBy networkOf
-  clear-same sound c h = rw (t .lengths .at c h, has-length (G .settings) _ sound (circuit (G .circuits) c), t .nodes) refl
+  clear-same sound c h = rw (t .lengths c h, has-length (G .settings) _ sound (circuit (G .circuits) c), t .nodes) refl
 
-  pub doubt-told : SoundSettings (length (G .nodes)) (G .settings)
-      → doubtIn k (runs .base) ≡ directionStage G runs
+  doubt-told : SoundSettings (length (G .nodes)) (G .settings) → circuitsIn (k .nodes) (length (runs .base)) ≡ length (G .circuits) → doubtIn k (runs .base) ≡ directionStage G runs
   unfolding directionStage
-  doubt-told sound =
+  doubt-told sound m =
       ap (λ o. at o DirectionInDoubt)
-      (lowest-same (λ c. not (clearBy (k .nodes) (k .length) (runs .base) c)) (λ c. not (directionClear G runs c)) (k .circuits) (λ c h. ap not (clear-same sound c h))
-      ∙ ap (failing (directionClear G runs)) (t .circuits))
+      (ap (failing (clearBy (k .nodes) (k .length) (runs .base))) m
+      ∙ lowest-same (λ c. not (clearBy (k .nodes) (k .length) (runs .base) c)) (λ c. not (directionClear G runs c)) (length (G .circuits)) (λ c h. ap not (clear-same sound c h)))
 
   -- the whole chain
-  pub proposals-told : SoundSettings (length (G .nodes)) (G .settings)
+  pub proposals-told : SoundSettings (length (G .nodes)) (G .settings) → ((system : System) → circuitsIn (k .nodes) (length (runOf runs system)) ≡ length (G .circuits))
       → proposalsIn k (runs .base) (runs .wider) (runs .local) ≡ proposalsStage G runs
   unfolding proposalsStage runOf
-  proposals-told sound = ap₂ _orElse_ (net-alike Base) (ap₂ _orElse_ (doubt-told sound) (ap₂ _orElse_ (net-alike Wider) (net-alike Local)))
+  proposals-told sound m = ap₂ _orElse_ (net-alike Base (m Base)) (ap₂ _orElse_ (doubt-told sound (m Base)) (ap₂ _orElse_ (net-alike Wider (m Wider)) (net-alike Local (m Local))))

@@ -1,30 +1,29 @@
 -- A case in columns, as code has it, and what is proposed for a system of it.
+use mathlib.Core.Path.{_≡_}
 use mathlib.Core.List.{List}
-use Prim.Native.Nat.{ℕ, _-_, _≤_, _<_}
-use lib.IntN.{ℤ}
-use lib.ListN.{length, getD}
+use Prim.Native.Nat.{ℕ, _+_, _-_, _≤_, _<_}
+use lib.IntN.{ℤ, natAbs}
+use lib.ListN.{length}
 use Rattle.meaning.specs.declared.System.{System}
 use Rattle.meaning.specs.declared.System.the-variants.{Base, Wider, Local}
 use Rattle.meaning.specs.declared.Answer.{Answer}
 use Rattle.meaning.specs.declared.Answer.the-variants.{DirectionInDoubt}
 use Rattle.meaning.specs.Answers.{_orElse_, at}
 use Rattle.meaning.specs.Rows.{failing}
-use Rattle.meaning.specs.Network.{Network}
+use Rattle.meaning.specs.Columns.{numberAt}
 use Rattle.meaning.specs.Proposal.{Proposed, systemStage}
 use Rattle.meaning.specs.Systems.{limitOf}
 use Rattle.numbers.specs.Numbers.{clearBy}
 use Rattle.tables.specs.declared.Opened.{Opened}
 use Rattle.supply.specs.Supply.{baseSupply, supplyIn}
-use Rattle.proposal.specs.declared.case.Case.{Case}
-use Rattle.proposal.specs.Columns.{number, netOf, Shaped, Ended, Measured}
-use Rattle.proposal.specs.Offsets.{offsetAt, Lengths}
+use Rattle.flows.specs.declared.Case.{Case}
+use Rattle.flows.specs.Flows.{number, circuitsIn, netIn, offsetAt}
 
 -- the case of a file that was opened: the reference counted from 0, and the supply of step 3
 unfoldable pub caseOf : Opened → Case
 caseOf o =
     record {
       nodes = o .counts .nodes;
-      circuits = o .counts .circuits;
       reference = o .settings .reference - 1;
       first = o .circuits .first;
       second = o .circuits .second;
@@ -33,10 +32,6 @@ caseOf o =
       mark = o .circuits .mark;
       supply = baseSupply (o .counts .nodes) (o .tec .scaling) (o .nodes .demand);
     }
-
--- the network of a case
-abbrev pub netIn : Case → Network
-netIn k = netOf (k .nodes) (k .circuits) (k .reference) (k .first) (k .second) (k .x)
 
 -- what is proposed for a system, supply and offset in columns
 abbrev pub proposedIn : System → (supply offset run : List ℤ) → Proposed
@@ -49,11 +44,16 @@ proposedIn system supply offset run =
       run = run;
     }
 
--- what the judge of a system asks of a case; the run's numbers, the supplies and the reference are any
+-- a run of a potential a node and a flow a circuit; 01, Quantities: at most 256 nodes
+pub record Based (k : Case) (run : List ℤ) : Type 0 where
+  pub nodes : k .nodes ≤ 256
+  pub long : length run ≡ k .nodes + circuitsIn (k .nodes) (length run)
+
+-- what the judge of a system asks; the run's numbers, the supplies, the ends and the reference are any
 pub record Ready (k : Case) (offset run : List ℤ) : Type 0 where
-  pub shaped : Shaped (k .nodes) (k .circuits) run
-  pub ended : Ended (k .nodes) (k .circuits) (k .first) (k .second)
-  pub measured : Measured (k .circuits) (k .x) offset
+  pub based : Based k run
+  pub xSmall : (c : ℕ) → c < netIn k run .circuits → numberAt (k .x) c ≤ 10000
+  pub offsetSmall : (c : ℕ) → c < netIn k run .circuits → natAbs (number offset c) ≤ 30000000000000000
 
 -- what is proposed for a system, by its run and the base run
 abbrev pub offeredIn : System → Case → (base run : List ℤ) → Proposed
@@ -62,17 +62,17 @@ offeredIn system k base run =
       system = system;
       limit = limitOf system;
       supply = number (supplyIn system (k .supply));
-      offset = offsetAt system (k .nodes) (k .length) (k .mark) base;
+      offset = offsetAt system k base;
       run = run;
     }
 
 -- 8, 9, 10 of a system
 abbrev pub solutionIn : System → Case → (base run : List ℤ) → Answer
-solutionIn system k base run = systemStage (netIn k) (offeredIn system k base run)
+solutionIn system k base run = systemStage (netIn k run) (offeredIn system k base run)
 
 -- 11: the lowest circuit with a length whose base flow is in doubt
 abbrev pub doubtIn : Case → (base : List ℤ) → Answer
-doubtIn k base = at (failing (clearBy (k .nodes) (k .length) base) (k .circuits)) DirectionInDoubt
+doubtIn k base = at (failing (clearBy (k .nodes) (k .length) base) (netIn k base .circuits)) DirectionInDoubt
 
 -- 01, Order: "8, 9, 10 for system 1 (base); 11; 8, 9, 10 for system 2 (wider), then 3 (local)"
 abbrev pub proposalsIn : Case → (base wider local : List ℤ) → Answer
@@ -80,8 +80,6 @@ proposalsIn k base wider local = solutionIn Base k base base orElse doubtIn k ba
 
 -- what is known of a case whose tables are sound, and of two runs of their length; the runs' numbers are any
 pub record Judgeable (k : Case) (base run : List ℤ) : Type 0 where
-  pub based : Shaped (k .nodes) (k .circuits) base
-  pub shaped : Shaped (k .nodes) (k .circuits) run
-  pub ended : Ended (k .nodes) (k .circuits) (k .first) (k .second)
-  pub lengths : Lengths (k .circuits) (k .length)
-  pub xSmall : (c : ℕ) → c < k .circuits → getD (k .x) c 0 ≤ 10000
+  pub based : Based k base
+  pub same : length run ≡ length base
+  pub xSmall : (c : ℕ) → c < netIn k base .circuits → numberAt (k .x) c ≤ 10000

@@ -1,12 +1,11 @@
 // One judge of a proposed solution, for all three systems: 01, step 2.
-use crate::balance;
-use crate::case::Case;
-use crate::misses;
+use flows::Case;
 use meaning::Answer;
 use meaning::System;
 ghost use mathlib.Core.Path.{_≡_};
 ghost use Rattle.meaning.specs.Proposal.{systemStage};
-ghost use Rattle.proposal.specs.Case.{netIn, proposedIn, Ready};
+ghost use Rattle.flows.specs.Flows.{netIn};
+ghost use Rattle.proposal.specs.Case.{proposedIn, Ready};
 
 // 8, then 9, then 10 of one system, lowest row first: rows of the whole run before anything is added.
 pub fn judge_system(
@@ -17,18 +16,18 @@ pub fn judge_system(
     run: &[i64],
 ) -> Answer
     requires { ⌜ Ready k offset (now run) ⌝ }
-    ensures { λ r. ⌜ r ≡ systemStage (netIn k) (proposedIn system supply offset (now (run .entry))) ⌝ }
+    ensures { λ r. ⌜ r ≡ systemStage (netIn k (now (run .entry))) (proposedIn system supply offset (now (run .entry))) ⌝ }
 {
     let n = k.nodes;
     let row = numbers::first_out_of_range(n, k.reference, numbers::limit_of(system), run);
     if row < run.len() {
         return Answer::BadNumber(system, row + 1);
     }
-    let node = numbers::first_apart(balance::net_flows(k, run), supply);
+    let node = numbers::first_apart(flows::net_flows(k, run), supply);
     if node < n {
         return Answer::Unbalanced(system, node + 1);
     }
-    if misses::misses_low(k, offset, run) {
+    if flows::misses_low(k, offset, run) {
         return Answer::Accepted(0);
     }
     Answer::MissesTooHigh(system)

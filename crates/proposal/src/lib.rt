@@ -1,9 +1,6 @@
 // A case judged: refusals 1 to 11 of document 01, in its order. Proposed solutions are judged once over supply and offset.
-mod balance;
 mod case;
 mod kernel;
-mod misses;
-mod offsets;
 mod order;
 mod solution;
 

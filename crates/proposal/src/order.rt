@@ -1,6 +1,6 @@
 // 01, Order: 8, 9, 10 of the base; 11; 8, 9, 10 of the wider solution, then of the local one.
-use crate::case::Case;
 use crate::solution;
+use flows::Case;
 use meaning::Answer;
 use meaning::System;
 ghost use mathlib.Core.Path.{_≡_};

@@ -1,12 +1,10 @@
 // One system's proposed solution, judged over its supply and offset: 01, steps 1 to 5, refusals 8 to 11.
-use crate::case::Case;
 use crate::kernel;
-use crate::offsets;
+use flows::Case;
 use meaning::Answer;
 use meaning::System;
 ghost use mathlib.Core.Path.{_≡_};
-ghost use Rattle.proposal.specs.Columns.{Shaped};
-ghost use Rattle.proposal.specs.Case.{solutionIn, doubtIn, Judgeable};
+ghost use Rattle.proposal.specs.Case.{solutionIn, doubtIn, Based, Judgeable};
 
 // 8, 9 and 10 of a system: its supply and offset from the columns and the base flows, then the one judge.
 pub fn solution(system: System, k: Case, base: &[i64], run: &[i64]) -> Answer
@@ -15,16 +13,16 @@ pub fn solution(system: System, k: Case, base: &[i64], run: &[i64]) -> Answer
 {
     let of_base = k.supply;
     let supply = supply::in_system(system, of_base);
-    let offset = offsets::offsets(system, k, base);
+    let offset = flows::offsets(system, k, base);
     kernel::judge_system(system, k, supply, offset, run)
 }
 
 // 11: the lowest circuit with a length whose direction is in doubt.
 pub fn doubt(k: Case, base: &[i64]) -> Answer
-    requires { ⌜ Shaped (k .nodes) (k .circuits) (now base) ⌝ }
+    requires { ⌜ Based k (now base) ⌝ }
     ensures { λ r. ⌜ r ≡ doubtIn k (now (base .entry)) ⌝ }
 {
-    let m = k.circuits;
+    let m = base.len() - k.nodes;
     let row = numbers::first_in_doubt(k.nodes, &k.length, base);
     if row < m {
         return Answer::DirectionInDoubt(row + 1);

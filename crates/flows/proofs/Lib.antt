@@ -1,0 +1,4 @@
+pub mod Circuits
+pub mod Net
+pub mod Misses
+pub mod Signed
