@@ -21,9 +21,10 @@ use Rattle.meaning.specs.declared.SideFigures.{SideFigures}
 use Rattle.meaning.specs.declared.LocalFigures.{LocalFigures}
 use Rattle.meaning.specs.declared.Figures.{Figures}
 use Rattle.meaning.specs.Columns.{noLine, noLocal}
-use Rattle.text.specs.SheetText.{zoneText, emptyZone, fullZone, zoneTexts, localText, fullNode, localTexts, constantText, remainderText, sheetText, nameOf}
+use Rattle.lines.specs.LineText.{zoneText, emptyZone, fullZone, localText, fullNode, constantText, remainderText}
+use Rattle.text.specs.SheetText.{zoneTexts, localTexts, sheetText, nameOf}
 use Rattle.text.proofs.Joined.{joined-same}
-use Rattle.text.proofs.Lined.{zone-empty, zone-full, node-empty, node-full}
+use Rattle.lines.proofs.Lined.{zone-empty, zone-full, node-empty, node-full}
 
 module _ (G : Grid) (runs : Runs) where
   -- the figures of a zone: only its kilowatts where it has none

@@ -5,8 +5,8 @@ use mathlib.Core.List.{List, [], _++_, append-assoc, append-nil}
 use native.Mathlib.Numerals.{add-one}
 use native.Mathlib.Omega.{arith}
 use Rattle.meaning.specs.Rows.{joined}
-use Rattle.text.specs.Writing.{Line}
-use Rattle.text.proofs.Writing.{both, put-line, put-none}
+use Rattle.lines.specs.Making.{Put}
+use Rattle.lines.proofs.Making.{both, put-none}
 
 -- of equal texts
 pub joined-same : (n : ℕ) (f g : ℕ → List ℕ) → ((i : ℕ) → i < n → f i ≡ g i) → joined n f ≡ joined n g
@@ -30,11 +30,11 @@ pub joined-more : (n : ℕ) (f : ℕ → List ℕ) → joined (n + 1) f ≡ join
 joined-more n f = rw (add-one n) (joined-last n f)
 
 -- ---- a loop that writes text after text
-pub rows-start : (old : List ℕ) (from : ℕ) (f : ℕ → List ℕ) → Line 0 old from (joined 0 f) old from
-rows-start old from f = rw (joined-none f) (put-line (put-none old from) (omega arith))
+pub rows-start : (old : List ℕ) (from : ℕ) (f : ℕ → List ℕ) → Put 0 old from (joined 0 f) old from
+rows-start old from f = rw (joined-none f) (put-none old from)
 
 -- the next is written
-pub rows-more : {n w : ℕ} {old : List ℕ} {from : ℕ} (f : ℕ → List ℕ) (k : ℕ) {out : List ℕ} {at : ℕ} {new : List ℕ} {r : ℕ} → Line n old from (joined k f) out at
-    → Line w out at (f k) new r
-    → Line (n + w) old from (joined (k + 1) f) new r
+pub rows-more : {n w : ℕ} {old : List ℕ} {from : ℕ} (f : ℕ → List ℕ) (k : ℕ) {out : List ℕ} {at : ℕ} {new : List ℕ} {r : ℕ} → Put n old from (joined k f) out at
+    → Put w out at (f k) new r
+    → Put (n + w) old from (joined (k + 1) f) new r
 rows-more f k p q = rw (joined-more k f) (both p q)

@@ -6,7 +6,7 @@ use Rattle.meaning.specs.declared.Answer.{Answer}
 use Rattle.meaning.specs.declared.Values.{Values}
 use Rattle.meaning.specs.Answers.{values}
 use Rattle.meaning.specs.Outcome.{refusedLine}
-use Rattle.text.specs.SheetText.{refusedText}
+use Rattle.lines.specs.LineText.{refusedText}
 use Rattle.text.specs.Writing.{Written}
 
 -- the line of an answer's values is the answer's

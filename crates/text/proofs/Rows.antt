@@ -1,17 +1,20 @@
 -- The sections of a sheet, row by row, as a loop writes them.
-use Prim.Native.Nat.{ℕ, suc, _+_, _*_}
+use Prim.Native.Nat.{ℕ, suc, _+_, _-_, _*_}
 use mathlib.Core.Path.{_≡_, refl}
 use mathlib.Core.List.{List}
 use native.Mathlib.Numerals.{add-one}
-use lib.ListN.{getD}
+use native.Mathlib.Omega.{arith}
+use lib.ListN.{length, getD, take, drop, length-drop}
+use lib.Seq.{take-all}
 use Rattle.meaning.specs.Rows.{joined}
 use Rattle.meaning.specs.Name.{unpadded}
 use Rattle.meaning.specs.File.{nameAt}
 use Rattle.meaning.specs.declared.Side.{Side}
 use Rattle.meaning.specs.declared.SideFigures.{SideFigures}
-use Rattle.meaning.specs.declared.Figures.{Figures}
+use Rattle.meaning.specs.declared.LocalFigures.{LocalFigures}
 use Rattle.meaning.specs.Columns.{noLine, noLocal}
-use Rattle.text.specs.SheetText.{zoneText, zoneTexts, localText, localTexts, nameOf}
+use Rattle.lines.specs.LineText.{zoneText, localText}
+use Rattle.text.specs.SheetText.{zoneTexts, nodeTexts, nameOf}
 
 -- zone k + 1
 unfoldable pub zoneRow : Side → SideFigures → ℕ → List ℕ
@@ -26,13 +29,16 @@ unfolding zoneRow zoneTexts
 zone-rows side f = refl
 
 -- node v
-unfoldable pub nodeRow : Figures → (file : List ℕ) → ℕ → List ℕ
-nodeRow f file v = localText (nameOf file v) (getD (f .local) v noLocal)
+unfoldable pub nodeRow : List LocalFigures → (file : List ℕ) → ℕ → List ℕ
+nodeRow local file v = localText (nameOf file v) (getD local v noLocal)
 
-pub node-row : (f : Figures) (file : List ℕ) (v : ℕ) → nodeRow f file v ≡ localText (unpadded (nameAt file (64 + 24 * v))) (getD (f .local) v noLocal)
-unfolding nodeRow nameOf
-node-row f file v = refl
+-- read from all bytes that follow
+pub node-row : (local : List LocalFigures) (file : List ℕ) (v : ℕ) → let at = 64 + 24 * v in
+    nodeRow local file v ≡ localText (unpadded (take 12 (take (length file - at) (drop at file)))) (getD local v noLocal)
+unfolding nodeRow nameOf nameAt
+node-row local file v =
+    let at = 64 + 24 * v in rw (take-all (length file - at) (drop at file) (omega (arith, length-drop at file))) refl
 
-pub node-rows : (f : Figures) (file : List ℕ) → localTexts f (nameOf file) ≡ joined (f .nodes) (nodeRow f file)
-unfolding nodeRow localTexts
-node-rows f file = refl
+pub node-rows : (nodes : ℕ) (local : List LocalFigures) (file : List ℕ) → nodeTexts nodes local (nameOf file) ≡ joined nodes (nodeRow local file)
+unfolding nodeRow
+node-rows nodes local file = refl

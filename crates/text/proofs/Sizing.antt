@@ -1,13 +1,16 @@
 -- The text of figures by what the test of their counts says, and a buffer by whether it holds a text.
-use mathlib.Core.Path.{_≡_, refl, sym}
-use mathlib.Core.Bool.{Bool, true, false}
+use mathlib.Core.Path.{_≡_, refl}
+use mathlib.Core.Bool.{Bool, true, false, _&&_}
 use mathlib.Core.List.{List, []}
-use Prim.Native.Nat.{ℕ, _≤_, _<_}
+use Prim.Native.Nat.{ℕ, _+_, _*_, _≤_, _<_}
 use native.Mathlib.Omega.{arith}
 use borrow.Author.Tests.{le-leb, lt-leb}
+use lib.Dec.{leb}
 use lib.ListN.{length}
-use Rattle.meaning.proofs.Says.{Says, _also_, says-as, says-le}
+use Rattle.meaning.proofs.Says.{Says, _also_, agree, says-as, says-le}
 use Rattle.meaning.specs.declared.Figures.{Figures}
+use Rattle.lines.specs.Making.{Put}
+use Rattle.lines.proofs.Making.{whole}
 use Rattle.text.specs.SheetText.{sheetText, nameOf, sized, textOf, Sized}
 use Rattle.text.specs.Writing.{Written, Fitted}
 
@@ -20,8 +23,13 @@ module _ (f : Figures) (file : List ℕ) where
         λ s. (((s .generation, s .demand), s .nodes), s .inside),
       )
 
-  pub sized-true : Sized f file → true ≡ sized f file
-  sized-true s = sym (says-sized .1 s)
+  -- of few nodes, by the other three tests
+  pub sized-few : f .nodes ≤ 256 → (leb (f .generation .zones) 32 && leb (f .demand .zones) 32 && leb (64 + 24 * f .nodes) (length file)) ≡ sized f file
+  sized-few few =
+      agree _ _ (says-as (says-le also says-le also says-le) (
+        λ t. record { generation = t .0 .0; demand = t .0 .1; nodes = few; inside = t .1 },
+        λ s. ((s .generation, s .demand), s .inside),
+      )) says-sized
 
   pub sized-false : (Sized f file → ⊥) → false ≡ sized f file
   sized-false n = go (sized f file) refl
@@ -37,6 +45,10 @@ module _ (f : Figures) (file : List ℕ) where
   pub text-none : sized f file ≡ false → textOf f file ≡ []
   unfolding textOf
   text-none e = rw e refl
+
+-- a writing at the front
+pub written : {v : ℕ} {t old new : List ℕ} {r : ℕ} → Put v old 0 t new r → v ≤ length old → Written t old new r
+written p h = record { buffer = whole p h; answer = omega (arith, p .next) }
 
 -- a text that is written, and one that does not fit
 pub fitted-written : (t old new : List ℕ) (r : ℕ) → length t ≤ length old → Written t old new r → Fitted t old new r

@@ -1,6 +1,4 @@
 // The text of a sheet's figures, and the line of a refusal, written into a lent buffer: all of it, or nothing.
-mod lines;
-mod name;
 mod put;
 mod sections;
 
@@ -34,5 +32,5 @@ pub fn refuse(answer: Answer, out: &mut [u8]) -> usize
         return 0;
     }
     let carried = answers::values(answer);
-    lines::put_refused(out, carried)
+    put::put_line(out, 0, lines::refused_line(carried))
 }

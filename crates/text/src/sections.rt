@@ -1,87 +1,76 @@
 // The sections of a sheet that have a line for each zone or node, and the sheet.
-use crate::lines::put_constant;
-use crate::lines::put_node;
-use crate::lines::put_remainders;
-use crate::lines::put_zone;
+use crate::put::put_line;
 use meaning::Figures;
+use meaning::LocalFigures;
 use meaning::Side;
 use meaning::SideFigures;
 ghost use mathlib.Core.Path.{_≡_};
 ghost use Prim.Native.Nat.{_+_, _*_, _≤_};
 ghost use lib.ListN.{length};
-ghost use Rattle.text.specs.Writing.{Line};
-ghost use Rattle.text.specs.SheetText.{zoneTexts, localTexts, nameOf, zonalText, sheetText, sized, Sized};
+ghost use Rattle.lines.specs.Making.{Put};
+ghost use Rattle.text.specs.SheetText.{zoneTexts, nodeTexts, nameOf, sheetText, sized, Sized};
 
 // A line for each zone of a side.
 pub fn put_zones(out: &mut [u8], from: usize, side: Side, f: SideFigures) -> usize
     requires { ⌜ (f .zones ≤ 32) × (from + 4096 ≤ length (now out)) ⌝ }
-    ensures { λ r. ⌜ Line 4096 (now (out .entry)) from (zoneTexts side f) (now (out .exit)) r ⌝ }
+    ensures { λ r. ⌜ Put 4096 (now (out .entry)) from (zoneTexts side f) (now (out .exit)) r ⌝ }
 {
     let mut at = from;
     let mut k: usize = 0;
     while k < f.zones {
         let z = f.zone[k];
-        at = put_zone(out, at, side, k + 1, f.residual, z);
+        let line = lines::zone_line(side, k + 1, f.residual, z);
+        at = put_line(out, at, line);
         k += 1;
     }
     at
 }
 
 // A line for each node with TEC.
-pub fn put_nodes(out: &mut [u8], from: usize, file: &[u8], f: Figures) -> usize
-    requires { ⌜ (f .nodes ≤ 256) × (64 + 24 * (f .nodes) ≤ length (now file)) × (from + 14592 ≤ length (now out)) ⌝ }
-    ensures { λ r. ⌜ Line 14592 (now (out .entry)) from (localTexts f (nameOf (now (file .entry)))) (now (out .exit)) r ⌝ }
+pub fn put_nodes(
+    out: &mut [u8],
+    from: usize,
+    file: &[u8],
+    nodes: usize,
+    local: [LocalFigures; 256],
+) -> usize
+    requires { ⌜ (nodes ≤ 256) × (64 + 24 * nodes ≤ length (now file)) × (from + 14592 ≤ length (now out)) ⌝ }
+    ensures { λ r. ⌜ Put 14592 (now (out .entry)) from (nodeTexts nodes local (nameOf (now (file .entry)))) (now (out .exit)) r ⌝ }
 {
     let mut at = from;
     let mut v: usize = 0;
-    while v < f.nodes {
-        let l = f.local[v];
-        at = put_node(out, at, file, 64 + 24 * v, l);
+    while v < nodes {
+        let name = 64 + 24 * v;
+        let line = lines::node_line(&file[name..], local[v]);
+        at = put_line(out, at, line);
         v += 1;
     }
     at
 }
 
-// The lines before the nodes.
-fn put_zonal(out: &mut [u8], figures: Figures) -> usize
-    requires { ⌜ (figures .generation .zones ≤ 32) × (figures .demand .zones ≤ 32) × (8215 ≤ length (now out)) ⌝ }
-    ensures { λ r. ⌜ Line 8215 (now (out .entry)) 0 (zonalText figures) (now (out .exit)) r ⌝ }
-{
-    let p1 = put_constant(out, 0, figures.c);
-    let p2 = put_zones(out, p1, Side::Generation, figures.generation);
-    put_zones(out, p2, Side::Demand, figures.demand)
-}
-
 // The sheet, at the front of the buffer; answers its length.
 pub fn put_sheet(out: &mut [u8], figures: Figures, file: &[u8]) -> usize
     requires { ⌜ Sized figures (now file) × (22851 ≤ length (now out)) ⌝ }
-    ensures { λ r. ⌜ Line 22851 (now (out .entry)) 0 (sheetText figures (nameOf (now (file .entry)))) (now (out .exit)) r ⌝ }
+    ensures { λ r. ⌜ Put 22851 (now (out .entry)) 0 (sheetText figures (nameOf (now (file .entry)))) (now (out .exit)) r ⌝ }
 {
-    let p1 = put_zonal(out, figures);
-    let p2 = put_nodes(out, p1, file, figures);
-    put_remainders(
-        out,
-        p2,
-        figures.generation.remainder,
-        figures.demand.remainder,
-    )
+    let first = lines::constant_line(figures.c);
+    let p1 = put_line(out, 0, first);
+    let p2 = put_zones(out, p1, Side::Generation, figures.generation);
+    let p3 = put_zones(out, p2, Side::Demand, figures.demand);
+    let local = figures.local;
+    let p4 = put_nodes(out, p3, file, figures.nodes, local);
+    let last = lines::remainder_line(figures.generation.remainder, figures.demand.remainder);
+    put_line(out, p4, last)
 }
 
 // Whether the counts stay inside their tables and the file.
 pub fn sized(figures: Figures, file: &[u8]) -> bool
     ensures { λ r. ⌜ r ≡ sized figures (now (file .entry)) ⌝ }
 {
-    if 32 < figures.generation.zones {
-        return false;
-    }
-    if 32 < figures.demand.zones {
-        return false;
-    }
     if 256 < figures.nodes {
         return false;
     }
-    if file.len() < 64 + 24 * figures.nodes {
-        return false;
-    }
-    true
+    (figures.generation.zones <= 32)
+        & (figures.demand.zones <= 32)
+        & (64 + 24 * figures.nodes <= file.len())
 }

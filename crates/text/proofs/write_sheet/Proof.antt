@@ -2,13 +2,13 @@
 use mathlib.Core.Path.{_≡_, sym, _∙_}
 use mathlib.Core.Bool.{true}
 use mathlib.Core.List.{List}
-use Prim.Native.Nat.{ℕ, _≤_}
+use Prim.Native.Nat.{ℕ, _-_, _≤_}
 use native.Mathlib.Omega.{arith}
-use lib.ListN.{length, replicate, length-replicate}
+use lib.ListN.{length, take, replicate, length-replicate}
 use borrow.Author.Needs.{needs}
 use Rattle.text.specs.SheetText.{sheetText, nameOf, textOf, sized}
-use Rattle.text.proofs.Writing.{front, written}
-use Rattle.text.proofs.Sizing.{says-sized, text-sized, text-none, fitted-written, fitted-short, fitted-none}
+use Rattle.lines.proofs.Making.{front}
+use Rattle.text.proofs.Sizing.{written, says-sized, text-sized, text-none, fitted-written, fitted-short, fitted-none}
 use Rattle.text.proofs.write_sheet.Statement.{statement}
 use Rattle.text.proofs.write_sheet.Tie as tie
 
@@ -70,9 +70,12 @@ returns-2 c =
     let p = e .before .before in
     let t = p .before .before in
     let room : length (whole t) ≤ length (start (t .before) .args .out .now) = omega (arith, p .put-sheet .ensures .next, e .if2 .left) in
+    let n = p .put-sheet .result in
+    let e : n - 0 ≡ n = omega arith in
+    let part : take (n - 0) (p .put-sheet .last .0) ≡ whole t = rw e (front (p .put-sheet .ensures) wide) in
     rw (is-text t)
     (fitted-written (whole t) (start (t .before) .args .out .now) _ _ room
-    (written (omega (arith, room)) (rw (front (p .put-sheet .ensures) wide) at (w .put-bytes .ensures))))
+    (written (rw part at (w .put-bytes .ensures)) room))
 
 returns-3 : tie.Need-returns-3
 returns-3 c =

@@ -1,22 +1,23 @@
--- `text::put::put_bytes` meets its contract: what is left of the text, at its place, makes the whole.
+-- `text::put::put_bytes` meets its contract: the bytes before i are copied.
+use mathlib.Core.Path.{_≡_}
 use Prim.Native.Nat.{_≤_, _+_, _-_}
-use mathlib.Core.Path.{_≡_, refl, sym, _∙_}
-use lib.ListN.{length, drop, length-set}
-use lib.Seq.{sets}
-use Rattle.text.proofs.Writing.{copy-none, copy-more, copy-all}
-use borrow.Author.Needs.{needs}
 use native.Mathlib.Omega.{arith}
+use lib.ListN.{length, take}
+use lib.Seq.{take-all}
+use Rattle.lines.specs.Making.{Put}
+use Rattle.lines.proofs.Making.{kept, within, copy-none, copy-more}
+use borrow.Author.Needs.{needs}
 use Rattle.text.proofs.put.put_bytes.Statement.{statement}
 use Rattle.text.proofs.put.put_bytes.Tie as tie
 
 abbrev Inv-loop : tie.InvT-loop
-Inv-loop out₀ at text i₀ out i = (i ≤ length text) × (length out ≡ length out₀) × (sets out (at + i) (drop i text) ≡ sets out₀ at text)
+Inv-loop out₀ at text i₀ out i = (i ≤ length text) × (length out ≡ length out₀) × Put i out₀ at (take i text) out (at + i)
 
 abbrev μ-loop : tie.MeasureT-loop
 μ-loop out₀ at text i₀ out i = length text - i
 
 loop-holds : tie.Need-loop-holds Inv-loop μ-loop
-loop-holds c = (omega arith, refl, copy-none (c .args .out .now) (c .args .at) (c .args .text .now))
+loop-holds c = (omega arith, omega arith, copy-none (c .args .out .now) (c .args .at))
 
 shared-slice-read-out : tie.Need-shared-slice-read-out Inv-loop μ-loop
 shared-slice-read-out c = search needs
@@ -37,7 +38,8 @@ loop-again : tie.Need-loop-again Inv-loop μ-loop
 loop-again c =
     let l = c .before .before in
     let a = l .before .args in
-    (omega arith, length-set (l .loop .out) _ _ ∙ l .loop .inv .1, copy-more (l .loop .out) (a .at) (a .text .now) (l .loop .i) (omega arith) ∙ l .loop .inv .2)
+    let p = copy-more (a .text .now) (l .loop .i) (omega arith) (l .loop .inv .2) in
+    (omega arith, kept p, p)
 
 add-result : tie.Need-add-result Inv-loop μ-loop
 add-result c = search needs
@@ -49,10 +51,7 @@ returns : tie.Need-returns Inv-loop μ-loop
 returns c =
     let l = c .before in
     let a = l .before .args in
-    record {
-      list = sym (copy-all (l .loop .out) (a .at) (a .text .now) (l .loop .i) (omega arith)) ∙ l .loop .inv .2;
-      next = omega arith;
-    }
+    within (rw (take-all (l .loop .i) (a .text .now) (omega arith)) at (l .loop .inv .2)) (omega arith)
 
 pub put-bytes-spec : {M : Type 1} → statement M
 put-bytes-spec =

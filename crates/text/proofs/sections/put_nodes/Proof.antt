@@ -2,8 +2,8 @@
 use mathlib.Core.Path.{_≡_}
 use Prim.Native.Nat.{_≤_, _-_, _*_}
 use Rattle.meaning.specs.Rows.{joined}
-use Rattle.text.specs.Writing.{Line}
-use Rattle.text.proofs.Writing.{kept, line-put, longer}
+use Rattle.lines.specs.Making.{Put}
+use Rattle.lines.proofs.Making.{kept, longer, ready, copied}
 use Rattle.text.proofs.Joined.{rows-start, rows-more}
 use Rattle.text.proofs.Rows.{nodeRow, node-row, node-rows}
 use borrow.Author.Needs.{needs}
@@ -12,30 +12,44 @@ use Rattle.text.proofs.sections.put_nodes.Statement.{statement}
 use Rattle.text.proofs.sections.put_nodes.Tie as tie
 
 abbrev Inv-loop : tie.InvT-loop
-Inv-loop out₀ from file f at₀ v₀ out at v = (v ≤ f .nodes) × Line (57 * v) out₀ from (joined v (nodeRow f file)) out at
+Inv-loop out₀ from file nodes local at₀ v₀ out at v = (v ≤ nodes) × Put (57 * v) out₀ from (joined v (nodeRow local file)) out at
 
 abbrev μ-loop : tie.MeasureT-loop
-μ-loop out₀ from file f at₀ v₀ out at v = f .nodes - v
+μ-loop out₀ from file nodes local at₀ v₀ out at v = nodes - v
 
 loop-holds : tie.Need-loop-holds Inv-loop μ-loop
-loop-holds c = let a = c .before .before .args in (omega arith, rows-start (a .out .now) (a .from) (nodeRow (a .t4) (a .file .now)))
+loop-holds c = let a = c .before .before .args in (omega arith, rows-start (a .out .now) (a .from) (nodeRow (a .t5) (a .file .now)))
 
-mul-l : tie.Need-mul-l Inv-loop μ-loop
-mul-l c = search needs
+mul-name : tie.Need-mul-name Inv-loop μ-loop
+mul-name c = search needs
 
-element-copy-out-l : tie.Need-element-copy-out-l Inv-loop μ-loop
-element-copy-out-l c = search needs
+add-name : tie.Need-add-name Inv-loop μ-loop
+add-name c = search needs
 
-mul-put-node : tie.Need-mul-put-node Inv-loop μ-loop
-mul-put-node c = search needs
+sub-node-line : tie.Need-sub-node-line Inv-loop μ-loop
+sub-node-line c = search needs
 
-add-put-node : tie.Need-add-put-node Inv-loop μ-loop
-add-put-node c = search needs
+part-node-line-start : tie.Need-part-node-line-start Inv-loop μ-loop
+part-node-line-start c = search needs
 
-put-node-requires : tie.Need-put-node-requires Inv-loop μ-loop
-put-node-requires c κs =
-    let l = c .before .before .before in
-    (omega arith, omega (arith, l .loop .inv .1 .next, l .loop .inv .1 .short, kept (line-put (l .loop .inv .1))))
+part-node-line-end : tie.Need-part-node-line-end Inv-loop μ-loop
+part-node-line-end c = search needs
+
+mul-node-line : tie.Need-mul-node-line Inv-loop μ-loop
+mul-node-line c = search needs
+
+array-copy-out-node-line : tie.Need-array-copy-out-node-line Inv-loop μ-loop
+array-copy-out-node-line c = search needs
+
+node-line-requires : tie.Need-node-line-requires Inv-loop μ-loop
+node-line-requires c κs = search needs
+
+put-line-requires : tie.Need-put-line-requires Inv-loop μ-loop
+put-line-requires c κs =
+    let n = c .before in
+    let l = n .before .before .before .before .loop in
+    let i = l .inv .1 in
+    ready (n .node-line .result) (n .node-line .ensures) (omega arith) (l .at) (omega (arith, i .next, i .short, kept i))
 
 add-v : tie.Need-add-v Inv-loop μ-loop
 add-v c = search needs
@@ -46,19 +60,21 @@ loop-less c = search needs
 loop-again : tie.Need-loop-again Inv-loop μ-loop
 loop-again c =
     let p = c .before .before in
-    let l = p .before .before .before .before in
+    let n = p .before .before in
+    let l = n .before .before .before .before in
     let a = l .before .before .before .args in
-    (omega arith, longer (rows-more {w = 57} (nodeRow (a .t4) (a .file .now)) (l .loop .v) (l .loop .inv .1) (rw (node-row (a .t4) (a .file .now) (l .loop .v)) (p .put-node .ensures))) (omega arith))
+    let row = copied (n .node-line .result) (n .node-line .ensures) (omega arith) (p .put-line .ensures) in
+    (omega arith, longer (rows-more {w = 57} (nodeRow (a .t5) (a .file .now)) (l .loop .v) (l .loop .inv .1) (rw (node-row (a .t5) (a .file .now) (l .loop .v)) row)) (omega arith))
 
 same-length : tie.Need-same-length Inv-loop μ-loop
-same-length c = kept (line-put (c .before .loop .inv .1))
+same-length c = kept (c .before .loop .inv .1)
 
 returns : tie.Need-returns Inv-loop μ-loop
 returns c =
     let l = c .before in
     let a = l .before .before .before .args in
-    let e : l .loop .v ≡ a .t4 .nodes = omega arith in
-    rw (node-rows (a .t4) (a .file .now)) (longer (rw e at (l .loop .inv .1)) (omega arith))
+    let e : l .loop .v ≡ a .nodes = omega arith in
+    rw (node-rows (a .nodes) (a .t5) (a .file .now)) (longer (rw e at (l .loop .inv .1)) (omega arith))
 
 pub put-nodes-spec : {M : Type 1} → statement M
 put-nodes-spec =
@@ -67,11 +83,15 @@ put-nodes-spec =
     Inv-loop
     μ-loop
     loop-holds
-    mul-l
-    element-copy-out-l
-    mul-put-node
-    add-put-node
-    put-node-requires
+    mul-name
+    add-name
+    sub-node-line
+    part-node-line-start
+    part-node-line-end
+    mul-node-line
+    array-copy-out-node-line
+    node-line-requires
+    put-line-requires
     add-v
     loop-less
     loop-again

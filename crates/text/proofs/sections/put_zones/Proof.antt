@@ -2,8 +2,8 @@
 use mathlib.Core.Path.{_≡_}
 use Prim.Native.Nat.{_≤_, _-_, _*_}
 use Rattle.meaning.specs.Rows.{joined}
-use Rattle.text.specs.Writing.{Line}
-use Rattle.text.proofs.Writing.{kept, line-put, longer}
+use Rattle.lines.specs.Making.{Put}
+use Rattle.lines.proofs.Making.{kept, longer, ready, copied}
 use Rattle.text.proofs.Joined.{rows-start, rows-more}
 use Rattle.text.proofs.Rows.{zoneRow, zone-row, zone-rows}
 use borrow.Author.Needs.{needs}
@@ -12,7 +12,7 @@ use Rattle.text.proofs.sections.put_zones.Statement.{statement}
 use Rattle.text.proofs.sections.put_zones.Tie as tie
 
 abbrev Inv-loop : tie.InvT-loop
-Inv-loop out₀ from side f at₀ k₀ out at k = (k ≤ f .zones) × Line (128 * k) out₀ from (joined k (zoneRow side f)) out at
+Inv-loop out₀ from side f at₀ k₀ out at k = (k ≤ f .zones) × Put (128 * k) out₀ from (joined k (zoneRow side f)) out at
 
 abbrev μ-loop : tie.MeasureT-loop
 μ-loop out₀ from side f at₀ k₀ out at k = f .zones - k
@@ -26,13 +26,18 @@ mul-z c = search needs
 element-copy-out-z : tie.Need-element-copy-out-z Inv-loop μ-loop
 element-copy-out-z c = search needs
 
-add-put-zone : tie.Need-add-put-zone Inv-loop μ-loop
-add-put-zone c = search needs
+add-zone-line : tie.Need-add-zone-line Inv-loop μ-loop
+add-zone-line c = search needs
 
-put-zone-requires : tie.Need-put-zone-requires Inv-loop μ-loop
-put-zone-requires c κs =
-    let l = c .before .before .before .before in
-    omega (arith, l .loop .inv .1 .next, l .loop .inv .1 .short, kept (line-put (l .loop .inv .1)))
+zone-line-requires : tie.Need-zone-line-requires Inv-loop μ-loop
+zone-line-requires c κs = search needs
+
+put-line-requires : tie.Need-put-line-requires Inv-loop μ-loop
+put-line-requires c κs =
+    let z = c .before in
+    let l = z .before .before .before .before .loop in
+    let i = l .inv .1 in
+    ready (z .zone-line .result) (z .zone-line .ensures) (omega arith) (l .at) (omega (arith, i .next, i .short, kept i))
 
 add-k : tie.Need-add-k Inv-loop μ-loop
 add-k c = search needs
@@ -43,12 +48,14 @@ loop-less c = search needs
 loop-again : tie.Need-loop-again Inv-loop μ-loop
 loop-again c =
     let p = c .before .before in
-    let l = p .before .before .before .before .before in
+    let z = p .before .before in
+    let l = z .before .before .before .before in
     let a = l .before .before .args in
-    (omega arith, longer (rows-more {w = 128} (zoneRow (a .side) (a .t4)) (l .loop .k) (l .loop .inv .1) (rw (zone-row (a .side) (a .t4) (l .loop .k)) (p .put-zone .ensures))) (omega arith))
+    let row = copied (z .zone-line .result) (z .zone-line .ensures) (omega arith) (p .put-line .ensures) in
+    (omega arith, longer (rows-more {w = 128} (zoneRow (a .side) (a .t4)) (l .loop .k) (l .loop .inv .1) (rw (zone-row (a .side) (a .t4) (l .loop .k)) row)) (omega arith))
 
 same-length : tie.Need-same-length Inv-loop μ-loop
-same-length c = kept (line-put (c .before .loop .inv .1))
+same-length c = kept (c .before .loop .inv .1)
 
 returns : tie.Need-returns Inv-loop μ-loop
 returns c =
@@ -66,8 +73,9 @@ put-zones-spec =
     loop-holds
     mul-z
     element-copy-out-z
-    add-put-zone
-    put-zone-requires
+    add-zone-line
+    zone-line-requires
+    put-line-requires
     add-k
     loop-less
     loop-again

@@ -1,0 +1,4 @@
+pub mod Making
+pub mod Numbers
+pub mod Names
+pub mod Lined

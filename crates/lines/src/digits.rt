@@ -1,0 +1,72 @@
+// Lines with numbers, for this crate alone.
+use crate::Line;
+use crate::words::with_byte;
+ghost use mathlib.Core.Path.{_≡_};
+ghost use mathlib.Core.List.{_++_};
+ghost use Prim.Native.Nat.{_+_, _≤_};
+ghost use lib.IntN.{natAbs};
+ghost use lib.ListN.{length};
+ghost use Rattle.meaning.specs.Text.{text, natural, decimal};
+ghost use Rattle.lines.specs.Making.{Put, Adds};
+
+// Writes a number without sign: all digits but the last, then the last. The answer is the place after it.
+pub fn put_natural(out: &mut [u8; 128], at: usize, n: u64) -> usize
+    requires { ⌜ at + length (natural n) ≤ 128 ⌝ }
+    ensures { λ r. ⌜ Put (length (natural n)) (now (out .entry)) at (natural n) (now (out .exit)) r ⌝ }
+{
+    if n < 10 {
+        out[at] = 48 + n as u8;
+        at + 1
+    } else {
+        let p = put_natural(out, at, n / 10);
+        out[p] = 48 + (n % 10) as u8;
+        p + 1
+    }
+}
+
+// A line with a number without sign more.
+pub fn with_natural(line: Line, n: u64) -> Line
+    requires { ⌜ line .len + length (natural n) ≤ 128 ⌝ }
+    ensures { λ r. ⌜ Adds (length (natural n)) line (natural n) r ⌝ }
+{
+    let mut bytes = line.bytes;
+    let len = put_natural(&mut bytes, line.len, n);
+    Line {
+        bytes: bytes,
+        len: len,
+    }
+}
+
+// The magnitude of every number: -2^63 has one too.
+pub fn magnitude(z: i64) -> u64
+    ensures { λ r. ⌜ r ≡ natAbs z ⌝ }
+{
+    if z < 0 {
+        ((0 - (z + 1)) as u64) + 1
+    } else {
+        z as u64
+    }
+}
+
+// A line with a space and a number more, with a minus sign only below zero.
+pub fn with_number(line: Line, z: i64) -> Line
+    requires { ⌜ line .len + 21 ≤ 128 ⌝ }
+    ensures { λ r. ⌜ Adds 21 line (text " " ++ decimal z) r ⌝ }
+{
+    let n = magnitude(z);
+    let spaced = with_byte(line, b' ');
+    if z < 0 {
+        let signed = with_byte(spaced, b'-');
+        return with_natural(signed, n);
+    }
+    with_natural(spaced, n)
+}
+
+// A line with a space and a count more.
+pub fn with_count(line: Line, n: usize) -> Line
+    requires { ⌜ line .len + 21 ≤ 128 ⌝ }
+    ensures { λ r. ⌜ Adds 21 line (text " " ++ natural n) r ⌝ }
+{
+    let spaced = with_byte(line, b' ');
+    with_natural(spaced, n as u64)
+}

@@ -1,0 +1,63 @@
+// Lines from bytes, words and names, for this crate alone.
+use crate::Line;
+ghost use mathlib.Core.List.{[], _∷_};
+ghost use Prim.Native.Nat.{_+_, _≤_};
+ghost use lib.ListN.{length, take};
+ghost use Rattle.meaning.specs.Name.{unpadded};
+ghost use Rattle.lines.specs.Making.{Adds, Holds};
+
+// A line with one byte more.
+pub fn with_byte(line: Line, byte: u8) -> Line
+    requires { ⌜ line .len + 1 ≤ 128 ⌝ }
+    ensures { λ r. ⌜ Adds 1 line (byte ∷ []) r ⌝ }
+{
+    let at = line.len;
+    let mut longer = line;
+    longer.bytes[at] = byte;
+    longer.len = at + 1;
+    longer
+}
+
+// A line with a word more.
+pub fn with_word(line: Line, word: &[u8]) -> Line
+    requires { ⌜ line .len + length (now word) ≤ 128 ⌝ }
+    ensures { λ r. ⌜ Adds (length (now (word .entry))) line (now (word .entry)) r ⌝ }
+{
+    let mut longer = line;
+    let mut i: usize = 0;
+    while i < word.len() {
+        longer = with_byte(longer, word[i]);
+        i += 1;
+    }
+    longer
+}
+
+// A line of one word.
+pub fn line_of(word: &[u8]) -> Line
+    requires { ⌜ length (now word) ≤ 128 ⌝ }
+    ensures { λ r. ⌜ Holds (length (now (word .entry))) (now (word .entry)) r ⌝ }
+{
+    let nothing = Line {
+        bytes: [0; 128],
+        len: 0,
+    };
+    with_word(nothing, word)
+}
+
+// A line with a name more, without its padding: at most 12 bytes.
+pub fn with_name(line: Line, name: &[u8]) -> Line
+    requires { ⌜ line .len + 12 ≤ 128 ⌝ }
+    ensures { λ r. ⌜ Adds 12 line (unpadded (take 12 (now (name .entry)))) r ⌝ }
+{
+    let mut longer = line;
+    let mut i: usize = 0;
+    while (i < 12) & (i < name.len()) {
+        let byte = name[i];
+        if byte == b' ' {
+            return longer;
+        }
+        longer = with_byte(longer, byte);
+        i += 1;
+    }
+    longer
+}
