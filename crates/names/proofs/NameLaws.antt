@@ -5,12 +5,12 @@ use mathlib.Core.Logic.{_⊎_, inl, inr}
 use mathlib.Core.List.{List, [], _∷_}
 use Prim.Native.Nat.{ℕ, suc, _+_, _-_, _≤_, _<_, min, max}
 use lib.Dec.{eqb, leb}
-use lib.ListN.{length, getD, take, drop, length-take, length-drop, drop-of-length-le}
+use lib.ListN.{length, getD, drop, length-take, length-drop, drop-of-length-le}
 use lib.Seq.{drop-cons}
 use native.Mathlib.Nat.{add-zero}
 use native.Mathlib.Decide.{decLe, decLt}
 use native.Mathlib.Omega.{arith}
-use borrow.Author.Tests.{eq-eqb, ne-eqb, eqb-true, eqb-false, le-leb, leb-false}
+use borrow.Author.Tests.{ne-eqb, eqb-true, eqb-false, le-leb, leb-false}
 use Rattle.meaning.specs.Rows.{_between_and_}
 use Rattle.meaning.specs.Name.{Name, nameByte, unpadded, every, wellFormed, sameName}
 use Rattle.meaning.specs.File.{nameAt}
@@ -81,32 +81,37 @@ formed-cons : (b : ℕ) (l : Name) → length l ≡ 11 → wellFormed (b ∷ l) 
 unfolding wellFormed
 formed-cons b l h = simp (h, and-assoc, padded-is (b ∷ l), padded-head b l)
 
--- ---- loops over the bytes of a name that is in the file
-module _ (file : List ℕ) (at k : ℕ) (l : at + 12 ≤ length file) where
-  pub spaces-stop : k < 12 → (getD file (at + k) 0 ≡ 32 → ⊥) → every (eqb 32) (rest file at k) ≡ false
-  unfolding every
-  spaces-stop h e = rw (rest-cons file at k h l) (simp (ne-eqb 32 (getD file (at + k) 0) (λ q. e (sym q))))
+-- ---- a loop over the bytes of a name: whether only name bytes came so far, and what is left then
+abbrev pub left : (named : Bool) → Name → Bool
+left named l = cond named (padded l) (every (eqb 32) l)
 
-  pub spaces-on : k < 12 → getD file (at + k) 0 ≡ 32 → every (eqb 32) (rest file at k) ≡ every (eqb 32) (rest file at (k + 1))
-  unfolding every
-  spaces-on h e = rw (rest-cons file at k h l) (simp (eq-eqb 32 (getD file (at + k) 0) (sym e)))
+eqb-back : (m n : ℕ) → eqb m n ≡ eqb n m
+eqb-back m n = agree _ _ (says-as (says-eq {m = m} {n = n}) (sym, sym)) says-eq
 
-  pub padded-stop : k < 12 → nameByte (getD file (at + k) 0) ≡ false → padded (rest file at k) ≡ every (eqb 32) (rest file at k)
-  unfolding padded
-  padded-stop h e = rw (rest-cons file at k h l) (simp e)
+left-cons : (named : Bool) (b : ℕ) (l : Name) → left named (b ∷ l) ≡ (((named && nameByte b) || eqb b 32) && left (named && nameByte b) l)
+unfolding padded every
+left-cons named b l = rw (eqb-back b 32) (go named (nameByte b))
+  where
+    go : (n t : Bool) → cond n (cond t (padded l) (eqb 32 b && every (eqb 32) l)) (eqb 32 b && every (eqb 32) l)
+        ≡ (((n && t) || eqb 32 b) && left (n && t) l)
+    go true true = refl
+    go true false = refl
+    go false t = refl
 
-  pub padded-on : k < 12 → nameByte (getD file (at + k) 0) ≡ true → padded (rest file at k) ≡ padded (rest file at (k + 1))
-  unfolding padded
-  padded-on h e = rw (rest-cons file at k h l) (simp e)
+module _ (file : List ℕ) (at i : ℕ) where
+  pub left-on : (good named named' : Bool) → i < 12 → at + 12 ≤ length file → named' ≡ nameByte (getD file (at + i) 0)
+      → (good && left named (rest file at i)) ≡ ((good && ((named && named') || eqb (getD file (at + i) 0) 32)) && left (named && named') (rest file at (i + 1)))
+  left-on good named named' h l e =
+      rw (rest-cons file at i h l, left-cons named (getD file (at + i) 0) (rest file at (i + 1)), e) (sym (and-assoc good _ _))
 
-module _ (file : List ℕ) (at k : ℕ) where
-  pub spaces-done : 12 ≤ k → every (eqb 32) (rest file at k) ≡ true
-  unfolding every
-  spaces-done h = rw (rest-none file at k h) refl
-
-  pub padded-done : 12 ≤ k → padded (rest file at k) ≡ true
-  unfolding padded
-  padded-done h = rw (rest-none file at k h) refl
+  pub left-done : (good named : Bool) → 12 ≤ i → (good && left named (rest file at i)) ≡ good
+  unfolding padded every
+  left-done good named h = rw (rest-none file at i h) (go good named)
+    where
+      go : (g n : Bool) → (g && left n []) ≡ g
+      go true true = refl
+      go true false = refl
+      go false n = refl
 
 module _ (file : List ℕ) (at : ℕ) where
   -- a name that the end cuts is not well formed

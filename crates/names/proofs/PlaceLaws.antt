@@ -1,6 +1,6 @@
 -- The number of a node by its name, as the search among the rows of the nodes' table finds it.
 use mathlib.Core.Path.{_≡_, refl, ap}
-use mathlib.Core.Bool.{Bool, false}
+use mathlib.Core.Bool.{false}
 use mathlib.Core.List.{List, [], _∷_}
 use mathlib.Core.Option.{Option·getD}
 use Prim.Native.Nat.{ℕ, _+_, _*_, _≤_, _<_}

@@ -16,7 +16,7 @@ pub fn name_formed(file: &[u8], at: usize) -> bool
     ensures { λ r. ⌜ r ≡ wellFormed (nameAt (now (file .entry)) at) ⌝ }
 {
     if same::inside(file, at, at) {
-        return padding::is_name_byte(file[at]) & padding::padded_from(file, at, 1);
+        return padding::is_name_byte(file[at]) & padding::padded_tail(file, at);
     }
     false
 }

@@ -7,10 +7,7 @@ use lib.ListN.{length}
 use Rattle.meaning.specs.File.{nameAt, stationAt}
 use Rattle.meaning.specs.Tables.{soundStationRow}
 use Rattle.meaning.specs.Grid.{place}
-use Rattle.layout.specs.declared.RowCounts.{RowCounts}
 use Rattle.layout.specs.Readable.{readable}
-use Rattle.layout.specs.Frame.{countsOf}
-use Rattle.station_table.specs.declared.StationColumns.{StationColumns}
 use Rattle.station_table.specs.Columns.{stationsOf}
 
 -- the node of a station's row at a place, as its name has it
@@ -19,13 +16,14 @@ pub record ToldNode (file : List ℕ) (at n v : ℕ) : Type 0 where
   pub nodes : n ≡ length (readable file .nodes)
   pub node : v ≡ place (readable file .nodes) (nameAt file (at + 12))
 
--- the counts of the tables, where the stations' table begins, and its columns
-pub record ToldStations (file : List ℕ) (n : RowCounts) (at : ℕ) (k : StationColumns) : Type 0 where
-  pub counts : n ≡ countsOf (readable file)
-  pub start : at ≡ 64 + 24 * n .nodes + 44 * n .circuits
+-- the nodes, the stations, where their table begins, and the number of each one's node
+pub record ToldStations (file : List ℕ) (nodes count at : ℕ) (node : List ℕ) : Type 0 where
+  pub nodesAre : nodes ≡ length (readable file .nodes)
+  pub countIs : count ≡ length (readable file .stations)
+  pub start : at ≡ 64 + 24 * nodes + 44 * length (readable file .circuits)
   pub near : at ≤ 65536
-  pub few : n .stations ≤ 512
-  pub columns : k ≡ stationsOf (readable file)
+  pub few : count ≤ 512
+  pub column : node ≡ stationsOf (readable file) .node
 
 -- the station's row at its place in the table that begins there is not sound by itself
 abbrev pub unsoundStation : List ℕ → (start i : ℕ) → Bool

@@ -70,10 +70,13 @@ pub fn judge(file: &[u8]) -> JudgedStations
     ensures { λ r. ⌜ (r .answer ≡ stationsStage (readable (now (file .entry)))) × (r .tec ≡ tecOf (readable (now (file .entry)))) ⌝ }
 {
     let rows = layout::counts(file);
+    let nodes = rows.nodes;
+    let circuits = rows.circuits;
     let capacity = capacity(file);
     let columns = capacity.stations;
-    let start = 64 + 24 * rows.nodes + 44 * rows.circuits;
-    let answer = row::stage(file, rows, start, columns);
+    let node = columns.node;
+    let start = 64 + 24 * nodes + 44 * circuits;
+    let answer = row::stage(file, nodes, rows.stations, start, node);
     let tec = capacity.tec;
     JudgedStations { answer, tec }
 }

@@ -5,8 +5,6 @@ ghost use Rattle.meaning.specs.Tables.{soundStationRow, stationsStage};
 ghost use Rattle.layout.specs.Readable.{readable};
 ghost use Rattle.meaning.specs.First.{IsFirst};
 ghost use Rattle.station_table.specs.Told.{ToldNode, ToldStations, unsoundStation};
-use crate::StationColumns;
-use layout::RowCounts;
 use meaning::Answer;
 
 // Whether the row at a place, with the node that its name has, is sound by itself.
@@ -22,32 +20,38 @@ pub fn sound_row(file: &[u8], at: usize, nodes: usize, node: usize) -> bool
 }
 
 // The lowest row that is not; the count of rows where there is none.
-pub fn first_unsound(file: &[u8], rows: RowCounts, start: usize, columns: StationColumns) -> usize
-    requires { ⌜ ToldStations (now file) rows start columns ⌝ }
-    ensures { λ r. ⌜ IsFirst (unsoundStation (now (file .entry)) start) (rows .stations) r ⌝ }
+pub fn first_unsound(
+    file: &[u8],
+    nodes: usize,
+    count: usize,
+    start: usize,
+    node: [usize; 512],
+) -> usize
+    requires { ⌜ ToldStations (now file) nodes count start node ⌝ }
+    ensures { λ r. ⌜ IsFirst (unsoundStation (now (file .entry)) start) count r ⌝ }
 {
     let mut i = 0;
-    while i < rows.stations {
-        if sound_row(file, start + 32 * i, rows.nodes, columns.node[i]) {
+    while i < count {
+        if sound_row(file, start + 32 * i, nodes, node[i]) {
             i += 1;
         } else {
             return i;
         }
     }
-    rows.stations
+    count
 }
 
 // The stage: the lowest row that is not, or whose identifier is seen earlier.
-pub fn stage(file: &[u8], rows: RowCounts, start: usize, columns: StationColumns) -> Answer
-    requires { ⌜ ToldStations (now file) rows start columns ⌝ }
+pub fn stage(file: &[u8], nodes: usize, count: usize, start: usize, node: [usize; 512]) -> Answer
+    requires { ⌜ ToldStations (now file) nodes count start node ⌝ }
     ensures { λ r. ⌜ r ≡ stationsStage (readable (now (file .entry))) ⌝ }
 {
-    let unsound = first_unsound(file, rows, start, columns);
-    let repeated = names::repeated(file, start as u32, 32, rows.stations as u32);
+    let unsound = first_unsound(file, nodes, count, start, node);
+    let repeated = names::repeated(file, start as u32, 32, count as u32);
     if unsound < repeated {
         return Answer::BadStation(unsound + 1);
     }
-    if repeated < rows.stations {
+    if repeated < count {
         return Answer::BadStation(repeated + 1);
     }
     Answer::Accepted(0)

@@ -15,13 +15,13 @@ shared-slice-read-is-name-byte c = omega (arith, c .before .before .inside .ensu
 is-name-byte-requires : tie.Need-is-name-byte-requires
 is-name-byte-requires c κs = search needs
 
-padded-from-requires : tie.Need-padded-from-requires
-padded-from-requires c κs = let i = c .before .before in (i .before .inside .ensures .both (i .if1 .taken) .0, omega arith)
+padded-tail-requires : tie.Need-padded-tail-requires
+padded-tail-requires c κs = let i = c .before .before in i .before .inside .ensures .both (i .if1 .taken) .0
 
 returns : tie.Need-returns
 returns c =
     let i = c .before .before .before in
-    ap₂ _&&_ (c .before .is-name-byte .ensures) (c .padded-from .ensures) ∙ sym (formed-whole _ _ (i .before .inside .ensures .both (i .if1 .taken) .0))
+    ap₂ _&&_ (c .before .is-name-byte .ensures) (c .padded-tail .ensures) ∙ sym (formed-whole _ _ (i .before .inside .ensures .both (i .if1 .taken) .0))
 
 returns-2 : tie.Need-returns-2
 returns-2 c = sym (formed-cut _ _ (omega (arith, c .before .inside .ensures .cut (c .if1 .left))))
@@ -33,6 +33,6 @@ name-formed-spec =
     inside-requires
     shared-slice-read-is-name-byte
     is-name-byte-requires
-    padded-from-requires
+    padded-tail-requires
     returns
     returns-2)

@@ -18,13 +18,13 @@ add-start : tie.Need-add-start
 add-start c = let f = few _ (c .before .before .before .counts .ensures) in omega (arith, f .nodes-low, f .circuits-low)
 
 mul-start-2 : tie.Need-mul-start-2
-mul-start-2 c = let f = few _ (c .before .before .before .before .counts .ensures) in omega (arith, f .nodes-low, f .circuits-low)
+mul-start-2 c = let f = few _ (c .before .before .before .counts .ensures) in omega (arith, f .nodes-low, f .circuits-low)
 
 add-start-2 : tie.Need-add-start-2
-add-start-2 c = let f = few _ (c .before .before .before .before .counts .ensures) in omega (arith, f .nodes-low, f .circuits-low)
+add-start-2 c = let f = few _ (c .before .before .before .counts .ensures) in omega (arith, f .nodes-low, f .circuits-low)
 
 stage-requires : tie.Need-stage-requires
-stage-requires c κs = told-stations (c .before .before .before .before .counts .ensures) (c .before .before .before .capacity .ensures .0)
+stage-requires c κs = told-stations (c .before .before .before .counts .ensures) (c .before .before .capacity .ensures .0)
 
 returns : tie.Need-returns
 returns c = search needs

@@ -1,5 +1,3 @@
-use mathlib.Core.Path.{sym}
-use mathlib.Core.Bool.{true≢false}
 use native.Mathlib.Omega.{arith}
 use borrow.Author.Needs.{needs}
 use Rattle.names.proofs.NameLaws.{inside-short, inside-long}

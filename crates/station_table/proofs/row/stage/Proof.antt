@@ -17,20 +17,20 @@ cast-repeated-2 c = search needs
 repeated-requires : tie.Need-repeated-requires
 repeated-requires c κs = search needs
 
-add-t10 : tie.Need-add-t10
-add-t10 c = search needs
-
-returns : tie.Need-returns
-returns c = let p = c .before .before .before in station-unsound (p .before .before .pre) (p .first-unsound .ensures) (first-lowest (c .before .repeated .ensures)) (omega arith)
-
 add-t11 : tie.Need-add-t11
 add-t11 c = search needs
 
+returns : tie.Need-returns
+returns c = let p = c .before .before in station-unsound (p .before .before .pre) (p .first-unsound .ensures) (first-lowest (c .before .repeated .ensures)) (omega arith)
+
+add-t12 : tie.Need-add-t12
+add-t12 c = search needs
+
 returns-2 : tie.Need-returns-2
-returns-2 c = let p = c .before .before .before .before .before in station-repeated (p .before .before .pre) (p .first-unsound .ensures) (first-lowest (c .before .before .before .repeated .ensures)) (omega arith) (omega arith)
+returns-2 c = let p = c .before .before .before in station-repeated (p .before .before .pre) (p .first-unsound .ensures) (first-lowest (c .before .before .repeated .ensures)) (omega arith) (omega arith)
 
 returns-3 : tie.Need-returns-3
-returns-3 c = let p = c .before .before .before .before .before in stations-sound (p .before .before .pre) (p .first-unsound .ensures) (first-lowest (c .before .before .before .repeated .ensures)) (omega arith) (omega arith)
+returns-3 c = let p = c .before .before .before in stations-sound (p .before .before .pre) (p .first-unsound .ensures) (first-lowest (c .before .before .repeated .ensures)) (omega arith) (omega arith)
 
 pub stage-spec : {M : Type 1} → statement M
 stage-spec =
@@ -40,8 +40,8 @@ stage-spec =
     cast-repeated
     cast-repeated-2
     repeated-requires
-    add-t10
-    returns
     add-t11
+    returns
+    add-t12
     returns-2
     returns-3)
