@@ -5,14 +5,12 @@ use mathlib.Core.List.{List}
 use Prim.Native.Nat.{ℕ, _+_, _≤_, _<_}
 use native.Mathlib.Omega.{arith}
 use lib.Dec.{leb}
-use lib.IntN.{ℤ, pos, negℤ, natAbs, _-ℤ_, _*ℤ_}
-use lib.Signed.{_≤ℤ_, _<ℤ_}
+use lib.IntN.{ℤ, pos, natAbs, _-ℤ_, _*ℤ_}
 use borrow.Author.Tests.{lt-leb, le-leb}
 use mir.Syntax.{w64}
 use mir.Val.{SFits}
 use Rattle.integers.specs.Numbers.{sum}
-use Rattle.integers.proofs.Core.{Z}
-use Rattle.integers.proofs.Laws.{abs-sub, abs-neg, abs-mul-le, sfits-abs}
+use Rattle.integers.proofs.Laws.{abs-sub, abs-mul-le, sfits-abs}
 use Rattle.integers.proofs.Sum.{sum-part, sum-item, sum-same}
 use Rattle.meaning.specs.Rows.{all}
 use Rattle.meaning.specs.Network.{Network}
@@ -21,19 +19,6 @@ use Rattle.meaning.proofs.Says.{Says, agree, says-as, says-le, says-all, _also_
 use Rattle.flows.specs.declared.Case.{Case}
 use Rattle.flows.specs.Flows.{number, netIn, inRanges, measured, missesLow}
 use Rattle.flows.specs.Turns.{missSize, sizeAt}
-
--- ---- a magnitude
-pub less-fits : (z : ℤ) → natAbs z < 9223372036854775808 → SFits w64 (pos 0 -ℤ z)
-less-fits z = simp Z (omega arith)
-
-pub less-nonneg : (z : ℤ) → z <ℤ pos 0 → pos 0 ≤ℤ (pos 0 -ℤ z)
-less-nonneg z = simp Z (omega arith)
-
-zero-less : (z : ℤ) → pos 0 -ℤ z ≡ negℤ z
-zero-less z = simp Z (omega arith)
-
-pub less-abs : (z : ℤ) → natAbs (pos 0 -ℤ z) ≡ natAbs z
-less-abs z = ap natAbs (zero-less z) ∙ abs-neg z
 
 -- ---- what a miss is made of, in range
 pub record Ranged (p q : ℤ) (x : ℕ) (flow offset : ℤ) : Type 0 where

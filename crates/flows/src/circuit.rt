@@ -2,8 +2,6 @@
 use crate::Case;
 use crate::reading;
 ghost use mathlib.Core.Path.{_≡_};
-ghost use Prim.Native.Nat.{_<_};
-ghost use lib.IntN.{natAbs};
 ghost use Rattle.flows.specs.Turns.{added, Small, missSize};
 
 // z more at node v; an end past the last row is no node.
@@ -16,17 +14,6 @@ pub fn add_at(net: &mut [i64; 256], v: usize, z: i64)
     }
 }
 
-// The magnitude of a number that has one in an i64.
-pub fn magnitude(z: i64) -> u64
-    requires { ⌜ natAbs z < 9223372036854775808 ⌝ }
-    ensures { λ r. ⌜ r ≡ natAbs z ⌝ }
-{
-    if z < 0 {
-        return (0 - z) as u64;
-    }
-    z as u64
-}
-
 // The magnitude of a miss, more than is allowed where a number is out of its range. In range, drops come to 4 x 10^18, x times flow to 10^18, the offset to 3 x 10^16: nothing wraps.
 pub fn miss_size(p: i64, q: i64, x: u64, flow: i64, offset: i64) -> u64
     ensures { λ r. ⌜ r ≡ missSize p q x flow offset ⌝ }
@@ -37,7 +24,7 @@ pub fn miss_size(p: i64, q: i64, x: u64, flow: i64, offset: i64) -> u64
         & numbers::within(flow, 100000000000000)
         & numbers::within(offset, 30000000000000000)
     {
-        return magnitude(p - q - x as i64 * flow - offset);
+        return integers::magnitude(p - q - x as i64 * flow - offset);
     }
     100000001
 }

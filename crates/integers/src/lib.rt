@@ -1,8 +1,20 @@
-// The two divisions of document 01, of every z and d. Definitions are in specs/Numbers.antt, laws of whole numbers in proofs/.
+// Magnitudes, and the two divisions of document 01, of every z and d. Definitions are in specs/Numbers.antt, laws of whole numbers in proofs/.
 ghost use mathlib.Core.Path.{_≡_};
 ghost use Prim.Native.Nat.{_/_};
+ghost use lib.IntN.{natAbs};
 ghost use lib.Signed.{mag};
 ghost use Rattle.integers.specs.Numbers.{floorDiv, nearest as nearestOf};
+
+// The magnitude of every number: -2^63 has one too.
+pub fn magnitude(z: i64) -> u64
+    ensures { λ r. ⌜ r ≡ natAbs z ⌝ }
+{
+    if z < 0 {
+        ((0 - (z + 1)) as u64) + 1
+    } else {
+        z as u64
+    }
+}
 
 // a, of z = a and of z = -(a + 1): the least i64 has one too.
 fn without_sign(z: i64) -> u64

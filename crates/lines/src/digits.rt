@@ -4,7 +4,6 @@ use crate::words::with_byte;
 ghost use mathlib.Core.Path.{_≡_};
 ghost use mathlib.Core.List.{_++_};
 ghost use Prim.Native.Nat.{_+_, _≤_};
-ghost use lib.IntN.{natAbs};
 ghost use lib.ListN.{length};
 ghost use Rattle.meaning.specs.Text.{text, natural, decimal};
 ghost use Rattle.lines.specs.Making.{Put, Adds};
@@ -37,23 +36,12 @@ pub fn with_natural(line: Line, n: u64) -> Line
     }
 }
 
-// The magnitude of every number: -2^63 has one too.
-pub fn magnitude(z: i64) -> u64
-    ensures { λ r. ⌜ r ≡ natAbs z ⌝ }
-{
-    if z < 0 {
-        ((0 - (z + 1)) as u64) + 1
-    } else {
-        z as u64
-    }
-}
-
 // A line with a space and a number more, with a minus sign only below zero.
 pub fn with_number(line: Line, z: i64) -> Line
     requires { ⌜ line .len + 21 ≤ 128 ⌝ }
     ensures { λ r. ⌜ Adds 21 line (text " " ++ decimal z) r ⌝ }
 {
-    let n = magnitude(z);
+    let n = integers::magnitude(z);
     let spaced = with_byte(line, b' ');
     if z < 0 {
         let signed = with_byte(spaced, b'-');

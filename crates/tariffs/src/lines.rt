@@ -7,7 +7,7 @@ use zones::ZoneSums;
 ghost use mathlib.Core.Path.{_≡_};
 ghost use Prim.Native.Nat.{_≤_};
 ghost use lib.IntN.{natAbs, _+ℤ_};
-ghost use Rattle.meaning.specs.Columns.{column, noLine};
+ghost use Rattle.meaning.specs.Columns.{column, noLine, price};
 ghost use Rattle.zones.specs.Sums.{SumsFit};
 ghost use Rattle.tariffs.specs.Over.{metresFrom, sumsIn, AllFit};
 ghost use Rattle.tariffs.specs.Lines.{tariffFrom, worthFrom, incomeFrom, lineFrom, IncomeFits};
@@ -53,6 +53,14 @@ pub fn zone_income(sums: [ZoneSums; 32], count: usize, terms: Terms) -> i64
     total
 }
 
+// Step 10: a zone's tariff plus the residual.
+pub fn total_of(tariff: MicroPerKw, residual: MicroPerKw) -> MicroPerKw
+    requires { ⌜ (natAbs (tariff .0) ≤ 10000000000) × (natAbs (residual .0) ≤ 3000000000000000000) ⌝ }
+    ensures { λ r. ⌜ r ≡ price (tariff .0 +ℤ residual .0) ⌝ }
+{
+    MicroPerKw(tariff.0 + residual.0)
+}
+
 // The line of a zone.
 pub fn zone_line(zone: ZoneSums, terms: Terms, residual: MicroPerKw) -> ZoneFigures
     requires { ⌜ SumsFit zone × (natAbs (terms .shift .0) ≤ 10000000) × (natAbs (residual .0) ≤ 3000000000000000000) ⌝ }
@@ -61,13 +69,12 @@ pub fn zone_line(zone: ZoneSums, terms: Terms, residual: MicroPerKw) -> ZoneFigu
     let weight = zone.weight;
     let after = after_c(zone, terms);
     let tariff = prices::price(after, terms.constant, terms.factor);
-    let total = tariff.0 + residual.0;
     ZoneFigures {
         weight: weight,
         metres: metres_of(zone),
         after_c: after,
         tariff: tariff,
-        total: MicroPerKw(total),
+        total: total_of(tariff, residual),
     }
 }
 

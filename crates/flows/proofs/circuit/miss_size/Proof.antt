@@ -9,7 +9,7 @@ use mir.Val.{toZ}
 use Rattle.integers.proofs.Machine.{Back, fit-back, of-nat}
 use Rattle.integers.proofs.Laws.{sfits-abs}
 use Rattle.flows.specs.Flows.{inRanges}
-use Rattle.flows.proofs.Misses.{Ranged, says-ranged, tested-are, size-in, size-out, drop-fits, carried-fits, rest-fits, miss-fits, miss-small}
+use Rattle.flows.proofs.Misses.{Ranged, says-ranged, tested-are, size-in, size-out, drop-fits, carried-fits, rest-fits, miss-fits}
 use Rattle.flows.proofs.circuit.miss_size.Statement.{statement}
 use Rattle.flows.proofs.circuit.miss_size.Tie as tie
 
@@ -91,7 +91,7 @@ sub-magnitude-3 : tie.Need-sub-magnitude-3
 sub-magnitude-3 c = simp (bp (w c), bq (w c), bx c, bf (w c), bd c, bc c, br c, bo (w c)) (miss-fits _ _ _ _ _ (ranged c))
 
 magnitude-requires : tie.Need-magnitude-requires
-magnitude-requires c κs = simp (bp (w c), bq (w c), bx c, bf (w c), bd c, bc c, br c, bo (w c), bm c) (omega (arith, miss-small _ _ _ _ _ (ranged c)))
+magnitude-requires c κs = search needs
 
 returns : tie.Need-returns
 returns c =
