@@ -68,9 +68,9 @@ module _ (s : StudySettings) (up down : List ZoneSums) (tec load : Over) (income
     abbrev demand : Terms
     demand = record { shift = distance (pos 0 -ℤ c .0); constant = s .constant; factor = s .«wider_factor»; target = s .revenue * s .p * 1000 }
 
-    pub generation-fits : SideFits up (s .«generation_zones») (tec .total) generation income
-    generation-fits =
-        side-fits up (s .«generation_zones») tec generation income (f .upAll) (f .settings .0) (f .tecIs) (f .upTotal .0) (f .upTotal .1) c-small (omega (arith, up-share)) (f .local)
+    pub generation-fits : (x : ℤ) → natAbs x ≤ 1000000000000000000 → SideFits up (s .«generation_zones») (tec .total) generation x
+    generation-fits x local =
+        side-fits up (s .«generation_zones») tec generation x (f .upAll) (f .settings .0) (f .tecIs) (f .upTotal .0) (f .upTotal .1) c-small (omega (arith, up-share)) local
 
     pub demand-fits : SideFits down (s .«demand_zones») (load .total) demand (pos 0)
     demand-fits =

@@ -1,4 +1,4 @@
-use mathlib.Core.Path.{_≡_, _∙_}
+use mathlib.Core.Path.{_≡_, _∙_, ap}
 use Prim.Native.Nat.{_≤_}
 use borrow.Author.Needs.{needs}
 use native.Mathlib.Omega.{arith}
@@ -7,12 +7,16 @@ use mir.Syntax.{w64}
 use mir.Val.{SFits, toZ, ofZ}
 use Rattle.integers.proofs.Laws.{sfits-abs}
 use Rattle.integers.proofs.Machine.{Back, fit-back}
+use Rattle.tariffs.specs.Sides.{sideFrom}
 use Rattle.tariffs.proofs.CaseLaws.{minus-near, up-ready, down-ready, up-share, down-share, c-small, generation-fits, demand-fits, case-made}
 use Rattle.tariffs.proofs.case.figures_from.Statement.{statement}
 use Rattle.tariffs.proofs.case.figures_from.Tie as tie
 
 bi : (s : tie.Start) → Back (s .args .income)
 bi s = fit-back (s .fits .income)
+
+most : (s : tie.Start) → natAbs (toZ w64 (ofZ w64 (s .args .income))) ≤ 1000000000000000000
+most s = rw (bi s) (s .pre .local)
 
 module _ (c : tie.After-c-of) where
   abbrev s : tie.Start
@@ -75,7 +79,7 @@ side-figures-requires c κs =
     let m = c .before .before .before .before in
     let s = m .before in
     let a = s .args in
-    simp E (generation-fits (a .settings) (a .up) (a .down) (a .tec) (a .load) (a .income) (s .pre) (m .c-of .ensures))
+    generation-fits (a .settings) (a .up) (a .down) (a .tec) (a .load) (a .income) (s .pre) (m .c-of .ensures) _ (omega (arith, most s))
 
 side-figures-requires-2 : tie.Need-side-figures-requires-2
 side-figures-requires-2 c κs =
@@ -90,7 +94,7 @@ returns c =
     let s = m .before in
     let a = s .args in
     case-made (a .settings) (a .up) (a .down) (a .tec) (a .load) (a .income) (s .pre) (m .c-of .ensures) (a .nodes) (a .lines)
-    (simp E at (c .before .side-figures .ensures))
+    (c .before .side-figures .ensures ∙ ap (sideFrom (a .up) (a .settings .«generation_zones») (a .tec .total) _) (bi s))
     (simp E at (c .side-figures2 .ensures))
 
 pub figures-from-spec : {M : Type 1} → statement M

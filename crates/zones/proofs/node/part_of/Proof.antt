@@ -41,7 +41,7 @@ sub-t9 : tie.Need-sub-t9
 sub-t9 c = in-range c .least
 
 times-requires : tie.Need-times-requires
-times-requires c κs = (rw (far (c .before)) (in-range c .near), in-range c .weighs)
+times-requires c κs = (rw (far (c .before)) (in-range c .near), omega (arith, in-range c .weighs))
 
 returns : tie.Need-returns
 returns c =
