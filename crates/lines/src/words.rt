@@ -49,15 +49,22 @@ pub fn with_name(line: Line, name: &[u8]) -> Line
     requires { ⌜ line .len + 12 ≤ 128 ⌝ }
     ensures { λ r. ⌜ Adds 12 line (unpadded (take 12 (now (name .entry)))) r ⌝ }
 {
-    let mut longer = line;
+    let at = line.len;
+    let mut bytes = line.bytes;
     let mut i: usize = 0;
     while (i < 12) & (i < name.len()) {
         let byte = name[i];
         if byte == b' ' {
-            return longer;
+            return Line {
+                bytes: bytes,
+                len: at + i,
+            };
         }
-        longer = with_byte(longer, byte);
+        bytes[at + i] = byte;
         i += 1;
     }
-    longer
+    Line {
+        bytes: bytes,
+        len: at + i,
+    }
 }
