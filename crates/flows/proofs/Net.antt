@@ -14,7 +14,6 @@ use mir.Syntax.{w64}
 use mir.Val.{SFits}
 use Rattle.integers.specs.Numbers.{Σ}
 use Rattle.meaning.specs.Rows.{rows}
-use Rattle.meaning.specs.Network.{Network}
 use Rattle.meaning.specs.Proposal.{flow, flowOut, flowIn}
 use Rattle.meaning.proofs.Rows.{rows-at, rows-same, length-rows}
 use Rattle.integers.proofs.Core.{Z}

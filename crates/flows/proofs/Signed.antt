@@ -1,5 +1,5 @@
 -- Steps 4 and 5: a circuit's signed length by its direction, and its offset by the system and its mark.
-use mathlib.Core.Path.{_≡_, refl, _∙_}
+use mathlib.Core.Path.{_≡_, refl}
 use mathlib.Core.Logic.{_≢_}
 use mathlib.Core.Bool.{Bool, true, false, cond}
 use mathlib.Core.List.{List}

@@ -1,10 +1,9 @@
 -- A case in columns: what the judge asks, and that it judges what is proposed.
-use mathlib.Core.Path.{_≡_, refl, sym, _∙_, ap}
+use mathlib.Core.Path.{_≡_, refl, _∙_, ap}
 use mathlib.Core.List.{List}
 use Prim.Native.Nat.{ℕ, _<_}
 use native.Mathlib.Omega.{arith}
 use lib.IntN.{ℤ}
-use lib.ListN.{length}
 use Rattle.meaning.specs.declared.System.{System}
 use Rattle.meaning.specs.Proposal.{systemStage}
 use Rattle.supply.specs.Supply.{supplyIn}

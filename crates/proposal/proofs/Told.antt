@@ -8,7 +8,7 @@ use native.Mathlib.Decide.{decLe}
 use native.Mathlib.Omega.{arith}
 use lib.Dec.{eqb, leb}
 use lib.IntN.{pos, _-ℤ_, _*ℤ_}
-use lib.ListN.{length, getD, replicate, getD-replicate}
+use lib.ListN.{length, getD, getD-replicate}
 use borrow.Author.Tests.{le-leb}
 use Rattle.integers.proofs.Sum.{sum-same}
 use Rattle.meaning.specs.declared.Kw.{Kw}
@@ -18,14 +18,13 @@ use Rattle.meaning.specs.declared.Answer.the-variants.{DirectionInDoubt}
 use Rattle.meaning.specs.Answers.{at, _orElse_}
 use Rattle.meaning.specs.Rows.{rows, failing}
 use Rattle.meaning.specs.Study.{Settings, Circuit, Runs, circuit}
-use Rattle.meaning.specs.Grid.{Grid, place, nodeTec, nodeDemand, totalTec, totalDemand}
+use Rattle.meaning.specs.Grid.{Grid, place}
 use Rattle.meaning.specs.Network.{networkOf}
 use Rattle.meaning.specs.Scaled.{wholeShare, leftOver, missing, scaled}
 use Rattle.meaning.specs.Direction.{overheadFactor, cableFactor, expandedLength, hasLength, signedLength}
-use Rattle.meaning.specs.Systems.{runOf, net, supply, lengthOf, offset, proposed, solutionStage, directionClear, directionStage, proposalsStage}
+use Rattle.meaning.specs.Systems.{runOf, supply, lengthOf, offset, proposed, solutionStage, directionClear, directionStage, proposalsStage}
 use Rattle.meaning.specs.Conditions.{InRange, SoundSettings}
-use Rattle.meaning.proofs.Rows.{rows-at, length-rows}
-use Rattle.meaning.proofs.Rows.{lowest-same}
+use Rattle.meaning.proofs.Rows.{rows-at, lowest-same}
 use Rattle.flows.specs.declared.Case.{Case}
 use Rattle.flows.specs.Flows.{number, circuitsIn, netIn, signedBy, offsetIn, offsetAt}
 use Rattle.flows.proofs.Signed.{signed-is}

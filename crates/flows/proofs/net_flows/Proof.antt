@@ -1,5 +1,4 @@
-use mathlib.Core.Path.{_≡_, sym, _∙_}
-use mathlib.Core.List.{List}
+use mathlib.Core.Path.{_≡_}
 use Prim.Native.Nat.{ℕ, _+_, _-_, _≤_, _<_}
 use native.Mathlib.Omega.{arith}
 use lib.IntN.{ℤ, pos, _-ℤ_}
@@ -7,7 +6,6 @@ use Rattle.integers.proofs.Machine.{Back, back, fit-back}
 use Rattle.meaning.specs.Columns.{numberAt}
 use Rattle.flows.proofs.Circuits.{place-fits}
 use Rattle.flows.specs.Flows.{number, carried}
-use Rattle.flows.specs.Turns.{added}
 use Rattle.flows.proofs.Net.{Netted, carriedIn, carried-small, carried-fits, netted-none, netted-more, netted-all, small-before, small-between, turned-flow}
 use Rattle.flows.proofs.net_flows.Statement.{statement}
 use Rattle.flows.proofs.net_flows.Tie as tie

@@ -1,7 +1,7 @@
 use mathlib.Core.Path.{_≡_, sym, _∙_}
 use Prim.Native.Nat.{_+_, _-_, _≤_, _<_}
 use native.Mathlib.Omega.{arith}
-use lib.IntN.{ℤ, pos}
+use lib.IntN.{pos}
 use Rattle.integers.proofs.Machine.{Back, back}
 use Rattle.meaning.specs.Columns.{column}
 use Rattle.meaning.proofs.Columns.{column-none, column-turn, column-done}
