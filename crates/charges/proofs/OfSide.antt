@@ -22,7 +22,7 @@ use Rattle.meaning.proofs.Columns.{column-same}
 use Rattle.zones.specs.declared.ZoneSums.{ZoneSums}
 use Rattle.prices.specs.Prices.{priceOf}
 use Rattle.prices.proofs.Laws.{price-is}
-use Rattle.tariffs.specs.declared.lines.Terms.{Terms}
+use Rattle.tariffs.specs.declared.by_zone.Terms.{Terms}
 use Rattle.tariffs.specs.Over.{metresFrom, sumsIn}
 use Rattle.tariffs.specs.Lines.{afterFrom, tariffFrom, incomeFrom, lineFrom}
 use Rattle.tariffs.specs.Sides.{restFrom, sideFrom}

@@ -23,31 +23,31 @@ pub fn put_natural(out: &mut [u8; 128], at: usize, n: u64) -> usize
     }
 }
 
-// A line with a number without sign more.
-pub fn with_natural(line: Line, n: u64) -> Line
-    requires { ⌜ line .len + length (natural n) ≤ 128 ⌝ }
-    ensures { λ r. ⌜ Adds (length (natural n)) line (natural n) r ⌝ }
+// Writes a space and a number, with a minus sign only below zero.
+pub fn put_number(out: &mut [u8; 128], at: usize, z: i64) -> usize
+    requires { ⌜ at + 21 ≤ 128 ⌝ }
+    ensures { λ r. ⌜ Put 21 (now (out .entry)) at (text " " ++ decimal z) (now (out .exit)) r ⌝ }
 {
-    let mut bytes = line.bytes;
-    let len = put_natural(&mut bytes, line.len, n);
-    Line {
-        bytes: bytes,
-        len: len,
+    let n = integers::magnitude(z);
+    out[at] = b' ';
+    if z < 0 {
+        out[at + 1] = b'-';
+        return put_natural(out, at + 2, n);
     }
+    put_natural(out, at + 1, n)
 }
 
-// A line with a space and a number more, with a minus sign only below zero.
+// A line with a space and a number more.
 pub fn with_number(line: Line, z: i64) -> Line
     requires { ⌜ line .len + 21 ≤ 128 ⌝ }
     ensures { λ r. ⌜ Adds 21 line (text " " ++ decimal z) r ⌝ }
 {
-    let n = integers::magnitude(z);
-    let spaced = with_byte(line, b' ');
-    if z < 0 {
-        let signed = with_byte(spaced, b'-');
-        return with_natural(signed, n);
+    let mut bytes = line.bytes;
+    let len = put_number(&mut bytes, line.len, z);
+    Line {
+        bytes: bytes,
+        len: len,
     }
-    with_natural(spaced, n)
 }
 
 // A line with a space and a count more.
@@ -56,5 +56,10 @@ pub fn with_count(line: Line, n: usize) -> Line
     ensures { λ r. ⌜ Adds 21 line (text " " ++ natural n) r ⌝ }
 {
     let spaced = with_byte(line, b' ');
-    with_natural(spaced, n as u64)
+    let mut bytes = spaced.bytes;
+    let len = put_natural(&mut bytes, spaced.len, n as u64);
+    Line {
+        bytes: bytes,
+        len: len,
+    }
 }

@@ -18,7 +18,7 @@ use Rattle.layout.specs.declared.StudySettings.{StudySettings}
 use Rattle.steps.specs.Nothing.{noFigures}
 use Rattle.zones.specs.declared.ZoneSums.{ZoneSums}
 use Rattle.tariffs.specs.declared.over.Over.{Over}
-use Rattle.tariffs.specs.declared.lines.Terms.{Terms}
+use Rattle.tariffs.specs.declared.by_zone.Terms.{Terms}
 use Rattle.tariffs.specs.Over.{overFrom, cFrom, AllFit, Ready}
 use Rattle.tariffs.specs.Sides.{sideFrom, SideFits}
 use Rattle.tariffs.specs.Case.{settingsFit, totalsFit, overUp, overDown, centre, figuresFrom, figuresIn, CaseFits}

@@ -23,7 +23,7 @@ use Rattle.zones.specs.Sums.{SumsFit}
 use Rattle.zones.proofs.Laws.{metres-near}
 use Rattle.prices.proofs.Laws.{price-most}
 use Rattle.tariffs.specs.declared.over.Over.{Over}
-use Rattle.tariffs.specs.declared.lines.Terms.{Terms}
+use Rattle.tariffs.specs.declared.by_zone.Terms.{Terms}
 use Rattle.tariffs.specs.Over.{metresFrom, sumsIn, metresTimes, withZone, overFrom, cFrom, AllFit, OverFits, Ready}
 use Rattle.tariffs.specs.Lines.{tariffFrom, worthFrom, incomeFrom, lineFrom, IncomeFits}
 use Rattle.tariffs.specs.Sides.{restFrom, sideFrom, SideFits}

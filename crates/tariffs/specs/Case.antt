@@ -18,7 +18,7 @@ use Rattle.zones.specs.declared.ZoneSums.{ZoneSums}
 use Rattle.zones.specs.Sums.{zoneSums}
 use Rattle.prices.specs.Prices.{linesOf, incomeOf}
 use Rattle.tariffs.specs.declared.over.Over.{Over}
-use Rattle.tariffs.specs.declared.lines.Terms.{Terms}
+use Rattle.tariffs.specs.declared.by_zone.Terms.{Terms}
 use Rattle.tariffs.specs.Over.{overFrom, cFrom, AllFit, Ready}
 use Rattle.tariffs.specs.Sides.{sideFrom}
 

@@ -8,7 +8,7 @@ use Rattle.meaning.specs.declared.ZoneFigures.{ZoneFigures}
 use Rattle.meaning.specs.Columns.{distance, price}
 use Rattle.zones.specs.declared.ZoneSums.{ZoneSums}
 use Rattle.prices.specs.Prices.{priceOf}
-use Rattle.tariffs.specs.declared.lines.Terms.{Terms}
+use Rattle.tariffs.specs.declared.by_zone.Terms.{Terms}
 use Rattle.tariffs.specs.Over.{metresFrom, sumsIn}
 
 module _ (t : Terms) where

@@ -7,7 +7,7 @@ use Rattle.meaning.specs.declared.SideFigures.{SideFigures}
 use Rattle.meaning.specs.Columns.{price, column, noLine}
 use Rattle.meaning.specs.Figures.{residualOf, remainderOf}
 use Rattle.zones.specs.declared.ZoneSums.{ZoneSums}
-use Rattle.tariffs.specs.declared.lines.Terms.{Terms}
+use Rattle.tariffs.specs.declared.by_zone.Terms.{Terms}
 use Rattle.tariffs.specs.Over.{sumsIn, AllFit}
 use Rattle.tariffs.specs.Lines.{incomeFrom, lineFrom, IncomeFits}
 

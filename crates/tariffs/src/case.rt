@@ -1,4 +1,4 @@
-use crate::lines::Terms;
+use crate::by_zone::Terms;
 use crate::over::Over;
 use crate::over::c_of;
 use crate::over::over_zones;

@@ -1,6 +1,6 @@
 // 01, steps 6 to 10 of a case, from its columns: C, tariffs, incomes, rests and residuals. Every input has its answer: no figures where a setting or a total is out of range.
+mod by_zone;
 mod case;
-mod lines;
 mod over;
 mod rests;
 

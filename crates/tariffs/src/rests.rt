@@ -1,7 +1,7 @@
 // Step 10 of a side: rest, residual and remainder.
-use crate::lines::Terms;
-use crate::lines::zone_income;
-use crate::lines::zone_lines;
+use crate::by_zone::Terms;
+use crate::by_zone::zone_income;
+use crate::by_zone::zone_lines;
 use meaning::Kw;
 use meaning::SideFigures;
 use zones::ZoneSums;

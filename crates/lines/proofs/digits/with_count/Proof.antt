@@ -9,15 +9,15 @@ use Rattle.lines.proofs.digits.with_count.Tie as tie
 with-byte-requires : tie.Need-with-byte-requires
 with-byte-requires c κs = search needs
 
-with-natural-requires : tie.Need-with-natural-requires
-with-natural-requires c κs =
-    let s = c .before in omega (arith, c .with-byte .ensures .next, natural-u64 (s .args .n) (omega arith))
+put-natural-requires : tie.Need-put-natural-requires
+put-natural-requires c κs =
+    let p = c .before .before in omega (arith, p .with-byte .ensures .next, natural-u64 (p .before .args .n) (omega arith))
 
 returns : tie.Need-returns
 returns c =
-    let p = c .before in
+    let p = c .before .before .before in
     let s = p .before in
-    longer (both (p .with-byte .ensures) (c .with-natural .ensures)) (omega (arith, natural-u64 (s .args .n) (omega arith)))
+    longer (both (p .with-byte .ensures) (c .put-natural .ensures)) (omega (arith, natural-u64 (s .args .n) (omega arith)))
 
 pub with-count-spec : {M : Type 1} → statement M
-with-count-spec = tie.close (tie.spec with-byte-requires with-natural-requires returns)
+with-count-spec = tie.close (tie.spec with-byte-requires put-natural-requires returns)

@@ -10,8 +10,8 @@ use Rattle.integers.proofs.Laws.{abs-mul-le, sfits-abs}
 use Rattle.integers.proofs.Machine.{Back, fit-back, of-nat}
 use Rattle.tariffs.specs.Lines.{tariffFrom}
 use Rattle.tariffs.proofs.Laws.{tariff-most}
-use Rattle.tariffs.proofs.lines.zone_worth.Statement.{statement}
-use Rattle.tariffs.proofs.lines.zone_worth.Tie as tie
+use Rattle.tariffs.proofs.by_zone.zone_worth.Statement.{statement}
+use Rattle.tariffs.proofs.by_zone.zone_worth.Tie as tie
 
 module _ (s : tie.Start) where
   abbrev t : ℤ

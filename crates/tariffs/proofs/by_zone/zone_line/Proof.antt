@@ -3,8 +3,8 @@ use borrow.Author.Needs.{needs}
 use Rattle.meaning.specs.Columns.{distance, price}
 use Rattle.tariffs.specs.Lines.{tariffFrom, lineFrom}
 use Rattle.tariffs.proofs.Laws.{tariff-most}
-use Rattle.tariffs.proofs.lines.zone_line.Statement.{statement}
-use Rattle.tariffs.proofs.lines.zone_line.Tie as tie
+use Rattle.tariffs.proofs.by_zone.zone_line.Statement.{statement}
+use Rattle.tariffs.proofs.by_zone.zone_line.Tie as tie
 
 priced : (c : tie.After-price) → let s = c .before .before .before in c .price .result .0 ≡ tariffFrom (s .args .terms) (s .args .zone)
 unfolding tariffFrom

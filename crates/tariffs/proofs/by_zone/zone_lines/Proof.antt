@@ -9,11 +9,11 @@ use Rattle.meaning.specs.declared.ZoneFigures.{ZoneFigures}
 use Rattle.meaning.specs.Columns.{column, noLine}
 use Rattle.meaning.proofs.Columns.{column-none, column-turn}
 use Rattle.zones.specs.declared.ZoneSums.{ZoneSums}
-use Rattle.tariffs.specs.declared.lines.Terms.{Terms}
+use Rattle.tariffs.specs.declared.by_zone.Terms.{Terms}
 use Rattle.tariffs.specs.Over.{sumsIn}
 use Rattle.tariffs.specs.Lines.{lineFrom}
-use Rattle.tariffs.proofs.lines.zone_lines.Statement.{statement}
-use Rattle.tariffs.proofs.lines.zone_lines.Tie as tie
+use Rattle.tariffs.proofs.by_zone.zone_lines.Statement.{statement}
+use Rattle.tariffs.proofs.by_zone.zone_lines.Tie as tie
 
 abbrev mine : Terms → MicroPerKw → List ZoneSums → ℕ → ZoneFigures
 mine terms residual sums k = lineFrom terms residual (sumsIn sums k)

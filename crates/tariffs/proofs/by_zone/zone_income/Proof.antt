@@ -12,12 +12,12 @@ use Rattle.integers.proofs.Machine.{back}
 use Rattle.integers.proofs.Sum.{Σ-zero, Σ-more}
 use Rattle.integers.proofs.Laws.{sfits-abs}
 use Rattle.zones.specs.declared.ZoneSums.{ZoneSums}
-use Rattle.tariffs.specs.declared.lines.Terms.{Terms}
+use Rattle.tariffs.specs.declared.by_zone.Terms.{Terms}
 use Rattle.tariffs.specs.Over.{sumsIn}
 use Rattle.tariffs.specs.Lines.{worthFrom, incomeFrom}
 use Rattle.tariffs.proofs.Laws.{income-to, light}
-use Rattle.tariffs.proofs.lines.zone_income.Statement.{statement}
-use Rattle.tariffs.proofs.lines.zone_income.Tie as tie
+use Rattle.tariffs.proofs.by_zone.zone_income.Statement.{statement}
+use Rattle.tariffs.proofs.by_zone.zone_income.Tie as tie
 
 abbrev mine : Terms → List ZoneSums → ℕ → ℤ
 mine terms sums k = worthFrom terms (sumsIn sums k)

@@ -6,8 +6,8 @@ use mir.Val.{SFits}
 use Rattle.integers.proofs.Laws.{abs-add, sfits-abs}
 use Rattle.integers.proofs.Machine.{Back, fit-back}
 use Rattle.meaning.specs.Columns.{price}
-use Rattle.tariffs.proofs.lines.total_of.Statement.{statement}
-use Rattle.tariffs.proofs.lines.total_of.Tie as tie
+use Rattle.tariffs.proofs.by_zone.total_of.Statement.{statement}
+use Rattle.tariffs.proofs.by_zone.total_of.Tie as tie
 
 module _ (s : tie.Start) where
   abbrev t : ℤ

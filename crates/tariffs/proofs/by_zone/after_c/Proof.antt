@@ -9,8 +9,8 @@ use Rattle.integers.proofs.Laws.{abs-add, sfits-abs}
 use Rattle.integers.proofs.Machine.{Back, fit-back}
 use Rattle.tariffs.specs.Over.{metresFrom}
 use Rattle.tariffs.proofs.Laws.{near}
-use Rattle.tariffs.proofs.lines.after_c.Statement.{statement}
-use Rattle.tariffs.proofs.lines.after_c.Tie as tie
+use Rattle.tariffs.proofs.by_zone.after_c.Statement.{statement}
+use Rattle.tariffs.proofs.by_zone.after_c.Tie as tie
 
 module _ (s : tie.Start) where
   abbrev m : ℤ
