@@ -25,13 +25,13 @@ use Rattle.meaning.proofs.Says.{says-le, _also_}
 use Rattle.layout.specs.declared.StudySettings.{StudySettings}
 use Rattle.layout.specs.Frame.{settingsIn}
 use Rattle.zones.specs.declared.ZoneSums.{ZoneSums}
-use Rattle.zones.specs.Sums.{reachedOf}
+use Rattle.zones.specs.Sums.{nodesIn}
 use Rattle.zones.proofs.Laws.{reached-all}
 use Rattle.prices.specs.Prices.{priceOf, localFrom, localAt, linesOf, worthOf, worthAt, incomeOf}
 use Rattle.prices.proofs.Laws.{price-is, price-most, worth-is, income-is}
 use Rattle.tariffs.specs.Over.{overFrom, cFrom}
 use Rattle.tariffs.specs.Sides.{sideFrom}
-use Rattle.tariffs.specs.Case.{settingsFit, totalsFit, overUp, overDown, figuresFrom, figuresIn, figuresOver}
+use Rattle.tariffs.specs.Case.{settingsFit, totalsFit, tecOver, demandOver, figuresFrom, figuresIn, figuresOver}
 use Rattle.tariffs.proofs.CaseLaws.{ranged}
 use Rattle.charges.specs.Case.{localFigures, figuresOf, sideFigures}
 use Rattle.charges.proofs.OfGrid.{SideOf, GridFits, sums, over-is, total-is}
@@ -88,10 +88,10 @@ module _ (G : Grid) (runs : Runs) (f : GridFits G runs) (n : ℕ) (zone : List �
       ∙ worth-is (priceOf (metres (potential local v)) k by) (payingTec G v) (price-most (metres (potential local v)) k by)
       ∙ ap (λ (x : ℤ). x *ℤ pos (payingTec G v)) (tariff-at v h)
 
-  all-reached : reachedOf n 256 ≡ n
+  all-reached : nodesIn n 256 ≡ n
   all-reached = reached-all n 256 few few
 
-  light : sum (reachedOf n 256) (kwAt pays) ≤ 100000000
+  light : sum (nodesIn n 256) (kwAt pays) ≤ 100000000
   unfolding totalPaying
   light =
       let e = all-reached in
@@ -109,36 +109,36 @@ module _ (G : Grid) (runs : Runs) (f : GridFits G runs) (n : ℕ) (zone : List �
 -- ---- the whole
 module _ (G : Grid) (runs : Runs) (f : GridFits G runs) (n : ℕ) (gz : List ℕ) (tec pays : List Kw) (dz : List ℕ) (demand : List Kw)
     (og : SideOf G Generation n gz tec pays) (od : SideOf G Demand n dz demand demand) where
-  abbrev up : List ZoneSums
-  up = sums G runs f Generation n gz tec pays og
+  abbrev tecSums : List ZoneSums
+  tecSums = sums G runs f Generation n gz tec pays og
 
-  abbrev down : List ZoneSums
-  down = sums G runs f Demand n dz demand demand od
+  abbrev demandSums : List ZoneSums
+  demandSums = sums G runs f Demand n dz demand demand od
 
   -- the figures by the settings of a study
   unfoldable byC : Settings → (c : ℤ) (lines : List LocalFigures) (income : ℤ) → Figures
   byC x c lines income =
       record {
         c = distance c;
-        generation = sideFrom up (x .generationZones) (overFrom up (x .generationZones) .total)
+        generation = sideFrom tecSums (x .generationZones) (overFrom tecSums (x .generationZones) .total)
             (record { shift = distance c; constant = x .constant; factor = x .widerFactor; target = x .revenue * (1000 - x .p) * 1000 }) income;
-        demand = sideFrom down (x .demandZones) (overFrom down (x .demandZones) .total)
+        demand = sideFrom demandSums (x .demandZones) (overFrom demandSums (x .demandZones) .total)
             (record { shift = distance (pos 0 -ℤ c); constant = x .constant; factor = x .widerFactor; target = x .revenue * x .p * 1000 }) (pos 0);
         nodes = n;
         local = lines;
       }
 
-  abbrev centreBy : Settings → ℤ
-  centreBy x = cFrom (x .p) (overFrom up (x .generationZones)) (overFrom down (x .demandZones))
+  abbrev cBy : Settings → ℤ
+  cBy x = cFrom (x .p) (overFrom tecSums (x .generationZones)) (overFrom demandSums (x .demandZones))
 
   by-settings : (s : StudySettings) → settingsIn s ≡ G .settings → (lines : List LocalFigures) (income : ℤ)
-      → figuresFrom s up down n lines income ≡ byC (G .settings) (centreBy (G .settings)) lines income
+      → figuresFrom s tecSums demandSums n lines income ≡ byC (G .settings) (cBy (G .settings)) lines income
   unfolding figuresFrom settingsIn byC
-  by-settings s es lines income = ap (λ (x : Settings). byC x (centreBy x) lines income) es
+  by-settings s es lines income = ap (λ (x : Settings). byC x (cBy x) lines income) es
 
-  centre-is : centreBy (G .settings) ≡ C G runs
+  c-by-is : cBy (G .settings) ≡ C G runs
   unfolding cFrom C zones
-  centre-is =
+  c-by-is =
       rw (
         over-is G runs f Generation n gz tec pays og,
         over-is G runs f Demand n dz demand demand od,
@@ -153,7 +153,7 @@ module _ (G : Grid) (runs : Runs) (f : GridFits G runs) (n : ℕ) (gz : List ℕ
   unfolding byC figuresOf zones termsOn shiftOf targetOf localIncome
   figures-are lines income el ei =
       cased refl
-      (ap (sideFrom up (zones G Generation) (overFrom up (zones G Generation) .total) (termsOn G runs Generation)) ei
+      (ap (sideFrom tecSums (zones G Generation) (overFrom tecSums (zones G Generation) .total) (termsOn G runs Generation)) ei
       ∙ side-is G runs f Generation n gz tec pays og _ (total-is G runs f Generation n gz tec pays og))
       (side-is G runs f Demand n dz demand demand od _ (total-is G runs f Demand n dz demand demand od))
       (og .nodes)
@@ -169,11 +169,11 @@ module _ (G : Grid) (runs : Runs) (f : GridFits G runs) (n : ℕ) (gz : List ℕ
         let d : s .revenue ≤ 10000000000 = omega (arith, ap (λ (x : Settings). x .revenue) es, f .revenue) in
         (says-le also says-le also says-le also says-le) .1 (((a, b), c), d)
 
-    totals-fit : totalsFit (overUp s up down) (overDown s up down) ≡ true
+    totals-fit : totalsFit (tecOver s tecSums demandSums) (demandOver s tecSums demandSums) ≡ true
     unfolding totalsFit _between_and_ settingsIn zones
     totals-fit =
-        let u : overUp s up down .total .0 ≡ totalPaying G Generation = ap (λ (x : Settings). overFrom up (x .generationZones) .total .0) es ∙ total-is G runs f Generation n gz tec pays og in
-        let d : overDown s up down .total .0 ≡ totalPaying G Demand = ap (λ (x : Settings). overFrom down (x .demandZones) .total .0) es ∙ total-is G runs f Demand n dz demand demand od in
+        let u : tecOver s tecSums demandSums .total .0 ≡ totalPaying G Generation = ap (λ (x : Settings). overFrom tecSums (x .generationZones) .total .0) es ∙ total-is G runs f Generation n gz tec pays og in
+        let d : demandOver s tecSums demandSums .total .0 ≡ totalPaying G Demand = ap (λ (x : Settings). overFrom demandSums (x .demandZones) .total .0) es ∙ total-is G runs f Demand n dz demand demand od in
         let a = f .kilowattsFit .all Generation in
         let b = f .kilowattsFit .all Demand in
         rw (u, d) (((says-le also says-le) also (says-le also says-le)) .1 ((a .least, a .most), (b .least, b .most)))
@@ -185,7 +185,7 @@ module _ (G : Grid) (runs : Runs) (f : GridFits G runs) (n : ℕ) (gz : List ℕ
         let l = lines G runs f n gz tec pays og in
         let i = incomeOf n l pays in
         rw e
-        (sym (ranged s up down n l i settings-fit refl refl totals-fit)
+        (sym (ranged s tecSums demandSums n l i settings-fit refl refl totals-fit)
         ∙ by-settings s es l i
-        ∙ ap (λ (c : ℤ). byC (G .settings) c l i) centre-is
+        ∙ ap (λ (c : ℤ). byC (G .settings) c l i) c-by-is
         ∙ figures-are l i (lines-are G runs f n gz tec pays og) (income-are G runs f n gz tec pays og))

@@ -10,7 +10,7 @@ use Rattle.meaning.specs.Study.{Settings, Circuit, noCircuit}
 use Rattle.meaning.specs.File.{u32, circuitAt}
 use Rattle.meaning.specs.Direction.{overheadFactor, cableFactor, expandedLength}
 use Rattle.meaning.proofs.Says.{_also_, says-le}
-use Rattle.circuit_table.specs.Lengths.{lengthInRange, lengthIfInRange, sized}
+use Rattle.circuit_table.specs.Lengths.{lengthInRange, lengthIfInRange, expandedBy}
 
 -- what the two products come to
 part-low : {length factor : ℕ} → length ≤ 500000 → factor ≤ 30000 → length * factor ≤ 15000000000
@@ -26,7 +26,7 @@ parts-low overhead over cable under e =
 pub length-read : (file : List ℕ) (at : ℕ) (s : Settings) (voltage overhead cable over under : ℕ)
     → voltage ≡ u32 file (at + 24) → overhead ≡ u32 file (at + 32) → cable ≡ u32 file (at + 36)
     → over ≡ overheadFactor s voltage → under ≡ cableFactor s voltage
-    → sized overhead over cable under ≡ lengthIfInRange s (circuitAt file at)
+    → expandedBy overhead over cable under ≡ lengthIfInRange s (circuitAt file at)
 unfolding lengthIfInRange lengthInRange expandedLength circuitAt
 length-read file at s voltage overhead cable over under v o k f g = rw (f, g, v, o, k) refl
 

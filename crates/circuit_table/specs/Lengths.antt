@@ -15,5 +15,5 @@ unfoldable pub lengthIfInRange : Settings → Circuit → ℕ
 lengthIfInRange s c = cond (lengthInRange s c) (expandedLength s c) 0
 
 -- the same, from the two lengths and their factors
-abbrev pub sized : (overhead over cable under : ℕ) → ℕ
-sized overhead over cable under = cond (leb overhead 500000 && leb cable 500000 && leb over 30000 && leb under 30000) (overhead * over + cable * under) 0
+abbrev pub expandedBy : (overhead over cable under : ℕ) → ℕ
+expandedBy overhead over cable under = cond (leb overhead 500000 && leb cable 500000 && leb over 30000 && leb under 30000) (overhead * over + cable * under) 0

@@ -5,7 +5,7 @@ ghost use Prim.Native.Nat.{_+_, _*_, _≤_};
 ghost use Rattle.meaning.specs.File.{circuitAt};
 ghost use Rattle.meaning.specs.Columns.{column};
 ghost use Rattle.meaning.specs.Direction.{overheadFactor, cableFactor};
-ghost use Rattle.circuit_table.specs.Lengths.{sized, lengthIfInRange};
+ghost use Rattle.circuit_table.specs.Lengths.{expandedBy, lengthIfInRange};
 ghost use Rattle.layout.specs.Frame.{settingsIn};
 
 // The factor of overhead line; a voltage that no sound row has takes that of 132 kV.
@@ -31,8 +31,8 @@ pub fn cable_factor(factors: StudySettings, voltage: usize) -> usize
 }
 
 // The expanded length in mm of two lengths by their factors; 0 where one is above its range.
-pub fn sized(overhead: usize, over: usize, cable: usize, under: usize) -> u64
-    ensures { λ r. ⌜ r ≡ sized overhead over cable under ⌝ }
+pub fn expanded(overhead: usize, over: usize, cable: usize, under: usize) -> u64
+    ensures { λ r. ⌜ r ≡ expandedBy overhead over cable under ⌝ }
 {
     if (overhead <= 500_000) & (cable <= 500_000) & (over <= 30_000) & (under <= 30_000) {
         return (overhead * over + cable * under) as u64;
@@ -50,7 +50,7 @@ pub fn length_at(file: &[u8], at: usize, factors: StudySettings) -> u64
     let cable = fields::u32_at(file, at + 36);
     let over = overhead_factor(factors, voltage);
     let under = cable_factor(factors, voltage);
-    sized(overhead, over, cable, under)
+    expanded(overhead, over, cable, under)
 }
 
 // Expanded lengths of the circuits.

@@ -21,7 +21,7 @@ use Rattle.integers.proofs.Laws.{add-zero, abs-add, abs-sub, sfits-abs}
 use Rattle.integers.proofs.Sum.{Σ-zero, Σ-more, Σ-bound, Σ-same}
 use Rattle.flows.specs.declared.Case.{Case}
 use Rattle.flows.specs.Flows.{number, netIn, carried, netFlow, netFlows}
-use Rattle.flows.specs.Turns.{added, Small}
+use Rattle.flows.specs.Turns.{added, Addable}
 
 -- ---- a flow, or none
 pub carried-all : (z : ℤ) → leb (natAbs z) 100000000000000 ≡ true → z ≡ carried z
@@ -68,7 +68,7 @@ added-at net a v z h = go (ℕ-discrete v a)
     go (no ne) = simp (ne-eqb a v (λ e. ne (sym e)), add-zero) (getD-set-other net a v _ (pos 0) ne)
 
 -- one flow added: no sum wraps
-pub add-fits : (net : List ℤ) (v : ℕ) (z : ℤ) → Small net z → v < 256 → SFits w64 (number net v) × SFits w64 (number net v +ℤ z)
+pub add-fits : (net : List ℤ) (v : ℕ) (z : ℤ) → Addable net z → v < 256 → SFits w64 (number net v) × SFits w64 (number net v +ℤ z)
 add-fits net v z s h = simp Z (omega (arith, simp Z at (s .each v h), simp Z at (s .flow)))
 
 turned-fits : (z : ℤ) → natAbs z ≤ 100000000000000 → SFits w64 (pos 0 -ℤ z) × (natAbs (pos 0 -ℤ z) ≤ 100000000000000)
@@ -115,14 +115,14 @@ module _ (first second : ℕ → ℕ) (f : ℕ → ℤ) (small : (c : ℕ) → n
   net-small : (v : ℕ) → natAbs (netTo first second f v c) ≤ 102400000000000000
   net-small v = omega (arith, abs-sub (Σ c (λ k. only (first k) v (f k))) (Σ c (λ k. only (second k) v (f k))), side-small first v, side-small second v)
 
-  pub small-before : Small net (f c)
+  pub small-before : Addable net (f c)
   small-before = record {
     long = t .long;
     flow = small c;
     each = λ v l. rw (t .at v l) (omega (arith, net-small v));
   }
 
-  pub small-between : Small left (pos 0 -ℤ f c)
+  pub small-between : Addable left (pos 0 -ℤ f c)
   small-between = record {
     long = left-long;
     flow = turned-fits (f c) (small c) .1;

@@ -20,7 +20,7 @@ abbrev pub added : (net : List ℤ) (v : ℕ) → ℤ → List ℤ
 added net v z = set net v (number net v +ℤ z)
 
 -- net flows so far and a flow, of which no sum wraps
-pub record Small (net : List ℤ) (z : ℤ) : Type 0 where
+pub record Addable (net : List ℤ) (z : ℤ) : Type 0 where
   pub long : length net ≡ 256
   pub flow : natAbs z ≤ 100000000000000
   pub each : (v : ℕ) → v < 256 → natAbs (number net v) ≤ 200000000000000000

@@ -1,12 +1,10 @@
 // What one circuit adds: to the net flow of an end, and to the misses.
-use crate::Case;
-use crate::reading;
 ghost use mathlib.Core.Path.{_≡_};
-ghost use Rattle.flows.specs.Turns.{added, Small, missSize};
+ghost use Rattle.flows.specs.Turns.{added, Addable, missSize};
 
 // z more at node v; an end past the last row is no node.
 pub fn add_at(net: &mut [i64; 256], v: usize, z: i64)
-    requires { ⌜ Small (now net) z ⌝ }
+    requires { ⌜ Addable (now net) z ⌝ }
     ensures { λ r. ⌜ now (net .exit) ≡ added (now (net .entry)) v z ⌝ }
 {
     if v < 256 {

@@ -1,7 +1,6 @@
 // Lines with numbers, for this crate alone.
 use crate::Line;
 use crate::words::with_byte;
-ghost use mathlib.Core.Path.{_≡_};
 ghost use mathlib.Core.List.{_++_};
 ghost use Prim.Native.Nat.{_+_, _≤_};
 ghost use lib.ListN.{length};

@@ -19,7 +19,7 @@ use Rattle.meaning.specs.declared.LocalFigures.{LocalFigures}
 use Rattle.meaning.specs.Columns.{kwAt}
 use Rattle.meaning.specs.Figures.{tariff}
 use Rattle.meaning.proofs.Says.{says-le, _also_}
-use Rattle.zones.specs.Sums.{reachedOf}
+use Rattle.zones.specs.Sums.{nodesIn}
 use Rattle.prices.specs.Prices.{priceOf, worthOf, worthAt, incomeOf}
 
 -- ---- the price of a distance
@@ -71,17 +71,17 @@ module _ (lines : List LocalFigures) (paying : List Kw) where
       (mul-le-mul-left 10000000000 h)
 
   module _ (n : ℕ) where
-    pub income-is : sum (reachedOf n 256) (kwAt paying) ≤ 100000000 → incomeOf n lines paying ≡ Σ (reachedOf n 256) (worthAt lines paying)
+    pub income-is : sum (nodesIn n 256) (kwAt paying) ≤ 100000000 → incomeOf n lines paying ≡ Σ (nodesIn n 256) (worthAt lines paying)
     unfolding incomeOf
     income-is h = rw (le-leb _ _ h) refl
 
-    pub income-none : 100000000 < sum (reachedOf n 256) (kwAt paying) → incomeOf n lines paying ≡ pos 0
+    pub income-none : 100000000 < sum (nodesIn n 256) (kwAt paying) → incomeOf n lines paying ≡ pos 0
     unfolding incomeOf
     income-none h = rw (lt-leb _ _ h) refl
 
     pub income-most : natAbs (incomeOf n lines paying) ≤ 1000000000000000000
-    income-most = go (decLe (sum (reachedOf n 256) (kwAt paying)) 100000000)
+    income-most = go (decLe (sum (nodesIn n 256) (kwAt paying)) 100000000)
       where
-        go : Dec (sum (reachedOf n 256) (kwAt paying) ≤ 100000000) → natAbs (incomeOf n lines paying) ≤ 1000000000000000000
-        go (yes h) = rw (income-is h) (to-most (reachedOf n 256) h)
+        go : Dec (sum (nodesIn n 256) (kwAt paying) ≤ 100000000) → natAbs (incomeOf n lines paying) ≤ 1000000000000000000
+        go (yes h) = rw (income-is h) (to-most (nodesIn n 256) h)
         go (no h) = rw (income-none (omega arith)) (omega arith)

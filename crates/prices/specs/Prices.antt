@@ -11,7 +11,7 @@ use Rattle.meaning.specs.declared.LocalFigures.{LocalFigures}
 use Rattle.meaning.specs.Columns.{kilowatts, distance, price, kwAt, column, noLocal}
 use Rattle.meaning.specs.Figures.{metres, tariff}
 use Rattle.meaning.specs.Proposal.{potential}
-use Rattle.zones.specs.Sums.{reachedOf}
+use Rattle.zones.specs.Sums.{nodesIn}
 
 -- step 9: the tariff of a distance up to 2 x 10^7 m (a zone's with C), by a constant up to 10,000 and a factor up to 5,000; else 0
 unfoldable pub priceOf : (metres : ℤ) (constant factor : ℕ) → ℤ
@@ -28,16 +28,17 @@ localAt tec local constant factor v = localFrom (getD tec v (kilowatts 0)) (pote
 
 -- those of n nodes
 unfoldable pub linesOf : (n : ℕ) (tec : List Kw) (local : List ℤ) (constant factor : ℕ) → List LocalFigures
-linesOf n tec local constant factor = column noLocal 256 (reachedOf n (length local)) (localAt tec local constant factor)
+linesOf n tec local constant factor = column noLocal 256 (nodesIn n (length local)) (localAt tec local constant factor)
 
 -- step 10: a tariff times kilowatts; no price is above 10^10
 unfoldable pub worthOf : (tariff : ℤ) (kw : ℕ) → ℤ
 worthOf t kw = cond (leb (natAbs t) 10000000000) (t *ℤ pos kw) (pos 0)
 
--- "node local tariffs times TEC", where TEC is up to 10^8 in all; else nothing
+-- the same of node v
 abbrev pub worthAt : List LocalFigures → List Kw → ℕ → ℤ
 worthAt lines paying v = worthOf (getD lines v noLocal .tariff .0) (kwAt paying v)
 
+-- "node local tariffs times TEC", where TEC is up to 10^8 in all; else nothing
 unfoldable pub incomeOf : (n : ℕ) → List LocalFigures → (paying : List Kw) → ℤ
 incomeOf n lines paying =
-    cond (leb (sum (reachedOf n 256) (kwAt paying)) 100000000) (Σ (reachedOf n 256) (worthAt lines paying)) (pos 0)
+    cond (leb (sum (nodesIn n 256) (kwAt paying)) 100000000) (Σ (nodesIn n 256) (worthAt lines paying)) (pos 0)

@@ -29,7 +29,7 @@ pub fn local_lines(
 ) -> [LocalFigures; 256]
     ensures { λ r. ⌜ r ≡ linesOf nodes tec (now (local .entry)) constant factor ⌝ }
 {
-    let count = zones::reached(nodes, local.len());
+    let count = zones::nodes_in(nodes, local.len());
     let mut all = [steps::no_local(); 256];
     let mut v = 0;
     while v < count {
@@ -43,7 +43,7 @@ pub fn local_lines(
 pub fn local_income(nodes: usize, lines: [LocalFigures; 256], paying: [Kw; 256]) -> i64
     ensures { λ r. ⌜ r ≡ incomeOf nodes lines paying ⌝ }
 {
-    let count = zones::reached(nodes, 256);
+    let count = zones::nodes_in(nodes, 256);
     let mut total: i64 = 0;
     let mut left: u64 = 100000000;
     let mut v = 0;

@@ -1,3 +1,4 @@
+// One node: its local line, and what its tariff brings in.
 use meaning::Kw;
 use meaning::LocalFigures;
 ghost use mathlib.Core.Path.{_≡_};

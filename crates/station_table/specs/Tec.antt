@@ -1,14 +1,14 @@
 -- 01, step 1: the TEC of each node by plant type, from the columns of the stations, and what of it scales and pays.
 use mathlib.Core.Bool.{Bool, cond, _&&_}
 use mathlib.Core.List.{List, []}
-use Prim.Native.Nat.{ℕ, suc, _+_, _*_, _-_, _/_, _%_, min}
+use Prim.Native.Nat.{ℕ, suc, _+_, _*_, _-_, _/_, _%_}
 use lib.Dec.{eqb, ltb}
 use lib.ListN.{getD}
 use Rattle.integers.specs.Numbers.{sum}
 use Rattle.meaning.specs.Rows.{_between_and_, rows}
 use Rattle.meaning.specs.Columns.{kilowatts, numberAt, kwAt}
 use Rattle.meaning.specs.Study.{Study}
-use Rattle.meaning.specs.Grid.{Grid, plantOf, scales, pays, gridOf, nodeTec, payingTec}
+use Rattle.meaning.specs.Grid.{plantOf, scales, pays, gridOf, nodeTec, payingTec}
 use Rattle.meaning.specs.declared.Kw.{Kw}
 use Rattle.meaning.specs.declared.Plant.{Plant}
 use Rattle.station_table.specs.declared.TecColumns.{TecColumns}

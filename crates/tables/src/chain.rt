@@ -14,7 +14,7 @@ ghost use Rattle.meaning.specs.Network.{reachStage};
 ghost use Rattle.meaning.specs.Outcome.{rowsStage, gridStage, tablesStage};
 ghost use Rattle.layout.specs.Readable.{readable};
 ghost use Rattle.tables.specs.Reads.{Reads, SoundRows, endsOf, totalsOf, totalsIn};
-ghost use Rattle.tables.specs.Walk.{endsNetwork, Walks};
+ghost use Rattle.tables.specs.Walk.{endsNetwork};
 
 // The first answer where it is a refusal, else the second.
 pub fn or_else(first: Answer, second: Answer) -> Answer

@@ -21,7 +21,7 @@ use Rattle.tariffs.specs.declared.over.Over.{Over}
 use Rattle.tariffs.specs.declared.by_zone.Terms.{Terms}
 use Rattle.tariffs.specs.Over.{overFrom, cFrom, AllFit, Ready}
 use Rattle.tariffs.specs.Sides.{sideFrom, SideFits}
-use Rattle.tariffs.specs.Case.{settingsFit, totalsFit, overUp, overDown, centre, figuresFrom, figuresIn, CaseFits}
+use Rattle.tariffs.specs.Case.{settingsFit, totalsFit, tecOver, demandOver, cBetween, figuresFrom, figuresIn, CaseFits}
 use Rattle.tariffs.proofs.Laws.{over-near, c-near}
 
 pub minus-near : (z : ℤ) (b : ℕ) → natAbs z ≤ b → natAbs (pos 0 -ℤ z) ≤ b
@@ -42,24 +42,24 @@ side-fits sums count o t localIncome all few e some most near target local =
       local = local;
     }
 
-module _ (s : StudySettings) (up down : List ZoneSums) (tec load : Over) (income : ℤ) (f : CaseFits s up down tec load income) where
-  pub up-ready : Ready tec
-  up-ready = let e = f .tecIs in record { metres = rw e (over-near up (f .upAll) (s .«generation_zones») (f .settings .0)); total = f .upTotal .1 }
+module _ (s : StudySettings) (tecSums demandSums : List ZoneSums) (tec load : Over) (income : ℤ) (f : CaseFits s tecSums demandSums tec load income) where
+  pub tec-ready : Ready tec
+  tec-ready = let e = f .tecIs in record { metres = rw e (over-near tecSums (f .tecAll) (s .«generation_zones») (f .settings .0)); total = f .tecTotal .1 }
 
-  pub down-ready : Ready load
-  down-ready = let e = f .loadIs in record { metres = rw e (over-near down (f .downAll) (s .«demand_zones») (f .settings .1)); total = f .downTotal .1 }
+  pub demand-ready : Ready load
+  demand-ready = let e = f .loadIs in record { metres = rw e (over-near demandSums (f .demandAll) (s .«demand_zones») (f .settings .1)); total = f .demandTotal .1 }
 
-  pub up-share : s .revenue * (1000 - s .p) ≤ 10000000000000
-  up-share = let h : 1000 - s .p ≤ 1000 = omega arith in mul-le-mul (f .settings .3) h
+  pub generation-share : s .revenue * (1000 - s .p) ≤ 10000000000000
+  generation-share = let h : 1000 - s .p ≤ 1000 = omega arith in mul-le-mul (f .settings .3) h
 
-  pub down-share : s .revenue * s .p ≤ 10000000000000
-  down-share = mul-le-mul (f .settings .3) (f .settings .2)
+  pub demand-share : s .revenue * s .p ≤ 10000000000000
+  demand-share = mul-le-mul (f .settings .3) (f .settings .2)
 
   module _ {c : Metres} (pc : c .0 ≡ cFrom (s .p) tec load) where
     pub c-small : natAbs (c .0) ≤ 10000000
-    c-small = rw pc (c-near (s .p) tec load (f .settings .2) up-ready down-ready)
+    c-small = rw pc (c-near (s .p) tec load (f .settings .2) tec-ready demand-ready)
 
-    c-is : c ≡ distance (centre s up down)
+    c-is : c ≡ distance (cBetween s tecSums demandSums)
     c-is = ap distance (pc ∙ ap₂ (cFrom (s .p)) (f .tecIs) (f .loadIs))
 
     abbrev generation : Terms
@@ -68,19 +68,19 @@ module _ (s : StudySettings) (up down : List ZoneSums) (tec load : Over) (income
     abbrev demand : Terms
     demand = record { shift = distance (pos 0 -ℤ c .0); constant = s .constant; factor = s .«wider_factor»; target = s .revenue * s .p * 1000 }
 
-    pub generation-fits : (x : ℤ) → natAbs x ≤ 1000000000000000000 → SideFits up (s .«generation_zones») (tec .total) generation x
+    pub generation-fits : (x : ℤ) → natAbs x ≤ 1000000000000000000 → SideFits tecSums (s .«generation_zones») (tec .total) generation x
     generation-fits x local =
-        side-fits up (s .«generation_zones») tec generation x (f .upAll) (f .settings .0) (f .tecIs) (f .upTotal .0) (f .upTotal .1) c-small (omega (arith, up-share)) local
+        side-fits tecSums (s .«generation_zones») tec generation x (f .tecAll) (f .settings .0) (f .tecIs) (f .tecTotal .0) (f .tecTotal .1) c-small (omega (arith, generation-share)) local
 
-    pub demand-fits : SideFits down (s .«demand_zones») (load .total) demand (pos 0)
+    pub demand-fits : SideFits demandSums (s .«demand_zones») (load .total) demand (pos 0)
     demand-fits =
-        side-fits down (s .«demand_zones») load demand (pos 0) (f .downAll) (f .settings .1) (f .loadIs) (f .downTotal .0) (f .downTotal .1) (minus-near (c .0) 10000000 c-small)
-        (omega (arith, down-share)) zero-le
+        side-fits demandSums (s .«demand_zones») load demand (pos 0) (f .demandAll) (f .settings .1) (f .loadIs) (f .demandTotal .0) (f .demandTotal .1) (minus-near (c .0) 10000000 c-small)
+        (omega (arith, demand-share)) zero-le
 
     pub case-made : (n : ℕ) (lines : List LocalFigures) {a b : SideFigures}
-        → a ≡ sideFrom up (s .«generation_zones») (tec .total) generation income
-        → b ≡ sideFrom down (s .«demand_zones») (load .total) demand (pos 0)
-        → _≡_ {A = Figures} (record { c = c; generation = a; demand = b; nodes = n; local = lines }) (figuresFrom s up down n lines income)
+        → a ≡ sideFrom tecSums (s .«generation_zones») (tec .total) generation income
+        → b ≡ sideFrom demandSums (s .«demand_zones») (load .total) demand (pos 0)
+        → _≡_ {A = Figures} (record { c = c; generation = a; demand = b; nodes = n; local = lines }) (figuresFrom s tecSums demandSums n lines income)
     unfolding figuresFrom
     case-made n lines pa pb =
         let q = c-is in
@@ -94,32 +94,32 @@ module _ (s : StudySettings) where
   unfolding settingsFit
   settings-say h = let p = (says-le also says-le also says-le also says-le) .0 h in (p .0 .0 .0, p .0 .0 .1, p .0 .1, p .1)
 
-  module _ (up down : List ZoneSums) (n : ℕ) (lines : List LocalFigures) (income : ℤ) where
-    pub no-settings : settingsFit s ≡ false → noFigures ≡ figuresIn s up down n lines income
+  module _ (tecSums demandSums : List ZoneSums) (n : ℕ) (lines : List LocalFigures) (income : ℤ) where
+    pub no-settings : settingsFit s ≡ false → noFigures ≡ figuresIn s tecSums demandSums n lines income
     unfolding figuresIn
     no-settings h = rw h refl
 
-    module _ (h : settingsFit s ≡ true) {tec load : Over} (et : tec ≡ overUp s up down) (el : load ≡ overDown s up down) where
-      pub no-totals : totalsFit tec load ≡ false → noFigures ≡ figuresIn s up down n lines income
+    module _ (h : settingsFit s ≡ true) {tec load : Over} (et : tec ≡ tecOver s tecSums demandSums) (el : load ≡ demandOver s tecSums demandSums) where
+      pub no-totals : totalsFit tec load ≡ false → noFigures ≡ figuresIn s tecSums demandSums n lines income
       unfolding figuresIn
       no-totals k = rw h (rw (ap₂ totalsFit (sym et) (sym el) ∙ k) refl)
 
       module _ (k : totalsFit tec load ≡ true) where
-        pub ranged : figuresFrom s up down n lines income ≡ figuresIn s up down n lines income
+        pub ranged : figuresFrom s tecSums demandSums n lines income ≡ figuresIn s tecSums demandSums n lines income
         unfolding figuresIn
         ranged = rw h (rw (ap₂ totalsFit (sym et) (sym el) ∙ k) refl)
 
-        pub case-fits : AllFit up → AllFit down → natAbs income ≤ 1000000000000000000 → CaseFits s up down tec load income
+        pub case-fits : AllFit tecSums → AllFit demandSums → natAbs income ≤ 1000000000000000000 → CaseFits s tecSums demandSums tec load income
         unfolding totalsFit _between_and_
         case-fits fu fd local =
             let p = ((says-le also says-le) also (says-le also says-le)) .0 k in
             record {
-              upAll = fu;
-              downAll = fd;
+              tecAll = fu;
+              demandAll = fd;
               tecIs = et;
               loadIs = el;
               settings = settings-say h;
-              upTotal = p .0;
-              downTotal = p .1;
+              tecTotal = p .0;
+              demandTotal = p .1;
               local = local;
             }

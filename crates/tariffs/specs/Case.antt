@@ -6,7 +6,6 @@ use Prim.Native.Nat.{ℕ, _*_, _-_, _≤_}
 use lib.Dec.{leb}
 use lib.IntN.{ℤ, pos, natAbs, _-ℤ_}
 use Rattle.meaning.specs.declared.Kw.{Kw}
-use Rattle.meaning.specs.declared.Metres.{Metres}
 use Rattle.meaning.specs.declared.Side.the-variants.{Generation, Demand}
 use Rattle.meaning.specs.declared.LocalFigures.{LocalFigures}
 use Rattle.meaning.specs.declared.Figures.{Figures}
@@ -19,7 +18,7 @@ use Rattle.zones.specs.Sums.{zoneSums}
 use Rattle.prices.specs.Prices.{linesOf, incomeOf}
 use Rattle.tariffs.specs.declared.over.Over.{Over}
 use Rattle.tariffs.specs.declared.by_zone.Terms.{Terms}
-use Rattle.tariffs.specs.Over.{overFrom, cFrom, AllFit, Ready}
+use Rattle.tariffs.specs.Over.{overFrom, cFrom, AllFit}
 use Rattle.tariffs.specs.Sides.{sideFrom}
 
 module _ (s : StudySettings) where
@@ -35,24 +34,25 @@ module _ (s : StudySettings) where
   abbrev pub demandTerms : (c : ℤ) → Terms
   demandTerms c = record { shift = distance (pos 0 -ℤ c); constant = s .constant; factor = s .«wider_factor»; target = s .revenue * s .p * 1000 }
 
-  module _ (up down : List ZoneSums) where
+  module _ (tecSums demandSums : List ZoneSums) where
     -- what the zones of the two sides come to
-    abbrev pub overUp : Over
-    overUp = overFrom up (s .«generation_zones»)
+    abbrev pub tecOver : Over
+    tecOver = overFrom tecSums (s .«generation_zones»)
 
-    abbrev pub overDown : Over
-    overDown = overFrom down (s .«demand_zones»)
+    abbrev pub demandOver : Over
+    demandOver = overFrom demandSums (s .«demand_zones»)
 
-    abbrev pub centre : ℤ
-    centre = cFrom (s .p) overUp overDown
+    -- step 8: C between them
+    abbrev pub cBetween : ℤ
+    cBetween = cFrom (s .p) tecOver demandOver
 
     -- the figures of a case; demand has no local income
     unfoldable pub figuresFrom : (n : ℕ) → List LocalFigures → (income : ℤ) → Figures
     figuresFrom n lines income =
         record {
-          c = distance centre;
-          generation = sideFrom up (s .«generation_zones») (overUp .total) (generationTerms centre) income;
-          demand = sideFrom down (s .«demand_zones») (overDown .total) (demandTerms centre) (pos 0);
+          c = distance cBetween;
+          generation = sideFrom tecSums (s .«generation_zones») (tecOver .total) (generationTerms cBetween) income;
+          demand = sideFrom demandSums (s .«demand_zones») (demandOver .total) (demandTerms cBetween) (pos 0);
           nodes = n;
           local = lines;
         }
@@ -62,9 +62,9 @@ unfoldable pub totalsFit : (generation demand : Over) → Bool
 totalsFit g d = g .total .0 between 1 and 100000000 && d .total .0 between 1 and 100000000
 
 -- no figures where a setting or a total is out of range
-unfoldable pub figuresIn : StudySettings → (up down : List ZoneSums) (n : ℕ) → List LocalFigures → (income : ℤ) → Figures
-figuresIn s up down n lines income =
-    cond (settingsFit s) (cond (totalsFit (overUp s up down) (overDown s up down)) (figuresFrom s up down n lines income) noFigures) noFigures
+unfoldable pub figuresIn : StudySettings → (tecSums demandSums : List ZoneSums) (n : ℕ) → List LocalFigures → (income : ℤ) → Figures
+figuresIn s tecSums demandSums n lines income =
+    cond (settingsFit s) (cond (totalsFit (tecOver s tecSums demandSums) (demandOver s tecSums demandSums)) (figuresFrom s tecSums demandSums n lines income) noFigures) noFigures
 
 -- step 7, "generation weighted by TEC, demand by demand"; the local lines' income is what TEC that pays brings in
 unfoldable pub figuresOver : (n : ℕ) → StudySettings → (generationZone : List ℕ) (tec paying : List Kw) (demandZone : List ℕ) (demand : List Kw) (wider local : List ℤ) → Figures
@@ -73,12 +73,12 @@ figuresOver n s generationZone tec paying demandZone demand wider local =
     figuresIn s (zoneSums Generation n generationZone tec paying wider) (zoneSums Demand n demandZone demand demand wider) n lines (incomeOf n lines paying)
 
 -- no step of it wraps
-pub record CaseFits (s : StudySettings) (up down : List ZoneSums) (tec load : Over) (income : ℤ) : Type 0 where
-  pub upAll : AllFit up
-  pub downAll : AllFit down
-  pub tecIs : tec ≡ overUp s up down
-  pub loadIs : load ≡ overDown s up down
+pub record CaseFits (s : StudySettings) (tecSums demandSums : List ZoneSums) (tec load : Over) (income : ℤ) : Type 0 where
+  pub tecAll : AllFit tecSums
+  pub demandAll : AllFit demandSums
+  pub tecIs : tec ≡ tecOver s tecSums demandSums
+  pub loadIs : load ≡ demandOver s tecSums demandSums
   pub settings : (s .«generation_zones» ≤ 32) × (s .«demand_zones» ≤ 32) × (s .p ≤ 1000) × (s .revenue ≤ 10000000000)
-  pub upTotal : (1 ≤ tec .total .0) × (tec .total .0 ≤ 100000000)
-  pub downTotal : (1 ≤ load .total .0) × (load .total .0 ≤ 100000000)
+  pub tecTotal : (1 ≤ tec .total .0) × (tec .total .0 ≤ 100000000)
+  pub demandTotal : (1 ≤ load .total .0) × (load .total .0 ≤ 100000000)
   pub local : natAbs income ≤ 1000000000000000000

@@ -10,7 +10,7 @@ ghost use lib.IntN.{natAbs, _+ℤ_};
 ghost use Rattle.meaning.specs.Columns.{column, noLine, price};
 ghost use Rattle.zones.specs.Sums.{SumsFit};
 ghost use Rattle.tariffs.specs.Over.{metresFrom, sumsIn, AllFit};
-ghost use Rattle.tariffs.specs.Lines.{tariffFrom, worthFrom, incomeFrom, lineFrom, IncomeFits};
+ghost use Rattle.tariffs.specs.Lines.{worthFrom, incomeFrom, lineFrom, IncomeFits};
 
 // What prices the zones of a side: C or its negative, expansion constant, security factor; and the side's target.
 pub struct Terms {

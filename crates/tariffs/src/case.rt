@@ -1,3 +1,4 @@
+// Steps 8 to 10 of a case, from the sums of the zones of its two sides.
 use crate::by_zone::Terms;
 use crate::over::Over;
 use crate::over::c_of;
@@ -36,37 +37,37 @@ pub fn totals_fit(generation: Over, demand: Over) -> bool
 // Steps 8 to 10 of a case whose numbers are in range.
 pub fn figures_from(
     settings: StudySettings,
-    up: [ZoneSums; 32],
-    down: [ZoneSums; 32],
+    tec_sums: [ZoneSums; 32],
+    demand_sums: [ZoneSums; 32],
     tec: Over,
     load: Over,
     nodes: usize,
     lines: [LocalFigures; 256],
     income: i64,
 ) -> Figures
-    requires { ⌜ CaseFits settings up down tec load income ⌝ }
-    ensures { λ r. ⌜ r ≡ figuresFrom settings up down nodes lines income ⌝ }
+    requires { ⌜ CaseFits settings «tec_sums» «demand_sums» tec load income ⌝ }
+    ensures { λ r. ⌜ r ≡ figuresFrom settings «tec_sums» «demand_sums» nodes lines income ⌝ }
 {
     let p = settings.p as u64;
     let c = c_of(p, tec, load);
-    let generation = Terms {
+    let g = Terms {
         shift: c,
         constant: settings.constant,
         factor: settings.wider_factor,
         target: settings.revenue * (1000 - p) * 1000,
     };
-    let demand = Terms {
+    let d = Terms {
         shift: Metres(0 - c.0),
         constant: settings.constant,
         factor: settings.wider_factor,
         target: settings.revenue * p * 1000,
     };
-    let of_generation = side_figures(up, settings.generation_zones, tec.total, generation, income);
-    let of_demand = side_figures(down, settings.demand_zones, load.total, demand, 0);
+    let by_tec = side_figures(tec_sums, settings.generation_zones, tec.total, g, income);
+    let by_demand = side_figures(demand_sums, settings.demand_zones, load.total, d, 0);
     Figures {
         c: c,
-        generation: of_generation,
-        demand: of_demand,
+        generation: by_tec,
+        demand: by_demand,
         nodes: nodes,
         local: lines,
     }
@@ -75,20 +76,29 @@ pub fn figures_from(
 // Steps 8 to 10 of a case; no figures where a setting or a total is out of range.
 pub fn ranged_figures(
     settings: StudySettings,
-    up: [ZoneSums; 32],
-    down: [ZoneSums; 32],
+    tec_sums: [ZoneSums; 32],
+    demand_sums: [ZoneSums; 32],
     nodes: usize,
     lines: [LocalFigures; 256],
     income: i64,
 ) -> Figures
-    requires { ⌜ AllFit up × AllFit down × (natAbs income ≤ 1000000000000000000) ⌝ }
-    ensures { λ r. ⌜ r ≡ figuresIn settings up down nodes lines income ⌝ }
+    requires { ⌜ AllFit «tec_sums» × AllFit «demand_sums» × (natAbs income ≤ 1000000000000000000) ⌝ }
+    ensures { λ r. ⌜ r ≡ figuresIn settings «tec_sums» «demand_sums» nodes lines income ⌝ }
 {
     if settings_fit(settings) {
-        let tec = over_zones(up, settings.generation_zones);
-        let load = over_zones(down, settings.demand_zones);
+        let tec = over_zones(tec_sums, settings.generation_zones);
+        let load = over_zones(demand_sums, settings.demand_zones);
         if totals_fit(tec, load) {
-            return figures_from(settings, up, down, tec, load, nodes, lines, income);
+            return figures_from(
+                settings,
+                tec_sums,
+                demand_sums,
+                tec,
+                load,
+                nodes,
+                lines,
+                income,
+            );
         }
         return steps::no_figures();
     }

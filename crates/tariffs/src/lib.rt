@@ -25,9 +25,16 @@ pub fn figures(
 ) -> Figures
     ensures { λ r. ⌜ r ≡ figuresOver nodes settings «generation_zone» tec paying «demand_zone» demand (now (wider .entry)) (now (local .entry)) ⌝ }
 {
-    let up = zones::sums_by_zone(Side::Generation, nodes, generation_zone, tec, paying, wider);
-    let down = zones::sums_by_zone(Side::Demand, nodes, demand_zone, demand, demand, wider);
+    let tec_sums = zones::sums_by_zone(
+        Side::Generation,
+        nodes,
+        generation_zone,
+        tec,
+        paying,
+        wider,
+    );
+    let demand_sums = zones::sums_by_zone(Side::Demand, nodes, demand_zone, demand, demand, wider);
     let lines = prices::local_lines(nodes, tec, local, settings.constant, settings.local_factor);
     let income = prices::local_income(nodes, lines, paying);
-    case::ranged_figures(settings, up, down, nodes, lines, income)
+    case::ranged_figures(settings, tec_sums, demand_sums, nodes, lines, income)
 }

@@ -25,22 +25,22 @@ use Rattle.meaning.proofs.Says.{agree, says-as, says-eq, says-le, _also_}
 use Rattle.steps.specs.Steps.{turned}
 use Rattle.zones.specs.declared.ZoneSums.{ZoneSums}
 use Rattle.zones.specs.declared.node.Part.{Part}
-use Rattle.zones.specs.Sums.{partAt, sumsTo, noSums, reachedOf, zoneSums, withPart, PartFits, SumsFit}
+use Rattle.zones.specs.Sums.{partAt, sumsTo, noSums, nodesIn, zoneSums, withPart, PartFits, SumsFit}
 use Rattle.zones.proofs.Parts.{Counts, counting, full, part-full, part-fits}
 
 -- the nodes that are passed
-pub reached-all : (n run : ℕ) → n ≤ 256 → n ≤ run → reachedOf n run ≡ n
-unfolding reachedOf
+pub reached-all : (n run : ℕ) → n ≤ 256 → n ≤ run → nodesIn n run ≡ n
+unfolding nodesIn
 reached-all n run few long = rw ((says-le also says-le) .1 (few, long)) refl
 
-pub reached-none : (n run : ℕ) → (leb n 256 && leb n run) ≡ false → reachedOf n run ≡ 0
-unfolding reachedOf
+pub reached-none : (n run : ℕ) → (leb n 256 && leb n run) ≡ false → nodesIn n run ≡ 0
+unfolding nodesIn
 reached-none n run h = rw h refl
 
-pub reached-most : (n run : ℕ) → (reachedOf n run ≤ 256) × (reachedOf n run ≤ run)
+pub reached-most : (n run : ℕ) → (nodesIn n run ≤ 256) × (nodesIn n run ≤ run)
 reached-most n run = go (leb n 256 && leb n run) refl
   where
-    go : (b : Bool) → (leb n 256 && leb n run) ≡ b → (reachedOf n run ≤ 256) × (reachedOf n run ≤ run)
+    go : (b : Bool) → (leb n 256 && leb n run) ≡ b → (nodesIn n run ≤ 256) × (nodesIn n run ≤ run)
     go true h = let s = (says-le also says-le) .0 h in rw (reached-all n run (s .0) (s .1)) s
     go false h = rw (reached-none n run h) (omega arith, omega arith)
 
@@ -116,7 +116,7 @@ module _ (side : Side) (zone : List ℕ) (weight paying : List Kw) (wider : List
   -- whatever the columns are
   pub zone-fits : (n k : ℕ) → k < 32 → SumsFit (getD (zoneSums side n zone weight paying wider) k noSums)
   unfolding zoneSums
-  zone-fits n k l = all-fit (reachedOf n (length wider)) k (reached-most n (length wider) .0) l refl
+  zone-fits n k l = all-fit (nodesIn n (length wider)) k (reached-most n (length wider) .0) l refl
 
   -- where all nodes are in range, each adds its own to its zone
   abbrev pub plainSums : (n k : ℕ) → ZoneSums

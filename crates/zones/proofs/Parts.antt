@@ -15,7 +15,7 @@ use Rattle.meaning.specs.Rows.{_between_and_}
 use Rattle.meaning.proofs.Says.{says-le, _also_}
 use Rattle.steps.specs.Steps.{turned}
 use Rattle.zones.specs.declared.node.Part.{Part}
-use Rattle.zones.specs.Sums.{countsOf, noPart, partOf, PartFits}
+use Rattle.zones.specs.Sums.{inRanges, noPart, partOf, PartFits}
 
 -- what the ranges say
 pub record Counts (zone w p : ℕ) (m : ℤ) : Type 0 where
@@ -26,14 +26,14 @@ pub record Counts (zone w p : ℕ) (m : ℤ) : Type 0 where
   pub near : natAbs m ≤ 10000000
 
 module _ (zone w p : ℕ) (m : ℤ) where
-  pub counted : countsOf zone w p m ≡ true → Counts zone w p m
-  unfolding countsOf _between_and_
+  pub counted : inRanges zone w p m ≡ true → Counts zone w p m
+  unfolding inRanges _between_and_
   counted h =
       let s = (says-le also says-le also says-le also says-le also says-le) .0 h in
       record { least = s .0 .0 .0 .0; most = s .0 .0 .0 .1; weighs = s .0 .0 .1; pays = s .0 .1; near = s .1 }
 
-  pub counting : Counts zone w p m → countsOf zone w p m ≡ true
-  unfolding countsOf _between_and_
+  pub counting : Counts zone w p m → inRanges zone w p m ≡ true
+  unfolding inRanges _between_and_
   counting c = (says-le also says-le also says-le also says-le also says-le) .1 ((((c .least, c .most), c .weighs), c .pays), c .near)
 
 module _ (side : Side) (zone : ℕ) (w p : Kw) (u : ℤ) where
@@ -43,18 +43,18 @@ module _ (side : Side) (zone : ℕ) (w p : Kw) (u : ℤ) where
   abbrev pub full : Part
   full = record { slot = zone - 1; weight = w; weighed = m *ℤ pos (w .0); paying = p }
 
-  pub part-full : countsOf zone (w .0) (p .0) m ≡ true → partOf side zone w p u ≡ full
+  pub part-full : inRanges zone (w .0) (p .0) m ≡ true → partOf side zone w p u ≡ full
   unfolding partOf
   part-full h = rw h refl
 
-  pub part-none : countsOf zone (w .0) (p .0) m ≡ false → partOf side zone w p u ≡ noPart
+  pub part-none : inRanges zone (w .0) (p .0) m ≡ false → partOf side zone w p u ≡ noPart
   unfolding partOf
   part-none h = rw h refl
 
   pub part-fits : PartFits (partOf side zone w p u)
-  part-fits = go (countsOf zone (w .0) (p .0) m) refl
+  part-fits = go (inRanges zone (w .0) (p .0) m) refl
     where
-      go : (b : Bool) → countsOf zone (w .0) (p .0) m ≡ b → PartFits (partOf side zone w p u)
+      go : (b : Bool) → inRanges zone (w .0) (p .0) m ≡ b → PartFits (partOf side zone w p u)
       go true h =
           let c = counted zone (w .0) (p .0) m h in
           rw (part-full h) (record { slot = omega (arith, c .least, c .most); weight = c .weighs; weighed = abs-mul-le m (pos (w .0)) (c .near) (omega arith); paying = c .pays })

@@ -17,8 +17,8 @@ use Rattle.zones.specs.declared.ZoneSums.{ZoneSums}
 use Rattle.zones.specs.declared.node.Part.{Part}
 
 -- 01, Quantities: a zone from 1 to 32, kilowatts up to 10^8; and a distance up to 10^7 m, which is a potential up to 10^16 nm
-unfoldable pub countsOf : (zone weight paying : ℕ) (distance : ℤ) → Bool
-countsOf zone weight paying distance =
+unfoldable pub inRanges : (zone weight paying : ℕ) (distance : ℤ) → Bool
+inRanges zone weight paying distance =
     zone between 1 and 32 && leb weight 100000000 && leb paying 100000000 && leb (natAbs distance) 10000000
 
 -- what a node adds to its zone, counted from 0: kilowatts that weigh, its distance times those, kilowatts that pay; nothing where a number is out of range
@@ -28,7 +28,7 @@ noPart = record { slot = 0; weight = kilowatts 0; weighed = pos 0; paying = kilo
 unfoldable pub partOf : Side → (zone : ℕ) (weight paying : Kw) (potential : ℤ) → Part
 partOf side zone weight paying potential =
     let m = turned side (metres potential) in
-    cond (countsOf zone (weight .0) (paying .0) m)
+    cond (inRanges zone (weight .0) (paying .0) m)
     (record { slot = zone - 1; weight = weight; weighed = m *ℤ pos (weight .0); paying = paying })
     noPart
 
@@ -51,12 +51,12 @@ abbrev pub noSums : ZoneSums
 noSums = record { weight = kilowatts 0; weighed = pos 0; paying = kilowatts 0 }
 
 -- the nodes that a run has a potential for; none where it has not for all, or where they are more than 256
-unfoldable pub reachedOf : (n run : ℕ) → ℕ
-reachedOf n run = cond (leb n 256 && leb n run) n 0
+unfoldable pub nodesIn : (n run : ℕ) → ℕ
+nodesIn n run = cond (leb n 256 && leb n run) n 0
 
 -- zones 1 to 32 of n nodes
 unfoldable pub zoneSums : Side → (n : ℕ) (zone : List ℕ) (weight paying : List Kw) (wider : List ℤ) → List ZoneSums
-zoneSums side n zone weight paying wider = rows 32 (sumsTo side zone weight paying wider (reachedOf n (length wider)))
+zoneSums side n zone weight paying wider = rows 32 (sumsTo side zone weight paying wider (nodesIn n (length wider)))
 
 -- the sums with one node more
 unfoldable pub withPart : ZoneSums → Part → ZoneSums

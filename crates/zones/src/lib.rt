@@ -4,8 +4,7 @@ mod node;
 use meaning::Kw;
 use meaning::Side;
 ghost use mathlib.Core.Path.{_≡_};
-ghost use lib.ListN.{length};
-ghost use Rattle.zones.specs.Sums.{reachedOf, zoneSums};
+ghost use Rattle.zones.specs.Sums.{nodesIn, zoneSums};
 
 // Step 7: what a zone's nodes add up to: kilowatts that weigh, distances times those, and kilowatts that pay.
 pub struct ZoneSums {
@@ -14,9 +13,9 @@ pub struct ZoneSums {
     pub paying: Kw,
 }
 
-// The nodes of a case whose run has a potential for each; none where there are more than 256.
-pub fn reached(nodes: usize, run: usize) -> usize
-    ensures { λ r. ⌜ r ≡ reachedOf nodes run ⌝ }
+// The nodes of a case whose run has a potential for each: all, or none where it has not, or where they are more than 256.
+pub fn nodes_in(nodes: usize, run: usize) -> usize
+    ensures { λ r. ⌜ r ≡ nodesIn nodes run ⌝ }
 {
     if (nodes <= 256) & (nodes <= run) {
         return nodes;
@@ -35,7 +34,7 @@ pub fn sums_by_zone(
 ) -> [ZoneSums; 32]
     ensures { λ r. ⌜ r ≡ zoneSums side nodes zone weight paying (now (wider .entry)) ⌝ }
 {
-    let count = reached(nodes, wider.len());
+    let count = nodes_in(nodes, wider.len());
     let none = Kw(0);
     let nothing = ZoneSums {
         weight: none,

@@ -1,3 +1,4 @@
+// One node: what it adds to its zone.
 use crate::ZoneSums;
 use meaning::Kw;
 use meaning::Metres;
@@ -5,7 +6,7 @@ use meaning::Side;
 ghost use mathlib.Core.Path.{_≡_};
 ghost use Prim.Native.Nat.{_≤_};
 ghost use lib.IntN.{pos, natAbs, _*ℤ_};
-ghost use Rattle.zones.specs.Sums.{countsOf, partOf, withPart, PartFits, SumsFit};
+ghost use Rattle.zones.specs.Sums.{inRanges, partOf, withPart, PartFits, SumsFit};
 
 // What a node adds, and to the sums of which zone, from 0.
 pub struct Part {
@@ -16,8 +17,8 @@ pub struct Part {
 }
 
 // Whether a node's numbers are in 01's ranges.
-pub fn counts(zone: usize, weight: Kw, paying: Kw, distance: Metres) -> bool
-    ensures { λ r. ⌜ r ≡ countsOf zone (weight .0) (paying .0) (distance .0) ⌝ }
+pub fn in_ranges(zone: usize, weight: Kw, paying: Kw, distance: Metres) -> bool
+    ensures { λ r. ⌜ r ≡ inRanges zone (weight .0) (paying .0) (distance .0) ⌝ }
 {
     (1 <= zone)
         & (zone <= 32)
@@ -39,7 +40,7 @@ pub fn part_of(side: Side, zone: usize, weight: Kw, paying: Kw, potential: i64) 
     ensures { λ r. ⌜ r ≡ partOf side zone weight paying potential ⌝ }
 {
     let distance = steps::distance(side, potential);
-    if counts(zone, weight, paying, distance) {
+    if in_ranges(zone, weight, paying, distance) {
         return Part {
             slot: zone - 1,
             weight: weight,

@@ -14,7 +14,7 @@ use Rattle.integers.proofs.Sum.{sum-zero, sum-more, sum-part, Σ-zero, Σ-more}
 use Rattle.meaning.specs.declared.Kw.{Kw}
 use Rattle.meaning.specs.declared.LocalFigures.{LocalFigures}
 use Rattle.meaning.specs.Columns.{kwAt}
-use Rattle.zones.specs.Sums.{reachedOf}
+use Rattle.zones.specs.Sums.{nodesIn}
 use Rattle.zones.proofs.Laws.{reached-most}
 use Rattle.prices.specs.Prices.{worthAt}
 use Rattle.prices.proofs.Laws.{to-most, income-is, income-none}
@@ -28,11 +28,11 @@ Inv-loop nodes lines paying count total₀ left₀ v₀ total left v =
 abbrev μ-loop : tie.MeasureT-loop
 μ-loop nodes lines paying count total₀ left₀ v₀ total left v = count - v
 
-reached-requires : tie.Need-reached-requires Inv-loop μ-loop
-reached-requires c κs = tt
+nodes-in-requires : tie.Need-nodes-in-requires Inv-loop μ-loop
+nodes-in-requires c κs = tt
 
 loop-holds : tie.Need-loop-holds Inv-loop μ-loop
-loop-holds c = (omega arith, rw (c .reached .ensures) (reached-most (c .before .args .nodes) 256 .0), omega (arith, sum-zero (kwAt (c .before .args .t3))), sym (Σ-zero _))
+loop-holds c = (omega arith, rw (c .nodes-in .ensures) (reached-most (c .before .args .nodes) 256 .0), omega (arith, sum-zero (kwAt (c .before .args .t3))), sym (Σ-zero _))
 
 mul-kw : tie.Need-mul-kw Inv-loop μ-loop
 mul-kw c = omega arith
@@ -62,8 +62,8 @@ returns : tie.Need-returns Inv-loop μ-loop
 returns c =
     let k = c .before in
     let n = nodes (l k) in
-    sym (income-none (lines (l k)) (paying (l k)) (n) (rw (← l k .before .reached .ensures)
-    (omega (arith, next k, sum-part (l k .loop .v + 1) (l k .before .reached .result) (kwAt (paying (l k))) (omega arith)))))
+    sym (income-none (lines (l k)) (paying (l k)) (n) (rw (← l k .before .nodes-in .ensures)
+    (omega (arith, next k, sum-part (l k .loop .v + 1) (l k .before .nodes-in .result) (kwAt (paying (l k))) (omega arith)))))
 
 mul-worth : tie.Need-mul-worth Inv-loop μ-loop
 mul-worth c = omega arith
@@ -110,7 +110,7 @@ loop-again c =
 returns-2 : tie.Need-returns-2 Inv-loop μ-loop
 returns-2 c =
     let l = c .before in
-    let e : l .loop .v ≡ reachedOf (nodes l) 256 = omega (arith, l .before .reached .ensures) in
+    let e : l .loop .v ≡ nodesIn (nodes l) 256 = omega (arith, l .before .nodes-in .ensures) in
     l .loop .inv .3 ∙ rw e (sym (income-is (lines l) (paying l) (nodes l) (rw (← e) (omega arith))))
 
 pub local-income-spec : {M : Type 1} → statement M
@@ -119,7 +119,7 @@ local-income-spec =
     (tie.spec
     Inv-loop
     μ-loop
-    reached-requires
+    nodes-in-requires
     loop-holds
     mul-kw
     element-copy-out-kw

@@ -7,7 +7,7 @@ use Rattle.integers.proofs.Machine.{Back, back}
 use Rattle.meaning.specs.Proposal.{potential}
 use Rattle.meaning.specs.Columns.{column, noLocal}
 use Rattle.meaning.proofs.Columns.{column-none, column-turn}
-use Rattle.zones.specs.Sums.{reachedOf}
+use Rattle.zones.specs.Sums.{nodesIn}
 use Rattle.zones.proofs.Laws.{reached-most}
 use Rattle.prices.specs.Prices.{localAt, linesOf}
 use Rattle.prices.proofs.local_lines.Statement.{statement}
@@ -20,8 +20,8 @@ Inv-loop nodes local constant factor tec count all₀ v₀ all v =
 abbrev μ-loop : tie.MeasureT-loop
 μ-loop nodes local constant factor tec count all₀ v₀ all v = count - v
 
-reached-requires : tie.Need-reached-requires Inv-loop μ-loop
-reached-requires c κs = tt
+nodes-in-requires : tie.Need-nodes-in-requires Inv-loop μ-loop
+nodes-in-requires c κs = tt
 
 no-local-requires : tie.Need-no-local-requires Inv-loop μ-loop
 no-local-requires c κs = tt
@@ -30,7 +30,7 @@ loop-holds : tie.Need-loop-holds Inv-loop μ-loop
 loop-holds c =
     let r = c .before in
     let n = reached-most (r .before .args .nodes) (length (r .before .args .local .now)) in
-    (omega arith, rw (r .reached .ensures) (n .0), rw (r .reached .ensures) (n .1), ap (replicate 256) (c .no-local .ensures) ∙ sym (column-none _ _ _))
+    (omega arith, rw (r .nodes-in .ensures) (n .0), rw (r .nodes-in .ensures) (n .1), ap (replicate 256) (c .no-local .ensures) ∙ sym (column-none _ _ _))
 
 mul-local-line : tie.Need-mul-local-line Inv-loop μ-loop
 mul-local-line c = omega arith
@@ -74,7 +74,7 @@ unfolding linesOf
 returns c =
     let l = c .before in
     let r = l .before .before in
-    let e : l .loop .v ≡ reachedOf (r .before .args .nodes) (length (r .before .args .local .now)) = omega (arith, r .reached .ensures) in
+    let e : l .loop .v ≡ nodesIn (r .before .args .nodes) (length (r .before .args .local .now)) = omega (arith, r .nodes-in .ensures) in
     rw e at (l .loop .inv .3)
 
 pub local-lines-spec : {M : Type 1} → statement M
@@ -83,7 +83,7 @@ local-lines-spec =
     (tie.spec
     Inv-loop
     μ-loop
-    reached-requires
+    nodes-in-requires
     no-local-requires
     loop-holds
     mul-local-line

@@ -34,9 +34,9 @@ ranged-figures-requires : tie.Need-ranged-figures-requires
 ranged-figures-requires c κs =
     let s = c .before .before .before .before in
     let a = s .args in
-    let up : AllFit (c .before .before .before .sums-by-zone .result) = rw (c .before .before .before .sums-by-zone .ensures) (record { each = zone-fits Generation (a .generation-zone) (a .tec) (a .paying) (a .wider .now) (a .nodes) }) in
-    let down : AllFit (c .before .before .sums-by-zone2 .result) = rw (c .before .before .sums-by-zone2 .ensures) (record { each = zone-fits Demand (a .demand-zone) (a .demand) (a .demand) (a .wider .now) (a .nodes) }) in
-    (up, down, subst (λ (x : ℤ). natAbs x ≤ 1000000000000000000) (sym (earned c)) (income-most (c .before .local-lines .result) (a .paying) (a .nodes)))
+    let tecSums : AllFit (c .before .before .before .sums-by-zone .result) = rw (c .before .before .before .sums-by-zone .ensures) (record { each = zone-fits Generation (a .generation-zone) (a .tec) (a .paying) (a .wider .now) (a .nodes) }) in
+    let demandSums : AllFit (c .before .before .sums-by-zone2 .result) = rw (c .before .before .sums-by-zone2 .ensures) (record { each = zone-fits Demand (a .demand-zone) (a .demand) (a .demand) (a .wider .now) (a .nodes) }) in
+    (tecSums, demandSums, subst (λ (x : ℤ). natAbs x ≤ 1000000000000000000) (sym (earned c)) (income-most (c .before .local-lines .result) (a .paying) (a .nodes)))
 
 returns : tie.Need-returns
 unfolding figuresOver

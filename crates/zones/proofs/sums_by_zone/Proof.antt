@@ -7,7 +7,7 @@ use Rattle.integers.proofs.Machine.{back}
 use Rattle.meaning.specs.Proposal.{potential}
 use Rattle.meaning.specs.Rows.{rows}
 use Rattle.zones.specs.declared.node.Part.{Part}
-use Rattle.zones.specs.Sums.{partAt, sumsTo, reachedOf, zoneSums, PartFits}
+use Rattle.zones.specs.Sums.{partAt, sumsTo, nodesIn, zoneSums, PartFits}
 use Rattle.zones.proofs.Laws.{reached-most, sums-start, sums-turn, all-fit, fits-at}
 use Rattle.zones.proofs.sums_by_zone.Statement.{statement}
 use Rattle.zones.proofs.sums_by_zone.Tie as tie
@@ -19,14 +19,14 @@ Inv-loop side nodes wider zone weight paying count all₀ v₀ all v =
 abbrev μ-loop : tie.MeasureT-loop
 μ-loop side nodes wider zone weight paying count all₀ v₀ all v = count - v
 
-reached-requires : tie.Need-reached-requires Inv-loop μ-loop
-reached-requires c κs = tt
+nodes-in-requires : tie.Need-nodes-in-requires Inv-loop μ-loop
+nodes-in-requires c κs = tt
 
 loop-holds : tie.Need-loop-holds Inv-loop μ-loop
 loop-holds c =
     let a = c .before .args in
     let r = reached-most (a .nodes) (length (a .wider .now)) in
-    (omega arith, rw (c .reached .ensures) (r .0), rw (c .reached .ensures) (r .1), sums-start (a .side) (a .t3) (a .t4) (a .t5) (a .wider .now))
+    (omega arith, rw (c .nodes-in .ensures) (r .0), rw (c .nodes-in .ensures) (r .1), sums-start (a .side) (a .t3) (a .t4) (a .t5) (a .wider .now))
 
 mul-part-of : tie.Need-mul-part-of Inv-loop μ-loop
 mul-part-of c = omega arith
@@ -104,7 +104,7 @@ returns : tie.Need-returns Inv-loop μ-loop
 unfolding zoneSums
 returns c =
     let l = c .before in
-    let e : l .loop .v ≡ reachedOf (l .before .before .args .nodes) (length (l .before .before .args .wider .now)) = omega (arith, l .before .reached .ensures) in
+    let e : l .loop .v ≡ nodesIn (l .before .before .args .nodes) (length (l .before .before .args .wider .now)) = omega (arith, l .before .nodes-in .ensures) in
     rw e at (l .loop .inv .3)
 
 pub sums-by-zone-spec : {M : Type 1} → statement M
@@ -113,7 +113,7 @@ sums-by-zone-spec =
     (tie.spec
     Inv-loop
     μ-loop
-    reached-requires
+    nodes-in-requires
     loop-holds
     mul-part-of
     array-read-part-of

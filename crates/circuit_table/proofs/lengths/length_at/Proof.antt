@@ -33,13 +33,13 @@ overhead-factor-requires c κs = search needs
 cable-factor-requires : tie.Need-cable-factor-requires
 cable-factor-requires c κs = search needs
 
-sized-requires : tie.Need-sized-requires
-sized-requires c κs = search needs
+expanded-requires : tie.Need-expanded-requires
+expanded-requires c κs = search needs
 
 returns : tie.Need-returns
 returns c =
     let p = c .before in
-    c .sized .ensures
+    c .expanded .ensures
     ∙ length-read _ _ _ _ _ _ _ _ (p .before .before .before .before .u32-at .ensures .value) (p .before .before .before .u32-at2 .ensures .value)
     (p .before .before .u32-at3 .ensures .value) (p .before .overhead-factor .ensures) (p .cable-factor .ensures)
 
@@ -55,5 +55,5 @@ length-at-spec =
     u32-at-requires-3
     overhead-factor-requires
     cable-factor-requires
-    sized-requires
+    expanded-requires
     returns)

@@ -3,7 +3,7 @@ use mathlib.Core.Bool.{true}
 use Prim.Native.Nat.{_≤_}
 use borrow.Author.Needs.{needs}
 use Rattle.integers.proofs.Machine.{Back, fit-back}
-use Rattle.tariffs.specs.Case.{settingsFit, overUp, overDown}
+use Rattle.tariffs.specs.Case.{settingsFit, tecOver, demandOver}
 use Rattle.tariffs.proofs.CaseLaws.{settings-say, no-settings, no-totals, ranged, case-fits}
 use Rattle.tariffs.proofs.case.ranged_figures.Statement.{statement}
 use Rattle.tariffs.proofs.case.ranged_figures.Tie as tie
@@ -35,11 +35,11 @@ module _ (c : tie.After-totals-fit) where
   abbrev a : tie.Start
   a = t .before .before
 
-  up-is : c .before .before .over-zones .result ≡ overUp (a .args .settings) (a .args .up) (a .args .down)
-  up-is = c .before .before .over-zones .ensures
+  tec-over-is : c .before .before .over-zones .result ≡ tecOver (a .args .settings) (a .args .tec-sums) (a .args .demand-sums)
+  tec-over-is = c .before .before .over-zones .ensures
 
-  down-is : c .before .over-zones2 .result ≡ overDown (a .args .settings) (a .args .up) (a .args .down)
-  down-is = c .before .over-zones2 .ensures
+  demand-over-is : c .before .over-zones2 .result ≡ demandOver (a .args .settings) (a .args .tec-sums) (a .args .demand-sums)
+  demand-over-is = c .before .over-zones2 .ensures
 
 totals-fit-requires : tie.Need-totals-fit-requires
 totals-fit-requires c κs = search needs
@@ -48,7 +48,7 @@ figures-from-requires : tie.Need-figures-from-requires
 figures-from-requires c κs =
     let p = c .before in
     let x = a p .args in
-    simp bi (case-fits (x .settings) (x .up) (x .down) (x .nodes) (x .lines) (x .income) (tested (t p)) (up-is p) (down-is p) (sym (p .totals-fit .ensures) ∙ c .if2 .taken) (a p .pre .0) (a p .pre .1) (a p .pre .2))
+    simp bi (case-fits (x .settings) (x .tec-sums) (x .demand-sums) (x .nodes) (x .lines) (x .income) (tested (t p)) (tec-over-is p) (demand-over-is p) (sym (p .totals-fit .ensures) ∙ c .if2 .taken) (a p .pre .0) (a p .pre .1) (a p .pre .2))
 
 returns : tie.Need-returns
 returns c =
@@ -56,7 +56,7 @@ returns c =
     let p = h .before in
     let x = a p .args in
     simp bi at (c .figures-from .ensures)
-    ∙ ranged (x .settings) (x .up) (x .down) (x .nodes) (x .lines) (x .income) (tested (t p)) (up-is p) (down-is p) (sym (p .totals-fit .ensures) ∙ h .if2 .taken)
+    ∙ ranged (x .settings) (x .tec-sums) (x .demand-sums) (x .nodes) (x .lines) (x .income) (tested (t p)) (tec-over-is p) (demand-over-is p) (sym (p .totals-fit .ensures) ∙ h .if2 .taken)
 
 no-figures-requires : tie.Need-no-figures-requires
 no-figures-requires c κs = search needs
@@ -67,7 +67,7 @@ returns-2 c =
     let p = e .before in
     let x = a p .args in
     c .no-figures .ensures
-    ∙ no-totals (x .settings) (x .up) (x .down) (x .nodes) (x .lines) (x .income) (tested (t p)) (up-is p) (down-is p) (sym (p .totals-fit .ensures) ∙ e .if2 .left)
+    ∙ no-totals (x .settings) (x .tec-sums) (x .demand-sums) (x .nodes) (x .lines) (x .income) (tested (t p)) (tec-over-is p) (demand-over-is p) (sym (p .totals-fit .ensures) ∙ e .if2 .left)
 
 no-figures-requires-2 : tie.Need-no-figures-requires-2
 no-figures-requires-2 c κs = search needs
@@ -76,7 +76,7 @@ returns-3 : tie.Need-returns-3
 returns-3 c =
     let e = c .before in
     let x = e .before .before .args in
-    c .no-figures2 .ensures ∙ no-settings (x .settings) (x .up) (x .down) (x .nodes) (x .lines) (x .income) (sym (e .before .settings-fit .ensures) ∙ e .if1 .left)
+    c .no-figures2 .ensures ∙ no-settings (x .settings) (x .tec-sums) (x .demand-sums) (x .nodes) (x .lines) (x .income) (sym (e .before .settings-fit .ensures) ∙ e .if1 .left)
 
 pub ranged-figures-spec : {M : Type 1} → statement M
 ranged-figures-spec =

@@ -10,7 +10,7 @@ use Rattle.integers.proofs.Machine.{fit-back, back}
 use Rattle.meaning.specs.declared.Kw.{Kw}
 use Rattle.meaning.specs.Figures.{metres}
 use Rattle.steps.specs.Steps.{turned}
-use Rattle.zones.specs.Sums.{countsOf}
+use Rattle.zones.specs.Sums.{inRanges}
 use Rattle.zones.proofs.Parts.{Counts, counted, part-full, part-none}
 use Rattle.zones.proofs.node.part_of.Statement.{statement}
 use Rattle.zones.proofs.node.part_of.Tie as tie
@@ -18,10 +18,10 @@ use Rattle.zones.proofs.node.part_of.Tie as tie
 distance-requires : tie.Need-distance-requires
 distance-requires c κs = search needs
 
-counts-requires : tie.Need-counts-requires
-counts-requires c κs = search needs
+in-ranges-requires : tie.Need-in-ranges-requires
+in-ranges-requires c κs = search needs
 
-module _ (c : tie.After-counts) where
+module _ (c : tie.After-in-ranges) where
   abbrev s : tie.Start
   s = c .before .before
 
@@ -31,8 +31,8 @@ module _ (c : tie.After-counts) where
   far : c .before .distance .result .0 ≡ m
   far = simp (fit-back (s .fits .potential)) at (c .before .distance .ensures)
 
-  tested : c .counts .result ≡ countsOf (s .args .zone) (s .args .weight .0) (s .args .paying .0) m
-  tested = rw far at (c .counts .ensures)
+  tested : c .in-ranges .result ≡ inRanges (s .args .zone) (s .args .weight .0) (s .args .paying .0) m
+  tested = rw far at (c .in-ranges .ensures)
 
 in-range : (c : tie.Then1) → Counts (s (c .before) .args .zone) (s (c .before) .args .weight .0) (s (c .before) .args .paying .0) (m (c .before))
 in-range c = counted _ _ _ _ (sym (tested (c .before)) ∙ c .if1 .taken)
@@ -58,4 +58,4 @@ returns-2 c =
 
 pub part-of-spec : {M : Type 1} → statement M
 part-of-spec =
-    tie.close (tie.spec distance-requires counts-requires sub-t9 times-requires returns returns-2)
+    tie.close (tie.spec distance-requires in-ranges-requires sub-t9 times-requires returns returns-2)

@@ -6,9 +6,9 @@ use lib.Dec.{leb}
 use lib.IntN.{natAbs}
 use Rattle.integers.proofs.Machine.{back}
 use Rattle.meaning.specs.Rows.{_between_and_}
-use Rattle.zones.specs.Sums.{countsOf}
-use Rattle.zones.proofs.node.counts.Statement.{statement}
-use Rattle.zones.proofs.node.counts.Tie as tie
+use Rattle.zones.specs.Sums.{inRanges}
+use Rattle.zones.proofs.node.in_ranges.Statement.{statement}
+use Rattle.zones.proofs.node.in_ranges.Tie as tie
 
 within-requires : tie.Need-within-requires
 within-requires c κs = search needs
@@ -18,8 +18,8 @@ near : (c : tie.After-within) → c .within .result ≡ leb (natAbs (c .before .
 near c = simp (back (c .before .before .before .before .args .distance .0) (omega (arith, c .before .struct-told .given))) at (c .within .ensures)
 
 returns : tie.Need-returns
-unfolding countsOf _between_and_
+unfolding inRanges _between_and_
 returns c = rw (near c)
 
-pub counts-spec : {M : Type 1} → statement M
-counts-spec = tie.close (tie.spec within-requires returns)
+pub in-ranges-spec : {M : Type 1} → statement M
+in-ranges-spec = tie.close (tie.spec within-requires returns)

@@ -2,8 +2,8 @@ use mathlib.Core.Path.{refl}
 use Prim.Native.Nat.{_*_, _≤_}
 use native.Mathlib.Omega.{arith}
 use Rattle.circuit_table.proofs.LengthLaws.{parts-low}
-use Rattle.circuit_table.proofs.lengths.sized.Statement.{statement}
-use Rattle.circuit_table.proofs.lengths.sized.Tie as tie
+use Rattle.circuit_table.proofs.lengths.expanded.Statement.{statement}
+use Rattle.circuit_table.proofs.lengths.expanded.Tie as tie
 
 -- what the two products come to
 low : (c : tie.Then1) → let a = c .before .args in (a .overhead * a .over ≤ 15000000000) × (a .cable * a .under ≤ 15000000000)
@@ -24,5 +24,5 @@ returns c = rw (c .if1 .taken) refl
 returns-2 : tie.Need-returns-2
 returns-2 c = rw (c .if1 .left) refl
 
-pub sized-spec : {M : Type 1} → statement M
-sized-spec = tie.close (tie.spec mul-result mul-result-2 add-result returns returns-2)
+pub expanded-spec : {M : Type 1} → statement M
+expanded-spec = tie.close (tie.spec mul-result mul-result-2 add-result returns returns-2)
