@@ -1,17 +1,12 @@
-// What an answer says, as 01 lists it: number, system and row.
+// What an answer says, as 01 lists it: number, system and row. And which of two stages stops a case.
 ghost use mathlib.Core.Path.{_≡_};
-ghost use Rattle.meaning.specs.Answers.{values, stops, systemNumber};
+ghost use Rattle.meaning.specs.declared.Answer.the-variants.{Refused};
+ghost use Rattle.meaning.specs.Answers.{values, systemNumber, _orElse_};
 use meaning::Answer;
+use meaning::Judgement;
+use meaning::Refusal;
 use meaning::System;
 use meaning::Values;
-
-// Whether an answer is a refusal.
-pub fn is_refusal(answer: Answer) -> bool
-    ensures { λ r. ⌜ r ≡ stops answer ⌝ }
-{
-    let carried = values(answer);
-    1 <= carried.number
-}
 
 // The number of a system.
 fn system_number(system: System) -> usize
@@ -36,6 +31,26 @@ fn refusal(number: usize, system: usize, row: usize) -> Values
     }
 }
 
+// What a refusal carries: a row of 01's table.
+pub fn of_refusal(cause: Refusal) -> Values
+    ensures { λ r. ⌜ r ≡ values (Refused cause) ⌝ }
+{
+    match cause {
+        Refusal::BadFile => refusal(1, 0, 0),
+        Refusal::BadSetting => refusal(2, 0, 0),
+        Refusal::BadNode(row) => refusal(3, 0, row),
+        Refusal::BadCircuit(row) => refusal(4, 0, row),
+        Refusal::BadStation(row) => refusal(5, 0, row),
+        Refusal::Unreached(row) => refusal(6, 0, row),
+        Refusal::BadTotal => refusal(7, 0, 0),
+        Refusal::BadNumber(system, row) => refusal(8, system_number(system), row),
+        Refusal::Unbalanced(system, row) => refusal(9, system_number(system), row),
+        Refusal::MissesTooHigh(system) => refusal(10, system_number(system), 0),
+        Refusal::DirectionInDoubt(row) => refusal(11, 1, row),
+        Refusal::ShortBuffer => refusal(12, 0, 0),
+    }
+}
+
 // What an answer carries: 01's number, system and row, and the sheet's length.
 pub fn values(answer: Answer) -> Values
     ensures { λ r. ⌜ r ≡ values answer ⌝ }
@@ -47,17 +62,16 @@ pub fn values(answer: Answer) -> Values
             row: 0,
             length: length,
         },
-        Answer::BadFile => refusal(1, 0, 0),
-        Answer::BadSetting => refusal(2, 0, 0),
-        Answer::BadNode(row) => refusal(3, 0, row),
-        Answer::BadCircuit(row) => refusal(4, 0, row),
-        Answer::BadStation(row) => refusal(5, 0, row),
-        Answer::Unreached(row) => refusal(6, 0, row),
-        Answer::BadTotal => refusal(7, 0, 0),
-        Answer::BadNumber(system, row) => refusal(8, system_number(system), row),
-        Answer::Unbalanced(system, row) => refusal(9, system_number(system), row),
-        Answer::MissesTooHigh(system) => refusal(10, system_number(system), 0),
-        Answer::DirectionInDoubt(row) => refusal(11, 1, row),
-        Answer::ShortBuffer => refusal(12, 0, 0),
+        Answer::Refused(cause) => of_refusal(cause),
+    }
+}
+
+// What stops a case first: the first stage if it stops it, else the second.
+pub fn or_else(first: Judgement, second: Judgement) -> Judgement
+    ensures { λ r. ⌜ r ≡ first orElse second ⌝ }
+{
+    match first {
+        Judgement::Passes => second,
+        Judgement::Stops(cause) => Judgement::Stops(cause),
     }
 }

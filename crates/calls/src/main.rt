@@ -2,7 +2,7 @@
 // Then the line of a refusal, into a buffer that is long enough and one that is a byte too short.
 use libc::STDIN_FILENO;
 use libc::STDOUT_FILENO;
-use meaning::Answer;
+use meaning::Refusal;
 
 // Six numbers of a solution, and a seventh that is one too many.
 fn run_at(file: &[u8], at: usize) -> [i64; 7] {
@@ -88,7 +88,7 @@ fn wrong_runs(file: &[u8], base: &[i64], wider: &[i64], local: &[i64], long: &[i
 
 // The line of a refusal: how long it is, and how much of the buffer is as it was.
 fn refuse(out: &mut [u8]) {
-    let length = text::refuse(Answer::ShortBuffer, out);
+    let length = text::refuse(Refusal::ShortBuffer, out);
     print_length(length, out);
 }
 

@@ -14,14 +14,15 @@ use Rattle.meaning.specs.Grid.{gridOf}
 use Rattle.meaning.specs.Figures.{zones, zoneOf, weight, paying}
 use Rattle.meaning.specs.Outcome.{tablesStage, judged}
 use Rattle.meaning.specs.Conditions.{InRange, SoundTables, Acceptable}
-use Rattle.meaning.proofs.Answers.{Passes, passes-orElse}
+use Rattle.meaning.specs.declared.Judgement.the-variants.{Passes}
+use Rattle.meaning.proofs.Answers.{passes-orElse}
 use Rattle.meaning.proofs.Rows.{rows-at}
 use Rattle.meaning.proofs.Starts as starts
 use Rattle.sizes.specs.Bounds.{PotentialsInRange}
 use Rattle.sizes.proofs.Kilowatts.{kilowatts-fit}
 use Rattle.sizes.proofs.Figures.{figures-fit}
 use Rattle.sizes.proofs.Accepted.{solved-in-range}
-use Rattle.claims.proofs.Accepted.{judged-pass}
+use Rattle.meaning.proofs.Judged.{judged-pass}
 use Rattle.layout.specs.declared.RowCounts.{RowCounts}
 use Rattle.node_table.specs.declared.NodeColumns.{NodeColumns}
 use Rattle.station_table.specs.declared.TecColumns.{TecColumns}
@@ -104,11 +105,11 @@ module _ (S : Study) (sound : SoundTables S) where
       }
 
 -- ---- the columns of a file that nothing stops
-module _ (file : List ℕ) (runs : Runs) (p : Passes (judged file runs)) where
+module _ (file : List ℕ) (runs : Runs) (p : judged file runs ≡ Passes) where
   accepted : Acceptable file runs
   accepted = judged-pass file runs .0 p
 
-  tables-pass : Passes (tablesStage file (length (runs .base)) (length (runs .wider)) (length (runs .local)))
+  tables-pass : tablesStage file (length (runs .base)) (length (runs .wider)) (length (runs .local)) ≡ Passes
   unfolding judged
   tables-pass = passes-orElse _ _ .0 p .0
 

@@ -1,20 +1,26 @@
 -- 01, steps 6 to 10 of a case file and its three runs: the figures, or what stops the case.
-use mathlib.Core.Bool.{cond}
 use mathlib.Core.List.{List}
 use Prim.Native.Nat.{ℕ}
+use Rattle.meaning.specs.declared.Figures.{Figures}
+use Rattle.meaning.specs.declared.Judgement.{Judgement}
+use Rattle.meaning.specs.declared.Judgement.the-variants.{Passes, Stops}
 use Rattle.meaning.specs.Study.{Runs}
 use Rattle.meaning.specs.File.{studyOf}
 use Rattle.meaning.specs.Grid.{gridOf}
-use Rattle.meaning.specs.Answers.{stops}
 use Rattle.meaning.specs.Outcome.{judged}
 use Rattle.steps.specs.Nothing.{noFigures}
 use Rattle.charges.specs.declared.Charged.{Charged}
 use Rattle.charges.specs.Case.{figuresOf}
 
--- What stops a case, "Order", 1 to 11: what stops the case first, and then no figures; else the figures of steps 6 to 10
+-- a case that is stopped has no figures
+unfoldable pub figuresBy : Judgement → Figures → Figures
+figuresBy Passes figures = figures
+figuresBy (Stops r) figures = noFigures
+
+-- What stops a case, "Order", 1 to 11; and the figures of steps 6 to 10 where nothing does
 unfoldable pub chargedOf : (file : List ℕ) → Runs → Charged
 chargedOf file runs =
     record {
-      answer = judged file runs;
-      figures = cond (stops (judged file runs)) noFigures (figuresOf (gridOf (studyOf file)) runs);
+      judgement = judged file runs;
+      figures = figuresBy (judged file runs) (figuresOf (gridOf (studyOf file)) runs);
     }

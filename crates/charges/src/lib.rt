@@ -1,13 +1,13 @@
 // 01, steps 6 to 10: what each zone and each node pays. The figures of a case that nothing stops.
-use meaning::Answer;
 use meaning::Figures;
+use meaning::Judgement;
 ghost use mathlib.Core.Path.{_≡_};
-ghost use Rattle.proposal.specs.Judges.{runsOf};
+ghost use Rattle.meaning.specs.Study.{runsOf};
 ghost use Rattle.charges.specs.Charged.{chargedOf};
 
-// What stops a case first, and its figures: all zero where it is stopped.
+// What 1 to 11 make of a case, and its figures: all zero where it is stopped.
 pub struct Charged {
-    pub answer: Answer,
+    pub judgement: Judgement,
     pub figures: Figures,
 }
 
@@ -16,30 +16,32 @@ pub fn charge(file: &[u8], base: &[i64], wider: &[i64], local: &[i64]) -> Charge
     ensures { λ r. ⌜ r ≡ chargedOf (now (file .entry)) (runsOf (now (base .entry)) (now (wider .entry)) (now (local .entry))) ⌝ }
 {
     let opened = proposal::open(file, base, wider, local);
-    let answer = opened.answer;
-    if answers::is_refusal(answer) {
-        return Charged {
-            answer: answer,
+    let judgement = opened.judgement;
+    match judgement {
+        Judgement::Stops(_) => Charged {
+            judgement: judgement,
             figures: steps::no_figures(),
-        };
-    }
-    let generation_zone = opened.nodes.generation_zone;
-    let demand_zone = opened.nodes.demand_zone;
-    let demand = opened.nodes.demand;
-    let tec = opened.tec.scaling;
-    let paying = opened.tec.paying;
-    Charged {
-        answer: answer,
-        figures: tariffs::figures(
-            opened.counts.nodes,
-            opened.settings,
-            generation_zone,
-            tec,
-            paying,
-            demand_zone,
-            demand,
-            wider,
-            local,
-        ),
+        },
+        Judgement::Passes => {
+            let generation_zone = opened.nodes.generation_zone;
+            let demand_zone = opened.nodes.demand_zone;
+            let demand = opened.nodes.demand;
+            let tec = opened.tec.scaling;
+            let paying = opened.tec.paying;
+            Charged {
+                judgement: judgement,
+                figures: tariffs::figures(
+                    opened.counts.nodes,
+                    opened.settings,
+                    generation_zone,
+                    tec,
+                    paying,
+                    demand_zone,
+                    demand,
+                    wider,
+                    local,
+                ),
+            }
+        }
     }
 }

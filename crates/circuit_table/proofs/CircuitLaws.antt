@@ -5,8 +5,8 @@ use mathlib.Core.Bool.{not}
 use Prim.Native.Nat.{ℕ, _+_, _*_, _≤_, _<_}
 use native.Mathlib.Omega.{arith}
 use lib.ListN.{length, getD}
-use Rattle.meaning.specs.declared.Answer.the-variants.{BadCircuit}
-use Rattle.meaning.specs.Answers.{passed}
+use Rattle.meaning.specs.declared.Refusal.the-variants.{BadCircuit}
+use Rattle.meaning.specs.declared.Judgement.the-variants.{Passes, Stops}
 use Rattle.meaning.specs.Study.{circuit}
 use Rattle.meaning.specs.File.{circuitAt}
 use Rattle.meaning.specs.Tables.{soundCircuit, circuitsStage}
@@ -61,10 +61,10 @@ module _ {file : List ℕ} {n : RowCounts} {start : ℕ} {c : CircuitColumns} (t
   unfolding soundCircuit
   circuit-test i h = rw (row i h) refl
 
-  pub circuit-unsound : {r : ℕ} → IsFirst (unsoundCircuit file start) (n .circuits) r → r < n .circuits → BadCircuit (r + 1) ≡ circuitsStage (readable file)
+  pub circuit-unsound : {r : ℕ} → IsFirst (unsoundCircuit file start) (n .circuits) r → r < n .circuits → Stops (BadCircuit (r + 1)) ≡ circuitsStage (readable file)
   unfolding circuitsStage
   circuit-unsound f h = rw (← count-is) (at-first BadCircuit (first-as circuit-test f) h)
 
-  pub circuits-sound : {r : ℕ} → IsFirst (unsoundCircuit file start) (n .circuits) r → n .circuits ≤ r → passed ≡ circuitsStage (readable file)
+  pub circuits-sound : {r : ℕ} → IsFirst (unsoundCircuit file start) (n .circuits) r → n .circuits ≤ r → Passes ≡ circuitsStage (readable file)
   unfolding circuitsStage
   circuits-sound f h = rw (← count-is) (at-none BadCircuit (first-as circuit-test f) h)

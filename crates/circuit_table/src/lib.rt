@@ -6,7 +6,7 @@ ghost use mathlib.Core.Path.{_≡_};
 ghost use Rattle.meaning.specs.Tables.{circuitsStage};
 ghost use Rattle.layout.specs.Readable.{readable};
 ghost use Rattle.circuit_table.specs.Columns.{circuitsOf};
-use meaning::Answer;
+use meaning::Judgement;
 
 // Numbers of each circuit's end nodes, the count of nodes where there is none; reactance, expanded length in mm, local mark.
 pub struct CircuitColumns {
@@ -19,12 +19,12 @@ pub struct CircuitColumns {
 
 // The table judged, and its columns: names are resolved once for both.
 pub struct JudgedCircuits {
-    pub answer: Answer,
+    pub judgement: Judgement,
     pub columns: CircuitColumns,
 }
 
 // The columns of the circuits.
-pub fn columns(file: &[u8]) -> CircuitColumns
+fn columns(file: &[u8]) -> CircuitColumns
     ensures { λ r. ⌜ r ≡ circuitsOf (readable (now (file .entry))) ⌝ }
 {
     let rows = layout::counts(file);
@@ -48,10 +48,10 @@ pub fn columns(file: &[u8]) -> CircuitColumns
 
 // 4: the lowest circuit that is not sound.
 pub fn judge(file: &[u8]) -> JudgedCircuits
-    ensures { λ r. ⌜ (r .answer ≡ circuitsStage (readable (now (file .entry)))) × (r .columns ≡ circuitsOf (readable (now (file .entry)))) ⌝ }
+    ensures { λ r. ⌜ (r .judgement ≡ circuitsStage (readable (now (file .entry)))) × (r .columns ≡ circuitsOf (readable (now (file .entry)))) ⌝ }
 {
     let rows = layout::counts(file);
     let columns = columns(file);
-    let answer = row::stage(file, rows, 64 + 24 * rows.nodes, columns);
-    JudgedCircuits { answer, columns }
+    let judgement = row::stage(file, rows, 64 + 24 * rows.nodes, columns);
+    JudgedCircuits { judgement, columns }
 }

@@ -9,7 +9,8 @@ ghost use Rattle.meaning.specs.First.{IsFirst};
 ghost use Rattle.circuit_table.specs.Told.{soundEnds, ToldEnds, ToldCircuits, unsoundCircuit};
 use crate::CircuitColumns;
 use layout::RowCounts;
-use meaning::Answer;
+use meaning::Judgement;
+use meaning::Refusal;
 
 // Whether there are circuits of the voltage at a place.
 pub fn known_voltage(file: &[u8], at: usize) -> bool
@@ -67,13 +68,13 @@ pub fn first_unsound(file: &[u8], rows: RowCounts, start: usize, columns: Circui
 }
 
 // The stage: the lowest row that is malformed, out of range, or has an unknown end or equal ends.
-pub fn stage(file: &[u8], rows: RowCounts, start: usize, columns: CircuitColumns) -> Answer
+pub fn stage(file: &[u8], rows: RowCounts, start: usize, columns: CircuitColumns) -> Judgement
     requires { ⌜ ToldCircuits (now file) rows start columns ⌝ }
     ensures { λ r. ⌜ r ≡ circuitsStage (readable (now (file .entry))) ⌝ }
 {
     let row = first_unsound(file, rows, start, columns);
     if row < rows.circuits {
-        return Answer::BadCircuit(row + 1);
+        return Judgement::Stops(Refusal::BadCircuit(row + 1));
     }
-    Answer::Accepted(0)
+    Judgement::Passes
 }

@@ -1,108 +1,130 @@
--- Demand 1, and demand 2's first half: every input is settled, and accepted exactly when.
+-- Demand 1, and demand 2's first half: every input is settled, accepted exactly when, and refused exactly when.
 use mathlib.Core.Path.{_≡_, refl, sym, _∙_, ap}
 use mathlib.Core.Logic.{_⊎_, inl, inr, _↔_}
-use mathlib.Core.List.{List}
-use mathlib.Core.Bool.{Bool, true, false, cond, true≢false}
-use Prim.Native.Nat.{ℕ, _≤_, _<_}
-use lib.Dec.{leb}
+use mathlib.Core.List.{List, [], _∷_}
+use mathlib.Core.Bool.{Bool, true, false, true≢false}
+use Prim.Native.Nat.{ℕ, _≤_}
 use lib.ListN.{length}
-use Rattle.meaning.specs.Study.{Study, Runs}
-use Rattle.meaning.specs.File.{studyOf}
+use Rattle.meaning.specs.Study.{Runs}
+use Rattle.meaning.specs.declared.Refusal.{Refusal}
+use Rattle.meaning.specs.declared.Refusal.the-variants.{BadFile, ShortBuffer}
+use Rattle.meaning.specs.declared.Judgement.{Judgement}
+use Rattle.meaning.specs.declared.Judgement.the-variants.{Passes, Stops}
 use Rattle.meaning.specs.declared.Answer.{Answer}
-use Rattle.meaning.specs.declared.Answer.the-variants.{ShortBuffer}
-use Rattle.meaning.specs.Answers.{values, refusal, stops}
-use Rattle.meaning.specs.Grid.{gridOf}
-use Rattle.meaning.specs.Network.{networkOf}
-use Rattle.meaning.specs.Outcome.{tablesStage, judged, sheetOf, Settled, refused, written, settle}
-use Rattle.meaning.specs.Conditions.{SoundTables, Acceptable}
-use Rattle.meaning.specs.Demands.{ListedFor, shortBuffer, IsWritten, IsRefused, EveryInputSettled, AcceptedExactlyWhen}
-use Rattle.meaning.proofs.Says.{Says, says-le}
-use Rattle.meaning.proofs.Answers.{Passes, passes-orElse}
-use Rattle.meaning.proofs.Tables.{Rowwise, sound-pass, placed}
-use Rattle.claims.proofs.Whole.{whole-pass}
-use Rattle.claims.proofs.Proposals.{proposals-pass}
-use Rattle.claims.proofs.Listed.{InTable, passes, listed, judged-in}
+use Rattle.meaning.specs.declared.Answer.the-variants.{Accepted, Refused}
+use Rattle.meaning.specs.Answers.{_orElse_}
+use Rattle.meaning.specs.Outcome.{judged, sheetOf, Settled, refused, written, bufferStage, settledBy, settle}
+use Rattle.meaning.specs.Refusals.{whole, AllMet, Stopped, caseOrder, order}
+use Rattle.meaning.specs.Demands.{IsWritten, IsRefused, EveryInputSettled, AcceptedExactlyWhen, RefusedExactlyWhen, Accepting, OneAnswer}
+use Rattle.meaning.proofs.Answers.{stops≢passes, stops-same}
+use Rattle.meaning.proofs.Order.{both-met}
+use Rattle.meaning.proofs.Judged.{judge-all, case-met}
+use Rattle.claims.proofs.Listed.{stopped-listed}
 
--- 2 to 5 of sound tables
-pub rowwise : {S : Study} → SoundTables S → Rowwise S
-rowwise s = record { settings = s .settings; nodes = s .nodes; circuits = s .circuits; stations = s .stations }
+-- ---- answers told apart
+accepts : Answer → Bool
+accepts (Accepted n) = true
+accepts (Refused r) = false
 
--- nothing stops a case exactly when it is acceptable
-pub judged-pass : (file : List ℕ) (runs : Runs) → Passes (judged file runs) ↔ Acceptable file runs
-unfolding judged tablesStage
-judged-pass file runs = (there, back)
-  where
-    ref : SoundTables (studyOf file) → networkOf (gridOf (studyOf file)) .reference < networkOf (gridOf (studyOf file)) .nodes
-    ref s = placed (studyOf file) (rowwise s) .reference
+-- why an answer refuses
+cause : Answer → Refusal
+cause (Accepted n) = BadFile
+cause (Refused r) = r
 
-    there : Passes (judged file runs) → Acceptable file runs
-    there e =
-        let a = passes-orElse _ _ .0 e in
-        let b = passes-orElse _ _ .0 (a .0) in
-        let c = passes-orElse _ _ .0 (b .1) in
-        let d = passes-orElse _ _ .0 (c .1) in
-        let s = sound-pass (studyOf file) .0 (d .0, d .1) in
-        let p = proposals-pass (gridOf (studyOf file)) runs (ref s) .0 (a .1) in
-        record { whole = whole-pass file runs .0 (b .0, c .0); tables = s; solved = p .each; directions = p .clear }
+pub refused-same : {q r : Refusal} → Refused q ≡ Refused r → q ≡ r
+unfolding cause
+refused-same e = ap cause e
 
-    back : Acceptable file runs → Passes (judged file runs)
-    back r =
-        let w = whole-pass file runs .1 (r .whole) in
-        let s = sound-pass (studyOf file) .1 (r .tables) in
-        passes-orElse _ _ .1 (
-          passes-orElse _ _ .1 (w .0, passes-orElse _ _ .1 (w .1, passes-orElse _ _ .1 (s .0, s .1))),
-          proposals-pass (gridOf (studyOf file)) runs (ref (r .tables)) .1 (record { each = r .solved; clear = r .directions }),
-        )
+pub accepted≢refused : {n : ℕ} {r : Refusal} → Accepted n ≡ Refused r → ⊥
+unfolding accepts
+accepted≢refused e = true≢false (ap accepts e)
 
--- ---- what is settled by an answer, for a sheet and a buffer
+-- how long an accepted sheet is
+lengthOf : Answer → ℕ
+lengthOf (Accepted n) = n
+lengthOf (Refused r) = 0
+
+pub accepted-same : {m n : ℕ} → Accepted m ≡ Accepted n → m ≡ n
+unfolding lengthOf
+accepted-same e = ap lengthOf e
+
+-- ---- what is settled by a judgement: the sheet exactly when it passes, a refusal exactly when it stops so
 module _ (sheet buffer : List ℕ) where
-  abbrev settledBy : Answer → Settled
-  settledBy a = cond (stops a) (refused a buffer) (cond (leb (length sheet) (length buffer)) (written sheet buffer) (refused ShortBuffer buffer))
+  sheet-settled : (j : Judgement) → (settledBy j sheet buffer ≡ written sheet buffer) ↔ (j ≡ Passes)
+  unfolding settledBy written refused
+  sheet-settled Passes = (λ e. refl, λ e. refl)
+  sheet-settled (Stops r) =
+      (λ e. absurd (accepted≢refused (sym (ap (λ (s : Settled). s .answer) e))), λ e. absurd (stops≢passes e))
 
-  -- a refusal is no sheet
-  apart : (a : Answer) → stops a ≡ true → refused a buffer ≡ written sheet buffer → ⊥
-  unfolding refused written stops values
-  apart a e h = true≢false (sym e ∙ ap (λ (s : Settled). stops (s .answer)) h)
+  refusal-settled : (j : Judgement) (r : Refusal) → (settledBy j sheet buffer .answer ≡ Refused r) ↔ (j ≡ Stops r)
+  unfolding settledBy written refused
+  refusal-settled Passes r = (λ e. absurd (accepted≢refused e), λ e. absurd (stops≢passes (sym e)))
+  refusal-settled (Stops q) r = (λ e. ap Stops (refused-same e), λ e. ap Refused (stops-same e))
 
-  -- the sheet, exactly when the answer passes and the sheet fits
-  sheet-settled : (a : Answer) → (settledBy a ≡ written sheet buffer) ↔ Passes a × (length sheet ≤ length buffer)
-  unfolding stops values refusal
-  sheet-settled a = go (stops a) refl (leb (length sheet) (length buffer)) says-le
+module _ (file : List ℕ) (runs : Runs) (buffer : List ℕ) where
+  abbrev verdict : Judgement
+  verdict = judged file runs orElse bufferStage (sheetOf file runs) buffer
+
+  -- the conditions of the whole order are those of acceptance
+  all-met : AllMet (order file runs buffer) ↔ Accepting file runs buffer
+  all-met =
+      let b = both-met (caseOrder file runs) (whole (length (sheetOf file runs) ≤ length buffer) ShortBuffer ∷ []) in
+      let c = case-met file runs in
+      (λ m. let t = b .0 m in (c .0 (t .0), t .1 .0), λ a. b .1 (c .1 (a .0), (a .1, tt)))
+
+  passing : (verdict ≡ Passes) ↔ Accepting file runs buffer
+  passing =
+      let p = judge-all file runs buffer .passes in
+      (λ e. all-met .0 (p .0 e), λ a. p .1 (all-met .1 a))
+
+  exactly : IsWritten file runs buffer ↔ Accepting file runs buffer
+  unfolding settle
+  exactly =
+      let s = sheet-settled (sheetOf file runs) buffer verdict in
+      (λ e. passing .0 (s .0 e), λ a. s .1 (passing .1 a))
+
+  answered : (r : Refusal) → (settle file runs buffer .answer ≡ Refused r) ↔ Stopped file runs buffer r
+  unfolding settle
+  answered r =
+      let s = refusal-settled (sheetOf file runs) buffer verdict r in
+      let k = judge-all file runs buffer .stops r in
+      (λ e. k .0 (s .0 e), λ f. s .1 (k .1 f))
+
+  stopped : (r : Refusal) → Stopped file runs buffer r → settle file runs buffer ≡ refused r buffer
+  unfolding settle settledBy
+  stopped r f = ap (λ (j : Judgement). settledBy j (sheetOf file runs) buffer) (judge-all file runs buffer .stops r .1 f)
+
+  either : Accepting file runs buffer ⊎ ((r : Refusal) × Stopped file runs buffer r)
+  either = go verdict refl
     where
-      go : (t : Bool) → stops a ≡ t → (b : Bool) → Says b (length sheet ≤ length buffer)
-          → (cond t (refused a buffer) (cond b (written sheet buffer) (refused ShortBuffer buffer)) ≡ written sheet buffer)
-          ↔ (t ≡ false) × (length sheet ≤ length buffer)
-      go true e b s = (λ h. absurd (apart a e h), λ t. absurd (true≢false (t .0)))
-      go false e true s = (λ h. (refl, s .0 refl), λ t. refl)
-      go false e false s = (λ h. absurd (apart ShortBuffer refl h), λ t. absurd (true≢false (sym (s .1 (t .1)))))
+      go : (j : Judgement) → verdict ≡ j → Accepting file runs buffer ⊎ ((r : Refusal) × Stopped file runs buffer r)
+      go Passes e = inl (passing .0 e)
+      go (Stops r) e = inr (r, judge-all file runs buffer .stops r .0 e)
+
+-- ---- demands 1 and 2: which refusal
+pub refused-exactly-when : RefusedExactlyWhen
+refused-exactly-when file runs buffer r = record { exactly = answered file runs buffer r; untouched = stopped file runs buffer r }
+
+pub one-answer : OneAnswer
+one-answer file runs buffer = record {
+  either = either file runs buffer;
+  notBoth = λ a r f. stops≢passes (sym (judge-all file runs buffer .stops r .1 f) ∙ passing file runs buffer .1 a);
+  onlyOne = λ q r f g. refused-same (sym (answered file runs buffer q .1 f) ∙ answered file runs buffer r .1 g);
+}
 
 -- ---- demand 1
 pub every-input-settled : EveryInputSettled
-unfolding settle values
-every-input-settled file runs buffer = go (stops (judged file runs)) refl (leb (length (sheetOf file runs)) (length buffer)) refl
+every-input-settled file runs buffer = go (either file runs buffer)
   where
-    in-table : InTable (studyOf file) (judged file runs) → stops (judged file runs) ≡ true → ListedFor (studyOf file) (judged file runs)
-    in-table (passes p) e = absurd (true≢false (sym e ∙ p))
-    in-table (listed l) e = l
-
-    go : (t : Bool) → stops (judged file runs) ≡ t → (b : Bool) → leb (length (sheetOf file runs)) (length buffer) ≡ b
-        → IsWritten file runs buffer ⊎ IsRefused file runs buffer
-    go true e b f = inr (record { answer = judged file runs; listed = in-table (judged-in file runs) e; settled = rw e refl })
-    go false e true f = inl (rw (e, f) refl)
-    go false e false f = inr (record { answer = ShortBuffer; listed = shortBuffer; settled = rw (e, f) refl })
+    go : Accepting file runs buffer ⊎ ((r : Refusal) × Stopped file runs buffer r) → IsWritten file runs buffer ⊎ IsRefused file runs buffer
+    go (inl a) = inl (exactly file runs buffer .1 a)
+    go (inr (r, f)) =
+        inr (record { cause = r; listed = stopped-listed file runs buffer r f; settled = stopped file runs buffer r f })
 
 -- ---- demand 2, first half
 pub accepted-exactly-when : AcceptedExactlyWhen
-unfolding settle
-accepted-exactly-when file runs buffer = record { accepted = exactly; otherwise = λ f. else (every-input-settled file runs buffer) f }
+accepted-exactly-when file runs buffer = record { accepted = exactly file runs buffer; otherwise = else (every-input-settled file runs buffer) }
   where
-    exactly : IsWritten file runs buffer ↔ Acceptable file runs × (length (sheetOf file runs) ≤ length buffer)
-    exactly =
-        let s = sheet-settled (sheetOf file runs) buffer (judged file runs) in
-        let p = judged-pass file runs in
-        (λ e. (p .0 (s .0 e .0), s .0 e .1), λ t. s .1 (p .1 (t .0), t .1))
-
-    else : IsWritten file runs buffer ⊎ IsRefused file runs buffer → (Acceptable file runs × (length (sheetOf file runs) ≤ length buffer) → ⊥)
-        → IsRefused file runs buffer
-    else (inl w) f = absurd (f (exactly .0 w))
+    else : IsWritten file runs buffer ⊎ IsRefused file runs buffer → (Accepting file runs buffer → ⊥) → IsRefused file runs buffer
+    else (inl w) f = absurd (f (exactly file runs buffer .0 w))
     else (inr r) f = r

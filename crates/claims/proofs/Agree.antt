@@ -24,11 +24,10 @@ use Rattle.meaning.specs.Figures.{metres, widerMetres, localMetres}
 use Rattle.meaning.specs.Sheet.{sheet}
 use Rattle.meaning.specs.Conditions.{SoundTables, HasLength}
 use Rattle.meaning.specs.Demands.{SolversAgree}
-use Rattle.meaning.proofs.Tables.{placed}
+use Rattle.meaning.proofs.Tables.{placed, rowwise}
 use Rattle.network.specs.Statements.{Sound, SolvedTwice}
 use Rattle.network.proofs.Theorems.{directions-agree, potentials-close, metres-agree}
-use Rattle.claims.proofs.Accepted.{rowwise}
-use Rattle.claims.proofs.Proposals.{Solved}
+use Rattle.meaning.proofs.Proposals.{Solved}
 use Rattle.claims.proofs.Same.{same-grid}
 
 -- ---- lengths with a sign
@@ -64,7 +63,7 @@ module _ (S : Study) (sound : SoundTables S) (runs runs′ : Runs) (s : Solved (
   sound-network : Sound (networkOf (gridOf S))
   unfolding networkOf gridOf
   sound-network =
-      let p = placed S (rowwise sound) in
+      let p = placed S (rowwise S sound) in
       record { first = p .first; second = p .second; x = λ c h. sound .circuits c h .x .least }
 
   abbrev Twice : System → Type 0

@@ -7,46 +7,69 @@ use lib.Dec.{leb}
 use lib.ListN.{length}
 use Rattle.meaning.specs.Study.{Runs}
 use Rattle.meaning.specs.File.{studyOf}
+use Rattle.meaning.specs.declared.Judgement.{Judgement}
+use Rattle.meaning.specs.declared.Judgement.the-variants.{Passes, Stops}
+use Rattle.meaning.specs.declared.Refusal.the-variants.{ShortBuffer}
 use Rattle.meaning.specs.declared.Answer.{Answer}
-use Rattle.meaning.specs.declared.Answer.the-variants.{Accepted, ShortBuffer}
-use Rattle.meaning.specs.Answers.{stops, _orElse_}
+use Rattle.meaning.specs.declared.Answer.the-variants.{Accepted, Refused}
+use Rattle.meaning.specs.Answers.{_orElse_, unless}
 use Rattle.meaning.specs.Grid.{Grid, gridOf}
 use Rattle.meaning.specs.Systems.{proposalsStage}
 use Rattle.meaning.specs.Sheet.{sheet}
-use Rattle.meaning.specs.Outcome.{gridStage, tablesStage, judged, sheetOf, refused, written, settle}
-use Rattle.meaning.specs.Demands.{PassesToFive, StationsHidden}
-use Rattle.meaning.proofs.Answers.{orElse-passes}
+use Rattle.meaning.specs.Outcome.{gridStage, tablesStage, judged, sheetOf, refused, written, bufferStage, answeredBy, answerOf, settledBy, settle}
+use Rattle.meaning.specs.Demands.{SameButStations, PassesToFive, StationsHidden, JudgeIsWrite}
+use Rattle.meaning.proofs.Says.{says-le}
+use Rattle.meaning.proofs.Answers.{orElse-passes, passes-orElse}
+use Rattle.meaning.proofs.Tables.{judge-rows}
+use Rattle.meaning.proofs.Whole.{judge-file}
 use Rattle.claims.proofs.Same.{same-grid}
 
 -- what is answered after 1 to 5 is a function of the grid, the runs and the buffer's length
-afterFive : Grid → Runs → Answer
+afterFive : Grid → Runs → Judgement
 afterFive G runs = gridStage G orElse proposalsStage G runs
 
 judged-after : (file : List ℕ) (runs : Runs) → PassesToFive file runs → judged file runs ≡ afterFive (gridOf (studyOf file)) runs
 unfolding judged tablesStage afterFive
 judged-after file runs p =
-    ap (λ (a : Answer). a orElse proposalsStage (gridOf (studyOf file)) runs)
-    (orElse-passes _ _ (p .whole) ∙ orElse-passes _ _ (p .runLengths) ∙ orElse-passes _ _ (p .tables))
+    let w = passes-orElse _ _ .0 (judge-file file runs .passes .1 (p .0, tt)) in
+    ap (λ (a : Judgement). a orElse proposalsStage (gridOf (studyOf file)) runs)
+    (orElse-passes _ (w .0) ∙ orElse-passes _ (w .1) ∙ orElse-passes _ (judge-rows (studyOf file) .passes .1 (p .1)))
 
-answered : Answer → (sheet buffer : ℕ) → Answer
-answered a sheet buffer = cond (stops a) a (cond (leb sheet buffer) (Accepted sheet) ShortBuffer)
+-- so 1 to 11 judge both cases alike
+pub judged-alike : (file file′ : List ℕ) (runs : Runs) → PassesToFive file runs → PassesToFive file′ runs
+    → SameButStations (studyOf file) (studyOf file′)
+    → judged file runs ≡ judged file′ runs
+judged-alike file file′ runs p p′ same =
+    judged-after file runs p ∙ ap (λ (G : Grid). afterFive G runs) (same-grid same) ∙ sym (judged-after file′ runs p′)
+
+answered : Judgement → (sheet buffer : ℕ) → Answer
+answered Passes sheet buffer = cond (leb sheet buffer) (Accepted sheet) (Refused ShortBuffer)
+answered (Stops r) sheet buffer = Refused r
 
 settled-answer : (file : List ℕ) (runs : Runs) (buffer : List ℕ)
     → settle file runs buffer .answer ≡ answered (judged file runs) (length (sheetOf file runs)) (length buffer)
-unfolding settle refused written answered
-settled-answer file runs buffer = go (stops (judged file runs)) (leb (length (sheetOf file runs)) (length buffer))
+unfolding settle settledBy bufferStage unless _orElse_ refused written answered
+settled-answer file runs buffer = go (judged file runs) (leb (length (sheetOf file runs)) (length buffer)) refl
   where
-    go : (s l : Bool)
-        → (cond s (refused (judged file runs) buffer) (cond l (written (sheetOf file runs) buffer) (refused ShortBuffer buffer))) .answer
-        ≡ cond s (judged file runs) (cond l (Accepted (length (sheetOf file runs))) ShortBuffer)
-    go true l = refl
-    go false true = refl
-    go false false = refl
+    go : (j : Judgement) (l : Bool) → leb (length (sheetOf file runs)) (length buffer) ≡ l
+        → settledBy (j orElse unless l ShortBuffer) (sheetOf file runs) buffer .answer
+        ≡ answered j (length (sheetOf file runs)) (length buffer)
+    go Passes true e = rw e refl
+    go Passes false e = rw e refl
+    go (Stops r) l e = refl
+
+-- with room enough, the sheet's length or the refusal
+pub judge-is-write : JudgeIsWrite
+unfolding answerOf answeredBy answered
+judge-is-write file runs buffer h = settled-answer file runs buffer ∙ go (judged file runs)
+  where
+    go : (j : Judgement) → answered j (length (sheetOf file runs)) (length buffer) ≡ answeredBy j (sheetOf file runs)
+    go Passes = rw (says-le .1 h) refl
+    go (Stops r) = refl
 
 pub stations-hidden : StationsHidden
 stations-hidden file file′ runs buffer buffer′ p p′ same long =
     settled-answer file runs buffer
-    ∙ ap (λ (a : Answer). answered a (length (sheetOf file runs)) (length buffer)) (judged-after file runs p)
-    ∙ ap₂ (λ (G : Grid) (n : ℕ). answered (afterFive G runs) (length (sheet G runs)) n) (same-grid same) long
-    ∙ sym (ap (λ (a : Answer). answered a (length (sheetOf file′ runs)) (length buffer′)) (judged-after file′ runs p′))
+    ∙ ap (λ (a : Judgement). answered a (length (sheetOf file runs)) (length buffer)) (judged-alike file file′ runs p p′ same)
+    ∙ ap₂ (λ (G : Grid) (n : ℕ). answered (judged file′ runs) (length (sheet G runs)) n) (same-grid same) long
     ∙ sym (settled-answer file′ runs buffer′)

@@ -1,7 +1,8 @@
 -- The demands are not empty: KILN, and KILN with its stations divided and listed differently and with another proposal.
 use mathlib.Core.Path.{_≡_, refl, sym, _∙_, ap}
 use mathlib.Core.List.{List, [], _∷_}
-use Prim.Native.Nat.{ℕ, zero, suc, _≤_, _<_}
+use Prim.Native.Nat.{ℕ, zero, suc, _+_, _≤_, _<_}
+use Prim.Native.String.{String}
 use native.Mathlib.Omega.{arith}
 use lib.IntN.{pos}
 use lib.ListN.{getD, replicate, set}
@@ -9,23 +10,30 @@ use Rattle.meaning.specs.Study.{Station, Study, Runs}
 use Rattle.meaning.specs.File.{studyOf}
 use Rattle.meaning.specs.Rows.{rows}
 use Rattle.meaning.specs.declared.System.the-variants.{Base}
-use Rattle.meaning.specs.declared.Answer.the-variants.{Unbalanced}
-use Rattle.meaning.specs.Answers.{passed}
+use Rattle.meaning.specs.declared.Refusal.the-variants.{Unbalanced, MissesTooHigh}
+use Rattle.meaning.specs.declared.Refusal.{Refusal}
+use Rattle.meaning.specs.Answers.{refusal, values}
+use Rattle.meaning.specs.Refusals.{Stopped}
+use Rattle.meaning.specs.declared.Judgement.the-variants.{Passes}
+use Rattle.meaning.specs.declared.Answer.the-variants.{Refused}
 use Rattle.meaning.specs.Grid.{gridOf, capacityOf}
 use Rattle.meaning.specs.Outcome.{judged, sheetOf, settle}
 use Rattle.meaning.specs.Conditions.{InRange, Acceptable}
-use Rattle.meaning.specs.Demands.{IsWritten, IsRefused, Recovered, SameButStations, Agree, PassesToFive}
+use Rattle.meaning.specs.Demands
+use Rattle.meaning.specs.Demands.{IsWritten, IsRefused, Recovered, SameButStations, Parts, Rearranged, exchanged, below, then, StationsRearranged, Agree, PassesToFive}
 use Rattle.meaning.proofs.Write.{fileOf}
-use Rattle.meaning.proofs.Kiln.{kiln, kilnRuns, kilnBase, kilnWider, kilnLocal, kilnSettings, kilnNodes, kilnCircuits, kilnSheet, kiln-judged, stationOf}
+use Rattle.meaning.proofs.Kiln.{kiln, kilnRuns, kilnBase, kilnWider, kilnLocal, kilnSettings, kilnNodes, kilnCircuits, kilnStations, kilnSheet, kiln-judged, stationOf}
 use Rattle.meaning.proofs.Opened.{opened}
 use Rattle.meaning.proofs.Rows.{rows-at}
-use Rattle.meaning.proofs.Answers.{passed-passes}
-use Rattle.claims.proofs.Accepted.{judged-pass}
-use Rattle.claims.proofs.Theorems.{accepted-exactly-when, revenue-recovered, solvers-agree, stations-hidden}
+use Rattle.meaning.proofs.Whole.{judge-file}
+use Rattle.meaning.proofs.Tables.{judge-rows}
+use Rattle.meaning.proofs.Judged.{judged-pass}
+use Rattle.claims.proofs.Stations.{rearranged}
+use Rattle.claims.proofs.Theorems.{accepted-exactly-when, refused-exactly-when, one-answer, revenue-recovered, solvers-agree, stations-hidden}
 
 -- ---- KILN is acceptable, and settled in either way
 kiln-acceptable : Acceptable kiln kilnRuns
-kiln-acceptable = judged-pass kiln kilnRuns .0 (rw kiln-judged passed-passes)
+kiln-acceptable = judged-pass kiln kilnRuns .0 kiln-judged
 
 kiln-sheet : sheetOf kiln kilnRuns ≡ kilnSheet
 unfolding opened
@@ -59,12 +67,12 @@ dividedWith runs = fileOf (record { settings = kilnSettings; nodes = kilnNodes; 
 abbrev other : List ℕ
 other = dividedWith otherRuns
 
-other-judged : judged other otherRuns ≡ passed
+other-judged : judged other otherRuns ≡ Passes
 unfolding opened
 other-judged = refl
 
 other-acceptable : Acceptable other otherRuns
-other-acceptable = judged-pass other otherRuns .0 (rw other-judged passed-passes)
+other-acceptable = judged-pass other otherRuns .0 other-judged
 
 -- equal tables of capacity say equal capacities
 capacity-at : (S S′ : Study) (n : ℕ)
@@ -83,21 +91,61 @@ same = record { settings = refl; nodes = refl; circuits = refl; capacity = capac
 kilns-agree : Agree (studyOf kiln) kilnRuns otherRuns (sheetOf kiln kilnRuns) (sheetOf other otherRuns)
 kilns-agree = solvers-agree kiln other kilnRuns otherRuns kiln-acceptable other-acceptable same
 
+-- ---- KILN's proposals with the five stations, divided and listed differently step by step: one sheet
+abbrev twin : List ℕ
+twin = dividedWith kilnRuns
+
+twin-acceptable : Acceptable twin kilnRuns
+unfolding opened
+twin-acceptable = judged-pass twin kilnRuns .0 refl
+
+of-parts : (i j k n : String) (a b c : ℕ) → a ≡ b + c → Parts (stationOf i n a) (stationOf j n b) (stationOf k n c)
+of-parts i j k n a b c e = record { firstNode = refl; secondNode = refl; firstType = refl; secondType = refl; tec = e }
+
+-- GEN_2 is divided, and its first part goes to the front; GEN_1 is divided, its second part again, and the empty part goes to the end
+divided-so : Rearranged kilnStations divided
+divided-so =
+    then (below (Demands.divided (of-parts "GEN_2" "B_1" "B_2" "NODB" 100000 60000 40000 refl)))
+    (then exchanged
+    (then (below (Demands.divided (of-parts "GEN_1" "A_1" "A_2" "NODA" 200000 150000 50000 refl)))
+    (then (below (below (Demands.divided (of-parts "A_2" "A_2" "A_3" "NODA" 50000 50000 0 refl)))) (below (below (below exchanged))))))
+
+twin-rearranged : StationsRearranged (studyOf kiln) (studyOf twin)
+unfolding opened
+twin-rearranged = record { settings = refl; nodes = refl; circuits = refl; stations = divided-so }
+
+one-sheet : sheetOf kiln kilnRuns ≡ sheetOf twin kilnRuns
+one-sheet = solvers-agree kiln twin kilnRuns kilnRuns kiln-acceptable twin-acceptable (rearranged twin-rearranged) .sheets refl
+
 -- ---- one milliwatt more on A-B, with KILN's stations and with the divided ones: one answer, in two buffers
 abbrev leaking : Runs
 leaking = record { base = set kilnBase 3 (pos 45000000001); wider = kilnWider; local = kilnLocal }
 
 passes-five : PassesToFive kiln leaking
 unfolding opened
-passes-five = record { whole = refl; runLengths = refl; tables = refl }
+passes-five = (judge-file kiln leaking .passes .0 refl .0, judge-rows (studyOf kiln) .passes .0 refl)
 
 divided-passes : PassesToFive other leaking
 unfolding opened
-divided-passes = record { whole = refl; runLengths = refl; tables = refl }
+divided-passes = (judge-file other leaking .passes .0 refl .0, judge-rows (studyOf other) .passes .0 refl)
 
-kiln-leaks : settle kiln leaking (replicate 5 7) .answer ≡ Unbalanced Base 1
+kiln-leaks : settle kiln leaking (replicate 5 7) .answer ≡ Refused (Unbalanced Base 1)
 unfolding opened
 kiln-leaks = refl
 
-hidden : settle other leaking (replicate 5 1) .answer ≡ Unbalanced Base 1
+hidden : settle other leaking (replicate 5 1) .answer ≡ Refused (Unbalanced Base 1)
 hidden = sym (stations-hidden kiln other leaking (replicate 5 7) (replicate 5 1) passes-five divided-passes same refl) ∙ kiln-leaks
+
+-- so 01's order stops it there, at balance and not at a number, a miss or a direction; and a short buffer at 12
+leak-stopped : Stopped kiln leaking (replicate 5 7) (Unbalanced Base 1)
+leak-stopped = refused-exactly-when kiln leaking (replicate 5 7) (Unbalanced Base 1) .exactly .0 kiln-leaks
+
+not-missed : Stopped kiln leaking (replicate 5 7) (MissesTooHigh Base) → ⊥
+unfolding values refusal
+not-missed f = unbalanced≢missed (one-answer kiln leaking (replicate 5 7) .onlyOne (Unbalanced Base 1) (MissesTooHigh Base) leak-stopped f)
+  where
+    unbalanced≢missed : Unbalanced Base 1 ≡ MissesTooHigh Base → ⊥
+    unbalanced≢missed e = numbers (ap {B = ℕ} (λ (r : Refusal). values (Refused r) .number) e)
+      where
+        numbers : _≡_ {A = ℕ} (values (Refused (Unbalanced Base 1)) .number) (values (Refused (MissesTooHigh Base)) .number) → ⊥
+        numbers h = omega arith

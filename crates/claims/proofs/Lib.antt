@@ -1,13 +1,12 @@
 -- the page to open first
 pub mod Theorems
 -- demands 1 and 2: every input is settled; accepted exactly when
-pub mod Whole
-pub mod Proposals
 pub mod Listed
 pub mod Accepted
 -- demand 3: solvers agree, and stations stay hidden
 pub mod Same
 pub mod Hidden
+pub mod Stations
 pub mod Agree
 -- demand 2: the revenue is recovered, read back from the bytes of the sheet
 pub mod Digits
@@ -18,5 +17,7 @@ pub mod Pays
 pub mod ReadBack
 pub mod Money
 pub mod Recovered
+-- a refusal read back from its line
+pub mod Told
 -- nothing of it is vacuous
 pub mod Instance

@@ -1,4 +1,4 @@
--- The figures bring in the revenue: of each side, the zones' totals, the local income and the remainder are the target.
+-- The figures bring in the targets: of each side, the zones' totals, the local income and the remainder are the target.
 use mathlib.Core.Path.{_≡_, sym, _∙_, ap}
 use Prim.Native.Nat.{ℕ, zero, suc, _+_, _*_, _-_, _≤_}
 use native.Mathlib.Omega.{arith}
@@ -23,10 +23,6 @@ raised t r kw (suc n) = rw (raised t r kw n) (step (Σ n (λ k. t k *ℤ pos (kw
     step : (a b r : ℤ) (m k : ℕ) → a +ℤ r *ℤ pos m +ℤ (b +ℤ r) *ℤ pos k ≡ a +ℤ b *ℤ pos k +ℤ r *ℤ pos (m + k)
     step a b r m k = simp Z (omega arith)
 
--- income of generation's zones and of demand's, and local; the two remainders; the two targets. Demand has no local income
-together : (g d l r q t u : ℤ) → g +ℤ l +ℤ r ≡ t → d +ℤ pos 0 +ℤ q ≡ u → g +ℤ d +ℤ l +ℤ r +ℤ q ≡ t +ℤ u
-together g d l r q t u = simp Z (omega arith)
-
 module _ (G : Grid) (fit : KilowattsFit G) (runs : Runs) where
   -- the residual is paid by each kilowatt, and the zones have all of them
   income-is : (side : Side)
@@ -36,7 +32,7 @@ module _ (G : Grid) (fit : KilowattsFit G) (runs : Runs) where
       raised (λ k. zoneTariff G runs side (suc k)) (residual G runs side) (λ k. zonePaying G side (suc k)) (zones G side)
       ∙ ap (λ (m : ℕ). overZones G side (zoneTariff G runs side) +ℤ residual G runs side *ℤ pos m) (fit .zonesAll side)
 
-  side-recovered : (side : Side) → overZones G side (zoneTotal G runs side) +ℤ localIncome G runs side +ℤ remainder G runs side ≡ target G side
+  pub side-recovered : (side : Side) → overZones G side (zoneTotal G runs side) +ℤ localIncome G runs side +ℤ remainder G runs side ≡ target G side
   unfolding remainder remainderOf residual rest
   side-recovered side =
       rw (income-is side)
@@ -46,7 +42,7 @@ module _ (G : Grid) (fit : KilowattsFit G) (runs : Runs) where
       cancel o r l t k = simp Z (omega arith)
 
   -- the two targets are the revenue in micro-pounds
-  targets : G .settings .p ≤ 1000 → target G Generation +ℤ target G Demand ≡ pos (G .settings .revenue * 1000000)
+  pub targets : G .settings .p ≤ 1000 → target G Generation +ℤ target G Demand ≡ pos (G .settings .revenue * 1000000)
   unfolding target
   targets h = ap pos (shares (G .settings .revenue) (G .settings .p) h)
     where
@@ -56,14 +52,3 @@ module _ (G : Grid) (fit : KilowattsFit G) (runs : Runs) where
         where
           whole : (p : ℕ) → p ≤ 1000 → (1000 - p) + p ≡ 1000
           whole p h = omega arith
-
-  pub both-recovered : G .settings .p ≤ 1000
-      → overZones G Generation (zoneTotal G runs Generation) +ℤ overZones G Demand (zoneTotal G runs Demand) +ℤ localIncome G runs Generation
-      +ℤ remainder G runs Generation
-      +ℤ remainder G runs Demand
-      ≡ pos (G .settings .revenue * 1000000)
-  unfolding localIncome
-  both-recovered h =
-      together (overZones G Generation (zoneTotal G runs Generation)) (overZones G Demand (zoneTotal G runs Demand)) (localIncome G runs Generation)
-      (remainder G runs Generation) (remainder G runs Demand) (target G Generation) (target G Demand) (side-recovered Generation) (side-recovered Demand)
-      ∙ targets h

@@ -1,10 +1,10 @@
 -- Read back from its bytes, a sheet brings in the totals of its zones and the local tariffs of its nodes, and shows its two remainders.
-use mathlib.Core.Path.{_≡_, refl, sym, _∙_}
+use mathlib.Core.Path.{_≡_, refl, sym, _∙_, ap}
 use mathlib.Core.List.{List, [], _∷_}
-use mathlib.Core.Bool.{cond}
-use Prim.Native.Nat.{ℕ, _≤_, _<_}
+use mathlib.Core.Bool.{true, cond}
+use Prim.Native.Nat.{ℕ, suc, _≤_, _<_}
 use native.Mathlib.Omega.{arith}
-use lib.IntN.{ℤ, pos, _+ℤ_, _*ℤ_}
+use lib.IntN.{ℤ, pos, natAbs, _+ℤ_, _-ℤ_, _*ℤ_}
 use lib.ListN.{length, getD, drop}
 use Rattle.integers.specs.Numbers.{Σ}
 use Rattle.integers.proofs.Core.{Z}
@@ -14,17 +14,17 @@ use Rattle.meaning.specs.Name.{sameName}
 use Rattle.meaning.specs.Grid.{Grid, gridOf, place, nodeTec, payingTec}
 use Rattle.meaning.specs.declared.Side.{Side}
 use Rattle.meaning.specs.declared.Side.the-variants.{Generation, Demand}
-use Rattle.meaning.specs.Figures.{zones, zoneWeight, zonePaying, zoneTotal, overZones, localIncome, localTariff, remainder}
-use Rattle.meaning.specs.Text.{text}
+use Rattle.meaning.specs.Figures.{zones, zoneWeight, zonePaying, zoneTariff, residual, zoneTotal, overZones, localIncome, localTariff, remainder}
+use Rattle.meaning.specs.Text.{text, decimal}
 use Rattle.meaning.specs.Sheet.{letter, sheet}
-use Rattle.meaning.specs.Read.{field, readNatural, readWhole, hasLetter, padded, zoneIncome, nodeIncome, printedIncome, remainderField, printedRemainder}
+use Rattle.meaning.specs.Read.{pieces, field, readNatural, readWhole, hasLetter, padded, lineAt, zoneIncome, nodeIncome, lineIncome, sideIncome, remainderField, printedRemainder}
 use Rattle.meaning.specs.Conditions.{WellFormed, SoundTables}
-use Rattle.meaning.proofs.Tables.{place-own}
-use Rattle.claims.proofs.Accepted.{rowwise}
+use Rattle.meaning.proofs.Tables.{place-own, rowwise}
 use Rattle.claims.proofs.Digits.{read-natural, read-decimal}
 use Rattle.claims.proofs.Names.{name-back}
+use Rattle.meaning.proofs.Proposals.{not-apart, zero-apart}
 use Rattle.claims.proofs.Pays.{node-pays, zone-pays}
-use Rattle.claims.proofs.Pieces.{over, adds-all}
+use Rattle.claims.proofs.Pieces.{over, adds-all, each-none}
 use Rattle.claims.proofs.Lines.{Line, emptyZone, fullZone, nodeLine, lastLine, Worth, add-sheet}
 
 -- ---- what the fields of a line bring in, and the remainder that they show
@@ -37,16 +37,29 @@ module _ (G : Grid) where
   ofNode fs =
       cond (sameName (getD fs 0 []) (text "L")) (readWhole (getD fs 3 []) *ℤ pos (payingTec G (place (G .nodes) (padded (getD fs 1 []))))) (pos 0)
 
-  income : Line → ℤ
-  income fs = ofZone Generation fs +ℤ ofZone Demand fs +ℤ ofNode fs
+  ofSide : Side → Line → ℤ
+  ofSide Generation fs = ofZone Generation fs +ℤ ofNode fs
+  ofSide Demand fs = ofZone Demand fs
 
-  no-income : income ([] ∷ []) ≡ pos 0
-  unfolding income ofZone ofNode sameName letter
-  no-income = refl
+  no-income : (side : Side) → ofSide side ([] ∷ []) ≡ pos 0
+  unfolding ofSide ofZone ofNode sameName letter
+  no-income Generation = refl
+  no-income Demand = refl
 
-  income-over : (t : List ℕ) → printedIncome G t ≡ over income t
-  unfolding printedIncome zoneIncome nodeIncome hasLetter field income ofZone ofNode
-  income-over t = refl
+  income-over : (side : Side) (t : List ℕ) → sideIncome G side t ≡ over (ofSide side) t
+  unfolding sideIncome lineIncome zoneIncome nodeIncome hasLetter field ofSide ofZone ofNode
+  income-over Generation t = refl
+  income-over Demand t = refl
+
+-- how far a zone's total is from its tariff and its residual
+gap : Side → Line → ℕ
+gap side fs =
+    cond (sameName (getD fs 0 []) (letter side)) (natAbs (readWhole (getD fs 6 []) -ℤ (readWhole (getD fs 4 []) +ℤ readWhole (getD fs 5 [])))) 0
+
+no-gap : (side : Side) → gap side ([] ∷ []) ≡ 0
+unfolding gap sameName letter
+no-gap Generation = refl
+no-gap Demand = refl
 
 left : Side → Line → ℤ
 left side fs = cond (sameName (getD fs 0 []) (text "R")) (readWhole (getD fs (remainderField side) [])) (pos 0)
@@ -77,37 +90,86 @@ module _ (S : Study) (sound : SoundTables S) (runs : Runs) where
   nodeWorth : ℕ → ℤ
   nodeWorth v = localTariff G runs v *ℤ pos (payingTec G v)
 
-  full-zone : (side : Side) (z : ℕ) → income G (fullZone G runs side z) ≡ zoneWorth side z
-  unfolding income ofZone ofNode sameName letter zoneWorth
-  full-zone Generation z = rw (read-decimal (zoneTotal G runs Generation z), read-natural z) (simp Z (omega arith))
-  full-zone Demand z = rw (read-decimal (zoneTotal G runs Demand z), read-natural z) (simp Z (omega arith))
+  -- what the lines of a zone and of a node are worth to a side
+  zoneTo : (side s : Side) → ℕ → ℤ
+  zoneTo Generation Generation z = zoneWorth Generation z
+  zoneTo Generation Demand z = pos 0
+  zoneTo Demand Generation z = pos 0
+  zoneTo Demand Demand z = zoneWorth Demand z
 
-  empty-zone : (side : Side) (z : ℕ) → zoneWeight G side z ≡ 0 → income G (emptyZone G runs side z) ≡ zoneWorth side z
-  unfolding income ofZone ofNode sameName letter zoneWorth readWhole
-  empty-zone side z e = nought side ∙ sym (rw (none (zone-pays G side z)) (simp Z (omega arith)))
+  nodeTo : Side → ℕ → ℤ
+  nodeTo Generation v = nodeWorth v
+  nodeTo Demand v = pos 0
+
+  full-zone : (side s : Side) (z : ℕ) → ofSide G side (fullZone G runs s z) ≡ zoneTo side s z
+  unfolding ofSide ofZone ofNode sameName letter zoneWorth zoneTo
+  full-zone Generation Generation z = rw (read-decimal (zoneTotal G runs Generation z), read-natural z) (simp Z (omega arith))
+  full-zone Generation Demand z = refl
+  full-zone Demand Generation z = refl
+  full-zone Demand Demand z = rw (read-decimal (zoneTotal G runs Demand z), read-natural z) refl
+
+  empty-zone : (side s : Side) (z : ℕ) → zoneWeight G s z ≡ 0 → ofSide G side (emptyZone G runs s z) ≡ zoneTo side s z
+  unfolding ofSide ofZone ofNode sameName letter zoneWorth zoneTo readWhole
+  empty-zone side s z e = go side s (none (zone-pays G s z))
     where
-      none : zonePaying G side z ≤ zoneWeight G side z → zonePaying G side z ≡ 0
+      none : zonePaying G s z ≤ zoneWeight G s z → zonePaying G s z ≡ 0
       none h = omega arith
 
-      nought : (side : Side) → income G (emptyZone G runs side z) ≡ pos 0
-      nought Generation = simp Z (omega arith)
-      nought Demand = simp Z (omega arith)
+      go : (side s : Side) → zonePaying G s z ≡ 0 → ofSide G side (emptyZone G runs s z) ≡ zoneTo side s z
+      go Generation Generation h = rw h (simp Z (omega arith))
+      go Generation Demand h = refl
+      go Demand Generation h = refl
+      go Demand Demand h = rw h (simp Z (omega arith))
 
-  node-line : (v : ℕ) → v < length (S .nodes) → income G (nodeLine G runs v) ≡ nodeWorth v
-  unfolding income ofZone ofNode sameName letter nodeWorth gridOf
-  node-line v h =
-      rw (read-decimal (localTariff G runs v), name-back (sound .nodes v h .name), place-own S (rowwise sound) v h) (simp Z (omega arith))
+  node-line : (side : Side) (v : ℕ) → v < length (S .nodes) → ofSide G side (nodeLine G runs v) ≡ nodeTo side v
+  unfolding ofSide ofZone ofNode sameName letter nodeWorth nodeTo gridOf
+  node-line Generation v h =
+      rw (read-decimal (localTariff G runs v), name-back (sound .nodes v h .name), place-own S (rowwise S sound) v h) (simp Z (omega arith))
+  node-line Demand v h = refl
 
-  no-line : (v : ℕ) → nodeTec G v ≡ 0 → pos 0 ≡ nodeWorth v
-  unfolding nodeWorth
-  no-line v e = rw (none (node-pays G v)) (simp Z (omega arith))
+  no-line : (side : Side) (v : ℕ) → nodeTec G v ≡ 0 → pos 0 ≡ nodeTo side v
+  unfolding nodeWorth nodeTo
+  no-line Generation v e = rw (none (node-pays G v)) (simp Z (omega arith))
     where
       none : payingTec G v ≤ nodeTec G v → payingTec G v ≡ 0
       none h = omega arith
+  no-line Demand v e = refl
 
-  income-worth : Worth G runs (income G) zoneWorth nodeWorth (pos 0)
-  unfolding income ofZone ofNode sameName letter gridOf
-  income-worth = record { start = refl; empty = empty-zone; full = full-zone; silent = no-line; printed = node-line; last = refl }
+  income-worth : (side : Side) → Worth G runs (ofSide G side) (zoneTo side) (nodeTo side) (pos 0)
+  unfolding ofSide ofZone ofNode sameName letter gridOf
+  income-worth Generation =
+      record { start = refl; empty = empty-zone Generation; full = full-zone Generation; silent = no-line Generation; printed = node-line Generation; last = refl }
+  income-worth Demand =
+      record { start = refl; empty = empty-zone Demand; full = full-zone Demand; silent = no-line Demand; printed = node-line Demand; last = refl }
+
+  -- a zone's line has no gap
+  closed : (side : Side) (z : ℕ)
+      → natAbs (readWhole (decimal (zoneTotal G runs side z)) -ℤ (readWhole (decimal (zoneTariff G runs side z)) +ℤ readWhole (decimal (residual G runs side)))) ≡ 0
+  unfolding zoneTotal
+  closed side z =
+      rw (read-decimal (zoneTotal G runs side z), read-decimal (zoneTariff G runs side z), read-decimal (residual G runs side))
+      (zero-apart (zoneTariff G runs side z +ℤ residual G runs side))
+
+  empty-gap : (side s : Side) (z : ℕ) → gap side (emptyZone G runs s z) ≡ 0
+  unfolding gap sameName letter readWhole
+  empty-gap Generation Generation z = refl
+  empty-gap Generation Demand z = refl
+  empty-gap Demand Generation z = refl
+  empty-gap Demand Demand z = refl
+
+  full-gap : (side s : Side) (z : ℕ) → gap side (fullZone G runs s z) ≡ 0
+  unfolding gap sameName letter zoneTotal
+  full-gap Generation Generation z = closed Generation z
+  full-gap Generation Demand z = refl
+  full-gap Demand Generation z = refl
+  full-gap Demand Demand z = closed Demand z
+
+  gap-worth : (side : Side) → Worth G runs (λ fs. pos (gap side fs)) (λ s z. pos 0) (λ v. pos 0) (pos 0)
+  unfolding gap sameName letter readWhole gridOf
+  gap-worth Generation =
+      record { start = refl; empty = λ s z e. ap pos (empty-gap Generation s z); full = λ s z. ap pos (full-gap Generation s z); silent = λ v e. refl; printed = λ v h. refl; last = refl }
+  gap-worth Demand =
+      record { start = refl; empty = λ s z e. ap pos (empty-gap Demand s z); full = λ s z. ap pos (full-gap Demand s z); silent = λ v e. refl; printed = λ v h. refl; last = refl }
 
   last-line : (side : Side) → left side (lastLine G runs) ≡ remainder G runs side
   unfolding left sameName remainderField
@@ -130,19 +192,42 @@ module _ (S : Study) (sound : SoundTables S) (runs : Runs) where
   unfolding gridOf
   named v h = sound .nodes v h .name
 
-  pub income-read : printedIncome G (sheet G runs)
-      ≡ overZones G Generation (zoneTotal G runs Generation) +ℤ overZones G Demand (zoneTotal G runs Demand) +ℤ localIncome G runs Generation
-  unfolding overZones localIncome zoneWorth nodeWorth
-  income-read =
-      income-over G (sheet G runs)
-      ∙ adds-all (income G) (add-sheet G runs (income G) named zoneWorth nodeWorth (pos 0) income-worth) (no-income G)
-      ∙ simp Z (omega arith)
+  none : (n : ℕ) → Σ n (λ k. pos 0) ≡ pos 0
+  none n = Σ-none n _ (λ k h. refl)
+
+  pub income-read : (side : Side) → sideIncome G side (sheet G runs) ≡ overZones G side (zoneTotal G runs side) +ℤ localIncome G runs side
+  unfolding overZones localIncome zoneTo nodeTo zoneWorth nodeWorth
+  income-read side =
+      income-over G side (sheet G runs)
+      ∙ adds-all (ofSide G side) (add-sheet G runs (ofSide G side) named (zoneTo side) (nodeTo side) (pos 0) (income-worth side)) (no-income G side)
+      ∙ of side
+    where
+      of : (side : Side)
+          → pos 0 +ℤ (Σ (zones G Generation) (λ k. zoneTo side Generation (suc k))
+          +ℤ (Σ (zones G Demand) (λ k. zoneTo side Demand (suc k)) +ℤ (Σ (length (G .nodes)) (nodeTo side) +ℤ pos 0)))
+          ≡ overZones G side (zoneTotal G runs side) +ℤ localIncome G runs side
+      of Generation = rw (none (zones G Demand)) (simp Z (omega arith))
+      of Demand = rw (none (zones G Generation), none (length (G .nodes))) (simp Z (omega arith))
+
+  pub total-read : (side : Side) (k : ℕ) → hasLetter (letter side) (lineAt k (sheet G runs)) ≡ true
+      → readWhole (field 6 (lineAt k (sheet G runs))) ≡ readWhole (field 4 (lineAt k (sheet G runs))) +ℤ readWhole (field 5 (lineAt k (sheet G runs)))
+  unfolding hasLetter field gap pieces
+  total-read side k h = not-apart _ _ (open-gap (each-none (λ l. gap side (pieces 32 l)) nothing (pieces 10 (sheet G runs)) all-closed k))
+    where
+      all-closed : over (λ fs. pos (gap side fs)) (sheet G runs) ≡ pos 0
+      all-closed =
+          adds-all (λ fs. pos (gap side fs)) (add-sheet G runs (λ fs. pos (gap side fs)) named _ _ (pos 0) (gap-worth side)) (ap pos (no-gap side))
+          ∙ rw (none (zones G Generation), none (zones G Demand), none (length (G .nodes))) refl
+
+      nothing : gap side (pieces 32 []) ≡ 0
+      nothing = no-gap side
+
+      open-gap : gap side (pieces 32 (lineAt k (sheet G runs))) ≡ 0
+          → natAbs (readWhole (field 6 (lineAt k (sheet G runs))) -ℤ (readWhole (field 4 (lineAt k (sheet G runs))) +ℤ readWhole (field 5 (lineAt k (sheet G runs))))) ≡ 0
+      open-gap e = rw h at e
 
   pub remainder-read : (side : Side) → printedRemainder side (sheet G runs) ≡ remainder G runs side
   remainder-read side =
       left-over side (sheet G runs)
       ∙ adds-all (left side) (add-sheet G runs (left side) named _ _ (remainder G runs side) (left-worth side)) (no-remainder side)
       ∙ rw (none (zones G Generation), none (zones G Demand), none (length (G .nodes))) (simp Z (omega arith))
-    where
-      none : (n : ℕ) → Σ n (λ k. pos 0) ≡ pos 0
-      none n = Σ-none n _ (λ k h. refl)

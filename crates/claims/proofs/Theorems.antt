@@ -1,10 +1,11 @@
 -- The user's demands, proved: each statement is a type of meaning/specs/Demands.antt, and its proof is in the file named here.
-use Rattle.meaning.specs.Demands.{EveryInputSettled, AcceptedExactlyWhen, RevenueRecovered, SolversAgree, StationsHidden, SheetsFit}
+use Rattle.meaning.specs.Demands.{EveryInputSettled, AcceptedExactlyWhen, RefusedExactlyWhen, OneAnswer, JudgeIsWrite, RevenueRecovered, SolversAgree, StationsHidden, CapacityKept, SheetsFit}
 use Rattle.sizes.proofs.Accepted as Sizes
 use Rattle.claims.proofs.Accepted
 use Rattle.claims.proofs.Recovered
 use Rattle.claims.proofs.Agree
 use Rattle.claims.proofs.Hidden
+use Rattle.claims.proofs.Stations
 
 -- demand 1: any bytes, runs and buffer give the sheet, or a refusal of 01's table with the buffer untouched
 pub every-input-settled : EveryInputSettled
@@ -13,6 +14,18 @@ every-input-settled = Accepted.every-input-settled
 -- demand 2: accepted exactly when 1 to 11 do not hold, in a person's words, and the sheet fits
 pub accepted-exactly-when : AcceptedExactlyWhen
 accepted-exactly-when = Accepted.accepted-exactly-when
+
+-- demands 1 and 2: and refused with this number, system and row exactly when 01's order stops the case there, in a person's words
+pub refused-exactly-when : RefusedExactlyWhen
+refused-exactly-when = Accepted.refused-exactly-when
+
+-- accepted, or stopped by exactly one refusal
+pub one-answer : OneAnswer
+one-answer = Accepted.one-answer
+
+-- what judges without a buffer answers what writes with room enough
+pub judge-is-write : JudgeIsWrite
+judge-is-write = Hidden.judge-is-write
 
 -- demand 2: read back from its bytes, the sheet of an accepted case brings in the allowed revenue, less two printed remainders
 pub revenue-recovered : RevenueRecovered
@@ -25,6 +38,10 @@ solvers-agree = Agree.solvers-agree
 -- demand 3: how a node's capacity is divided among stations is not seen, in a refusal neither
 pub stations-hidden : StationsHidden
 stations-hidden = Hidden.stations-hidden
+
+-- demand 3: and a station divided in two, or listed elsewhere, leaves every capacity as it was
+pub capacity-kept : CapacityKept
+capacity-kept = Stations.capacity-kept
 
 -- "Its own buffer holds any sheet these ranges allow, so it never prints 12."
 pub sheets-fit : SheetsFit

@@ -100,7 +100,7 @@ pub fn remainder_line(generation: i64, demand: i64) -> Line
     with_byte(l2, b'\n')
 }
 
-// The line of a refusal.
+// `refused` with any number, system and row, whether or not a refusal carries them: that they are a refusal's is what `text::refuse` promises.
 pub fn refused_line(v: Values) -> Line
     ensures { λ r. ⌜ Holds 71 (refusedText (v .number) (v .system) (v .row)) r ⌝ }
 {

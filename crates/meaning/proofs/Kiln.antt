@@ -9,8 +9,9 @@ use Rattle.meaning.specs.Text.{text}
 use Rattle.meaning.specs.Study.{Settings, Node, Circuit, Station, Study, Runs}
 use Rattle.meaning.specs.File.{studyOf}
 use Rattle.meaning.specs.declared.System.the-variants.{Wider}
-use Rattle.meaning.specs.declared.Answer.the-variants.{Accepted, BadNumber, ShortBuffer}
-use Rattle.meaning.specs.Answers.{passed}
+use Rattle.meaning.specs.declared.Refusal.the-variants.{BadNumber, ShortBuffer}
+use Rattle.meaning.specs.declared.Judgement.the-variants.{Passes, Stops}
+use Rattle.meaning.specs.declared.Answer.the-variants.{Accepted, Refused}
 use Rattle.meaning.specs.Outcome.{judged, prints, Settled, settle}
 use Rattle.meaning.specs.declared.Side.the-variants.{Generation, Demand}
 use Rattle.meaning.specs.Grid.{gridOf}
@@ -94,7 +95,7 @@ pub kiln-prints : prints kiln ≡ kilnSheet
 unfolding opened
 kiln-prints = refl
 
-pub kiln-judged : judged kiln kilnRuns ≡ passed
+pub kiln-judged : judged kiln kilnRuns ≡ Passes
 unfolding opened
 kiln-judged = refl
 
@@ -113,12 +114,12 @@ unfolding opened
 kiln-remainders = (refl, refl)
 
 -- 8: the reference's potential is 1 in the wider run
-ground : judged kiln (record { base = kilnBase; wider = set kilnWider 2 (pos 1); local = kilnLocal }) ≡ BadNumber Wider 3
+ground : judged kiln (record { base = kilnBase; wider = set kilnWider 2 (pos 1); local = kilnLocal }) ≡ Stops (BadNumber Wider 3)
 unfolding opened
 ground = refl
 
 -- 12: a buffer one byte short is refused and stays as it was; an exact fit is written
-shortened : settle kiln kilnRuns (replicate 116 7) ≡ record { answer = ShortBuffer; buffer = replicate 116 7 }
+shortened : settle kiln kilnRuns (replicate 116 7) ≡ record { answer = Refused ShortBuffer; buffer = replicate 116 7 }
 unfolding opened
 shortened = refl
 

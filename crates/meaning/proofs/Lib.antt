@@ -4,10 +4,17 @@ pub mod Columns
 pub mod First
 pub mod Says
 pub mod Answers
+pub mod Table
+pub mod Kept
+pub mod Order
 pub mod Walk
 pub mod Shares
 pub mod Starts
 pub mod Tables
+-- the stages judge the conditions of 01's order
+pub mod Whole
+pub mod Proposals
+pub mod Judged
 -- the definitions computed: the starred rows, case KILN and its damaged forms
 pub mod Write
 pub mod Opened

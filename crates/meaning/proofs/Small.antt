@@ -1,13 +1,21 @@
--- Two small cases on the edges of 01's bands and sums: PAIR, two nodes and a circuit, and ALONE, one node.
+-- Two small cases on the edges of 01's bands, sums, lengths and ranges: PAIR, two nodes and a circuit, and ALONE, one node.
 use mathlib.Core.Path.{_≡_, refl}
 use mathlib.Core.List.{List, [], _∷_}
 use Prim.Native.Nat.{ℕ, _+_, _*_}
-use lib.IntN.{ℤ, pos}
+use Prim.Native.String.{String}
+use lib.IntN.{ℤ, pos, negℤ}
 use lib.ListN.{replicate}
 use Rattle.meaning.specs.Text.{text}
-use Rattle.meaning.specs.Study.{Settings, Study, Runs}
-use Rattle.meaning.specs.declared.System.the-variants.{Base}
-use Rattle.meaning.specs.declared.Answer.the-variants.{MissesTooHigh, DirectionInDoubt}
+use Rattle.meaning.specs.Study.{Circuit, Study, Runs}
+use Rattle.meaning.specs.declared.System.{System}
+use Rattle.meaning.specs.declared.System.the-variants.{Base, Wider, Local}
+use Rattle.meaning.specs.declared.Refusal.the-variants.{BadNumber, MissesTooHigh, DirectionInDoubt}
+use Rattle.meaning.specs.declared.Judgement.{Judgement}
+use Rattle.meaning.specs.declared.Judgement.the-variants.{Passes, Stops}
+use Rattle.meaning.specs.Grid.{gridOf}
+use Rattle.meaning.specs.Network.{networkOf}
+use Rattle.meaning.specs.Proposal.{rangeStage}
+use Rattle.meaning.specs.Systems.{lengthOf, proposed}
 use Rattle.meaning.specs.Outcome.{Settled, settle, written, refused}
 use Rattle.meaning.proofs.Write.{name, fileOf}
 use Rattle.meaning.proofs.Opened.{opened}
@@ -21,8 +29,8 @@ abbrev settled : Study → Runs → Settled
 settled S runs = settle (fileOf S runs) runs before
 
 -- ---- PAIR: two nodes, one circuit of 10 m and x 1, k kW from A to B; the base misses by m
-abbrev pairStudy : (k mark : ℕ) → Study
-pairStudy k mark =
+abbrev pairOf : (k : ℕ) → Circuit → Study
+pairOf k circuit =
     record {
       settings = record {
         generationZones = 2;
@@ -32,18 +40,21 @@ pairStudy k mark =
         widerFactor = 1800;
         localFactor = 1000;
         overhead400 = 1000;
-        cable400 = 1000;
-        overhead275 = 1000;
-        cable275 = 1000;
-        overhead132 = 1000;
-        cable132 = 1000;
+        cable400 = 2000;
+        overhead275 = 3000;
+        cable275 = 4000;
+        overhead132 = 5000;
+        cable132 = 7000;
         reference = 2;
         revenue = 1;
       };
       nodes = nodeOf "A" 0 ∷ nodeOf "B" k ∷ [];
-      circuits = record { first = name "A"; second = name "B"; voltage = 400; x = 1; overhead = 10; cable = 0; localMark = mark } ∷ [];
+      circuits = circuit ∷ [];
       stations = stationOf "S" "A" k ∷ [];
     }
+
+abbrev pairStudy : (k mark : ℕ) → Study
+pairStudy k mark = pairOf k (record { first = name "A"; second = name "B"; voltage = 400; x = 1; overhead = 10; cable = 0; localMark = mark })
 
 abbrev pair : (k m : ℕ) → (potential : ℤ) → Settled
 pair k m potential =
@@ -72,6 +83,15 @@ doubt₄₀₀ : pair 400 0 (pos 0) ≡ refused (DirectionInDoubt 1) before
 unfolding opened
 doubt₄₀₀ = refl
 
+-- 11 after 10 of the base, and before 8 of the wider system
+missed-first : pair 201 100000001 (pos 10000000000000001) ≡ refused (MissesTooHigh Base) before
+unfolding opened
+missed-first = refl
+
+doubt-first : pair 201 0 (pos 10000000000000001) ≡ refused (DirectionInDoubt 1) before
+unfolding opened
+doubt-first = refl
+
 directed : pair 401 0 (pos 10000000000) ≡ written (text "C -3\nG 1 10 7 127 1693 1820\nG 2 -\nD 1 0 3 54 619 673\nL A 0 0\nR 180 127\n") before
 unfolding opened
 directed = refl
@@ -87,6 +107,40 @@ local-mark : settled (pairStudy 401 1)
     ≡ written (text "C 0\nG 1 0 0 0 1719 1719\nG 2 -\nD 1 0 0 0 673 673\nL A 10 101\nR 180 127\n") before
 unfolding opened
 local-mark = refl
+
+-- 4: lengths by voltage, and the sign of a flow that runs backward: 1 m overhead and 10 m of cable, from A to B and from B to A
+abbrev lengthAt : (voltage : ℕ) → (first second : String) → (flow : ℤ) → ℤ
+lengthAt voltage first second z =
+    let S = pairOf 401 (record { first = name first; second = name second; voltage = voltage; x = 1; overhead = 1; cable = 10; localMark = 0 }) in
+    lengthOf (gridOf S) (record { base = pos 401000000 ∷ pos 0 ∷ z ∷ []; wider = []; local = [] }) 0
+
+lengths : lengthAt 400 "A" "B" (pos 401000000) ∷ lengthAt 275 "A" "B" (pos 401000000) ∷ lengthAt 132 "A" "B" (pos 401000000) ∷ []
+    ≡ pos 21000000000 ∷ pos 43000000000 ∷ pos 75000000000 ∷ []
+unfolding opened
+lengths = refl
+
+backward : lengthAt 275 "B" "A" (negℤ (pos 401000000)) ≡ negℤ (pos 43000000000)
+unfolding opened
+backward = refl
+
+-- 8: potentials up to 2 x 10^18 in the base system, up to 10^16 in the others, flows up to 10^14: 10 is judged after them; one more, on either side, is 8
+abbrev numbers : System → (potential flow : ℤ) → Judgement
+numbers system potential flow =
+    let run : List ℤ = potential ∷ pos 0 ∷ flow ∷ [] in
+    rangeStage (networkOf (gridOf (pairStudy 200 0))) (proposed (gridOf (pairStudy 200 0)) (record { base = run; wider = run; local = run }) system)
+
+at-limits : numbers Base (pos 2000000000000000000) (negℤ (pos 100000000000000))
+    ∷ numbers Wider (negℤ (pos 10000000000000000)) (pos 100000000000000)
+    ∷ numbers Local (pos 10000000000000000) (pos 0)
+    ∷ []
+    ≡ Passes ∷ Passes ∷ Passes ∷ []
+unfolding opened
+at-limits = refl
+
+past-limits : numbers Base (negℤ (pos 2000000000000000001)) (pos 0) ∷ numbers Wider (pos 10000000000000001) (pos 0) ∷ numbers Local (pos 0) (negℤ (pos 100000000000001)) ∷ []
+    ≡ Stops (BadNumber Base 1) ∷ Stops (BadNumber Wider 1) ∷ Stops (BadNumber Local 3) ∷ []
+unfolding opened
+past-limits = refl
 
 -- ---- ALONE: "One node and no circuits may pass."
 abbrev aloneStudy : Study

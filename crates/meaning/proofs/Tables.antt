@@ -2,26 +2,27 @@
 use mathlib.Core.Path.{_≡_, refl, sym, _∙_, ap}
 use mathlib.Core.Logic.{_⊎_, inl, inr, _↔_, _≢_}
 use mathlib.Core.List.{List}
-use mathlib.Core.Option.{Option, none, some, Option·getD}
-use mathlib.Core.Bool.{Bool, true, false, not, cond, true≢false}
-use Prim.Native.Nat.{ℕ, suc, _-_, _≤_, _<_}
+use mathlib.Core.Option.{Option, Option·getD}
+use mathlib.Core.Bool.{Bool, true, false, not, true≢false}
+use Prim.Native.Nat.{ℕ, _-_, _≤_, _<_}
 use native.Mathlib.Omega.{arith}
 use lib.Dec.{ltb}
 use lib.ListN.{length}
 use borrow.Author.Tests.{lt-ltb, le-ltb}
-use Rattle.meaning.specs.Rows.{lowest, found, failing}
+use Rattle.meaning.specs.Rows.{found}
 use Rattle.meaning.specs.Name.{Name, sameName}
-use Rattle.meaning.specs.Study.{Settings, Node, Circuit, Station, Study, node, circuit, station}
-use Rattle.meaning.specs.declared.Answer.{Answer}
-use Rattle.meaning.specs.Answers.{values, refusal, stops, unless, at}
+use Rattle.meaning.specs.Study.{Settings, Node, Study, node, circuit, station}
+use Rattle.meaning.specs.declared.Refusal.the-variants.{BadSetting, BadNode, BadCircuit, BadStation, Unreached, BadTotal}
+use Rattle.meaning.specs.declared.Judgement.the-variants.{Passes}
 use Rattle.meaning.specs.Tables.{seenEarlier, known, soundScales, soundSettings, soundNodeRow, soundCircuitRow, soundStationRow, soundNode, soundCircuit, soundStation, settingsStage, nodesStage, circuitsStage, stationsStage}
 use Rattle.meaning.specs.Grid.{gridOf, place, soundTotals, totalsStage, totalDemand, totalTec}
-use Rattle.meaning.specs.Network.{Network, networkOf, Reached, marked, reachedNodes, reachStage}
+use Rattle.meaning.specs.Network.{networkOf, reachStage}
 use Rattle.meaning.specs.Outcome.{rowsStage, gridStage}
 use Rattle.meaning.specs.Conditions.{InRange, Known, SoundSettings, SoundNode, SoundCircuit, SoundStation, SoundTables}
+use Rattle.meaning.specs.Refusals.{AllMet, rowsOrder, gridOrder}
 use Rattle.meaning.proofs.Rows.{Lowest, nothing, first, lowest-is, lowest-stops}
 use Rattle.meaning.proofs.Walk.{Placed, reached-is}
-use Rattle.meaning.proofs.Answers.{Passes, passes-orElse, passes-unless, passes-rows}
+use Rattle.meaning.proofs.Order.{Judges, _before_, judges-whole, judges-rows}
 use Rattle.meaning.proofs.Says.{Says, says-as, _also_, _either_, says-not, says-le, says-eq, says-between, says-any, says-name, says-wellFormed}
 
 -- ---- settings, and each row
@@ -86,43 +87,25 @@ module _ (S : Study) where
     pub circuits : (i : ℕ) → i < length (S .circuits) → SoundCircuit S i
     pub stations : (i : ℕ) → i < length (S .stations) → SoundStation S i
 
-  settings-pass : Passes (settingsStage S) ↔ SoundSettings (length (S .nodes)) (S .settings)
-  unfolding settingsStage stops values refusal
-  settings-pass =
-      let u = passes-unless (soundSettings (length (S .nodes)) (S .settings)) _ refl in
-      let k = says-settings (length (S .nodes)) (S .settings) in
-      (λ p. k .0 (u .0 p), λ h. u .1 (k .1 h))
+  pub rowwise : SoundTables S → Rowwise
+  rowwise s = record { settings = s .settings; nodes = s .nodes; circuits = s .circuits; stations = s .stations }
 
-  nodes-pass : Passes (nodesStage S) ↔ ((i : ℕ) → i < length (S .nodes) → SoundNode S i)
-  unfolding nodesStage stops values refusal
-  nodes-pass = passes-rows _ _ (λ i. refl) says-node
+  pub judge-rows : Judges (rowsStage S) (rowsOrder S)
+  unfolding rowsStage settingsStage nodesStage circuitsStage stationsStage
+  judge-rows =
+      judges-whole BadSetting (says-settings (length (S .nodes)) (S .settings))
+      before λ _. judges-rows (length (S .nodes)) BadNode says-node
+      before λ _. judges-rows (length (S .circuits)) BadCircuit says-circuit
+      before λ _. judges-rows (length (S .stations)) BadStation says-station
 
-  circuits-pass : Passes (circuitsStage S) ↔ ((i : ℕ) → i < length (S .circuits) → SoundCircuit S i)
-  unfolding circuitsStage stops values refusal
-  circuits-pass = passes-rows _ _ (λ i. refl) says-circuit
-
-  stations-pass : Passes (stationsStage S) ↔ ((i : ℕ) → i < length (S .stations) → SoundStation S i)
-  unfolding stationsStage stops values refusal
-  stations-pass = passes-rows _ _ (λ i. refl) says-station
-
-  pub rows-pass : Passes (rowsStage S) ↔ Rowwise
-  unfolding rowsStage
-  rows-pass = (
-    λ e.
-        let a = passes-orElse _ _ .0 e in
-        let b = passes-orElse _ _ .0 (a .1) in
-        let c = passes-orElse _ _ .0 (b .1) in
-        record {
-          settings = settings-pass .0 (a .0);
-          nodes = nodes-pass .0 (b .0);
-          circuits = circuits-pass .0 (c .0);
-          stations = stations-pass .0 (c .1);
-        },
-    λ r. passes-orElse _ _ .1 (
-      settings-pass .1 (r .settings),
-      passes-orElse _ _ .1 (nodes-pass .1 (r .nodes), passes-orElse _ _ .1 (circuits-pass .1 (r .circuits), stations-pass .1 (r .stations))),
-    ),
+  pub rowwise-met : AllMet (rowsOrder S) ↔ Rowwise
+  rowwise-met = (
+    λ m. record { settings = m .0; nodes = m .1 .0; circuits = m .1 .1 .0; stations = m .1 .1 .1 .0 },
+    λ r. (r .settings, (r .nodes, (r .circuits, (r .stations, tt)))),
   )
+
+  pub rows-pass : (rowsStage S ≡ Passes) ↔ Rowwise
+  rows-pass = (λ e. rowwise-met .0 (judge-rows .passes .0 e), λ r. judge-rows .passes .1 (rowwise-met .1 r))
 
   -- ---- 6
   -- a known name has a place
@@ -174,39 +157,36 @@ place-name S name k = go (lowest-is (λ v. sameName (node (S .nodes) v .name) na
         absurd (true≢false (sym (says-name (node (S .nodes) (k .place) .name) name .1 (k .named)) ∙ h (k .place) (k .isNode)))
     go (first i h t f) = says-name (node (S .nodes) i .name) name .0 t
 
-pub reach-pass : (N : Network) → Placed N → Passes (reachStage N) ↔ ((v : ℕ) → v < N .nodes → Reached N v)
-unfolding reachStage stops values refusal
-reach-pass N p = passes-rows _ _ (λ i. refl) (reached-is N p)
-
 -- ---- 7, of two totals
 pub says-totals : (demand tec : ℕ) → Says (soundTotals demand tec) ((InRange demand 1 100000000 × InRange tec 1 100000000) × (demand ≤ tec))
 unfolding soundTotals
 says-totals demand tec = says-between also says-between also says-le
 
+-- ---- 6 and 7
+pub judge-grid : (S : Study) → Rowwise S → Judges (gridStage (gridOf S)) (gridOrder (gridOf S))
+unfolding gridStage reachStage totalsStage networkOf gridOf
+judge-grid S r =
+    judges-rows (length (S .nodes)) Unreached (reached-is (networkOf (gridOf S)) (placed S r))
+    before λ _. judges-whole BadTotal
+    (says-as (says-totals (totalDemand (gridOf S)) (totalTec (gridOf S)))
+    (λ t. record { demandTotal = t .0 .0; tecTotal = t .0 .1; enough = t .1 }, λ t. ((t .demandTotal, t .tecTotal), t .enough)))
+
 -- ---- 2 to 7
-pub sound-pass : (S : Study) → (Passes (rowsStage S) × Passes (gridStage (gridOf S))) ↔ SoundTables S
-unfolding gridStage totalsStage networkOf gridOf stops values refusal
+pub sound-met : (S : Study) → AllMet (rowsOrder S) × AllMet (gridOrder (gridOf S)) ↔ SoundTables S
+unfolding gridOf
+sound-met S = (
+  λ m.
+      let r = rowwise-met S .0 (m .0) in
+      record { settings = r .settings; nodes = r .nodes; circuits = r .circuits; stations = r .stations; reached = m .1 .0; totals = m .1 .1 .0 },
+  λ s. (rowwise-met S .1 (rowwise S s), (s .reached, (s .totals, tt))),
+)
+
+pub sound-pass : (S : Study) → ((rowsStage S ≡ Passes) × (gridStage (gridOf S) ≡ Passes)) ↔ SoundTables S
 sound-pass S = (
   λ t.
-      let r = rows-pass S .0 (t .0) in
-      let g = passes-orElse _ _ .0 (t .1) in
-      let u = says-totals _ _ .0 (passes-unless _ _ refl .0 (g .1)) in
-      record {
-        settings = r .settings;
-        nodes = r .nodes;
-        circuits = r .circuits;
-        stations = r .stations;
-        reached = reach-pass (networkOf (gridOf S)) (placed S r) .0 (g .0);
-        demandTotal = u .0 .0;
-        tecTotal = u .0 .1;
-        enough = u .1;
-      },
+      let m = judge-rows S .passes .0 (t .0) in
+      sound-met S .0 (m, judge-grid S (rowwise-met S .0 m) .passes .0 (t .1)),
   λ s.
-      let r : Rowwise S = record { settings = s .settings; nodes = s .nodes; circuits = s .circuits; stations = s .stations } in (
-        rows-pass S .1 r,
-        passes-orElse _ _ .1 (
-          reach-pass (networkOf (gridOf S)) (placed S r) .1 (s .reached),
-          passes-unless _ _ refl .1 (says-totals _ _ .1 ((s .demandTotal, s .tecTotal), s .enough)),
-        ),
-      ),
+      let m = sound-met S .1 s in
+      (judge-rows S .passes .1 (m .0), judge-grid S (rowwise S s) .passes .1 (m .1)),
 )

@@ -6,7 +6,7 @@ use Prim.Native.Nat.{ℕ, _+_, _≤_, _<_}
 use lib.IntN.{ℤ, pos, natAbs, _-ℤ_}
 use lib.ListN.{length, getD}
 use Rattle.meaning.specs.Name.{Name}
-use Rattle.meaning.specs.Study.{Settings, Node, Circuit, Station, Study, Runs, node, circuit, station}
+use Rattle.meaning.specs.Study.{Settings, Circuit, Study, Runs, node, circuit, station}
 use Rattle.meaning.specs.File.{u32, trailer, sectionOffset, sectionCount, sectionStart, studyOf}
 use Rattle.meaning.specs.declared.System.{System}
 use Rattle.meaning.specs.Grid.{Grid, gridOf, totalDemand, totalTec}
@@ -100,6 +100,12 @@ pub record SoundStation (S : Study) (i : ℕ) : Type 0 where
   pub tec : station (S .stations) i .tec ≤ 20000000
   pub new : (j : ℕ) → j < i → station (S .stations) j .identifier ≢ station (S .stations) i .identifier
 
+-- not 7
+pub record SoundTotals (G : Grid) : Type 0 where
+  pub demandTotal : InRange (totalDemand G) 1 100000000
+  pub tecTotal : InRange (totalTec G) 1 100000000
+  pub enough : totalDemand G ≤ totalTec G
+
 -- "Tables are sound when none of 1 to 7 holds": 2 to 7 of a whole file's study
 pub record SoundTables (S : Study) : Type 0 where
   pub settings : SoundSettings (length (S .nodes)) (S .settings)
@@ -107,9 +113,7 @@ pub record SoundTables (S : Study) : Type 0 where
   pub circuits : (i : ℕ) → i < length (S .circuits) → SoundCircuit S i
   pub stations : (i : ℕ) → i < length (S .stations) → SoundStation S i
   pub reached : (v : ℕ) → v < length (S .nodes) → Reached (networkOf (gridOf S)) v
-  pub demandTotal : InRange (totalDemand (gridOf S)) 1 100000000
-  pub tecTotal : InRange (totalTec (gridOf S)) 1 100000000
-  pub enough : totalDemand (gridOf S) ≤ totalTec (gridOf S)
+  pub totals : SoundTotals (gridOf S)
 
 -- step 2, for any network, supply and offset, potentials and flows, and a bound on the sum of misses
 pub record Solves (N : Network) (bound : ℕ) (supply offset potential flow : ℕ → ℤ) : Type 0 where
@@ -127,9 +131,13 @@ pub record SolvesSystem (N : Network) (P : Proposed) : Type 0 where
 abbrev pub HasLength : Circuit → Type 0
 HasLength c = 1 ≤ c.overhead + c.cable
 
+-- not 11 at circuit c
+abbrev pub Clear : Grid → Runs → ℕ → Type 0
+Clear G runs c = HasLength (circuit (G .circuits) c) → direction (baseFlow G runs c) ≢ InDoubt
+
 -- not 11
 pub record NoDoubt (G : Grid) (runs : Runs) : Type 0 where
-  pub clear : (c : ℕ) → c < length (G .circuits) → HasLength (circuit (G .circuits) c) → direction (baseFlow G runs c) ≢ InDoubt
+  pub clear : (c : ℕ) → c < length (G .circuits) → Clear G runs c
 
 -- not 1 to 11
 pub record Acceptable (file : List ℕ) (runs : Runs) : Type 0 where

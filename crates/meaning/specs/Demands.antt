@@ -1,28 +1,31 @@
 -- The user's three demands, as statements over the definitions. Each is a type; its proof is a theorem of the crate `claims`.
 use mathlib.Core.Path.{_≡_}
 use mathlib.Core.Logic.{_↔_, _⊎_}
-use mathlib.Core.Bool.{true, false}
-use mathlib.Core.List.{List}
-use Prim.Native.Nat.{ℕ, _+_, _*_, _≤_, _<_}
+use mathlib.Core.Bool.{true}
+use mathlib.Core.List.{List, _∷_}
+use Prim.Native.Nat.{ℕ, _+_, _*_, _-_, _≤_, _<_}
 use lib.IntN.{ℤ, pos, natAbs, _+ℤ_, _-ℤ_}
 use lib.Signed.{_≤ℤ_, _<ℤ_}
 use lib.ListN.{length}
-use Rattle.meaning.specs.Study.{Study, Runs, circuit}
-use Rattle.meaning.specs.File.{studyOf, runsIn}
+use Rattle.meaning.specs.Study.{Station, Study, Runs, circuit}
+use Rattle.meaning.specs.File.{studyOf}
 use Rattle.meaning.specs.declared.Side.{Side}
 use Rattle.meaning.specs.declared.Side.the-variants.{Generation, Demand}
 use Rattle.meaning.specs.declared.System.{System}
 use Rattle.meaning.specs.declared.Values.{Values}
-use Rattle.meaning.specs.declared.Answer.{Answer}
-use Rattle.meaning.specs.Answers.{values, refusal, stops}
+use Rattle.meaning.specs.declared.Refusal.{Refusal}
+use Rattle.meaning.specs.declared.Answer.the-variants.{Refused}
+use Rattle.meaning.specs.Answers.{values, refusal}
 use Rattle.meaning.specs.Grid.{Grid, gridOf, capacityOf}
 use Rattle.meaning.specs.Direction.{direction}
 use Rattle.meaning.specs.Proposal.{potential}
 use Rattle.meaning.specs.Systems.{baseFlow, runOf}
 use Rattle.meaning.specs.Figures.{widerMetres, localMetres, totalPaying}
-use Rattle.meaning.specs.Outcome.{fileStage, runsStage, rowsStage, judged, sheetOf, Settled, refused, written, settle}
-use Rattle.meaning.specs.Read.{printedIncome, printedRemainder}
-use Rattle.meaning.specs.Conditions.{Acceptable, InRange, HasLength}
+use Rattle.meaning.specs.Outcome.{sheetOf, answerOf, refused, written, settle}
+use Rattle.meaning.specs.Read.{field, readWhole, hasLetter, lineAt, sideIncome, printedIncome, printedRemainder}
+use Rattle.meaning.specs.Sheet.{letter}
+use Rattle.meaning.specs.Conditions.{Acceptable, InRange, HasLength, WholeFile}
+use Rattle.meaning.specs.Refusals.{AllMet, rowsOrder, Stopped}
 
 -- ---- demand 1
 -- 01's table of what stops a case, for a study of n nodes, m circuits and k stations
@@ -40,8 +43,8 @@ pub data Listed (n m k : ℕ) : Values → Type 0 where
   inDoubt : (row : ℕ) → InRange row 1 m → Listed n m k (refusal 11 1 row)
   shortBuffer : Listed n m k (refusal 12 0 0)
 
-abbrev pub ListedFor : Study → Answer → Type 0
-ListedFor S a = Listed (length (S .nodes)) (length (S .circuits)) (length (S .stations)) (values a)
+abbrev pub ListedFor : Study → Refusal → Type 0
+ListedFor S r = Listed (length (S .nodes)) (length (S .circuits)) (length (S .stations)) (values (Refused r))
 
 -- accepted: the answer is the sheet's length, and the buffer starts with the sheet; bytes behind it are untouched
 abbrev pub IsWritten : List ℕ → Runs → List ℕ → Type 0
@@ -49,29 +52,62 @@ IsWritten file runs buffer = settle file runs buffer ≡ written (sheetOf file r
 
 -- refused: number, system and row are a row of the table, the length is 0, and the buffer is as it was
 pub record IsRefused (file : List ℕ) (runs : Runs) (before : List ℕ) : Type 0 where
-  pub answer : Answer
-  pub listed : ListedFor (studyOf file) answer
-  pub settled : settle file runs before ≡ refused answer before
+  pub cause : Refusal
+  pub listed : ListedFor (studyOf file) cause
+  pub settled : settle file runs before ≡ refused cause before
 
 -- "every entry refuses bad input itself": of any bytes, runs and buffer, it is the one or the other
 abbrev pub EveryInputSettled : Type 0
 EveryInputSettled = (file : List ℕ) (runs : Runs) (buffer : List ℕ) → IsWritten file runs buffer ⊎ IsRefused file runs buffer
 
 -- ---- demand 2, first half
--- "accepted exactly when": 1 to 11 do not hold, as the conditions say it, and the sheet fits; and else refused
+-- 1 to 11 do not hold, as the conditions say it, "and the sheet fits the buffer"
+abbrev pub Accepting : List ℕ → Runs → List ℕ → Type 0
+Accepting file runs buffer = Acceptable file runs × (length (sheetOf file runs) ≤ length buffer)
+
+-- "accepted exactly when", and else refused
 pub record ExactlyWhen (file : List ℕ) (runs : Runs) (buffer : List ℕ) : Type 0 where
-  pub accepted : IsWritten file runs buffer ↔ Acceptable file runs × (length (sheetOf file runs) ≤ length buffer)
-  pub otherwise : (Acceptable file runs × (length (sheetOf file runs) ≤ length buffer) → ⊥) → IsRefused file runs buffer
+  pub accepted : IsWritten file runs buffer ↔ Accepting file runs buffer
+  pub otherwise : (Accepting file runs buffer → ⊥) → IsRefused file runs buffer
 
 abbrev pub AcceptedExactlyWhen : Type 0
 AcceptedExactlyWhen = (file : List ℕ) (runs : Runs) (buffer : List ℕ) → ExactlyWhen file runs buffer
 
+-- ---- demands 1 and 2: which refusal
+-- "refused exactly when": this refusal is the answer exactly when 01's order stops the case there; the buffer is then as it was
+pub record RefusedWhen (file : List ℕ) (runs : Runs) (buffer : List ℕ) (r : Refusal) : Type 0 where
+  pub exactly : (settle file runs buffer .answer ≡ Refused r) ↔ Stopped file runs buffer r
+  pub untouched : Stopped file runs buffer r → settle file runs buffer ≡ refused r buffer
+
+abbrev pub RefusedExactlyWhen : Type 0
+RefusedExactlyWhen = (file : List ℕ) (runs : Runs) (buffer : List ℕ) (r : Refusal) → RefusedWhen file runs buffer r
+
+-- so it is accepted, or stopped by one refusal, and never both
+pub record OneOf (file : List ℕ) (runs : Runs) (buffer : List ℕ) : Type 0 where
+  pub either : Accepting file runs buffer ⊎ ((r : Refusal) × Stopped file runs buffer r)
+  pub notBoth : Accepting file runs buffer → (r : Refusal) → Stopped file runs buffer r → ⊥
+  pub onlyOne : (q r : Refusal) → Stopped file runs buffer q → Stopped file runs buffer r → q ≡ r
+
+abbrev pub OneAnswer : Type 0
+OneAnswer = (file : List ℕ) (runs : Runs) (buffer : List ℕ) → OneOf file runs buffer
+
+-- and an entry that lends no buffer answers what this one answers with room enough, the sheet's length included
+abbrev pub JudgeIsWrite : Type 0
+JudgeIsWrite = (file : List ℕ) (runs : Runs) (buffer : List ℕ) → length (sheetOf file runs) ≤ length buffer → settle file runs buffer .answer ≡ answerOf file runs
+
 -- ---- demand 2, second half: over what is printed
+-- step 10: each side its target, in micro-pounds, less its remainder; and so both together the revenue
 pub record Recovered (G : Grid) (sheet : List ℕ) : Type 0 where
+  pub generation : sideIncome G Generation sheet +ℤ printedRemainder Generation sheet
+      ≡ pos (G .settings .revenue * (1000 - G .settings .p) * 1000)
+  pub demand : sideIncome G Demand sheet +ℤ printedRemainder Demand sheet ≡ pos (G .settings .revenue * G .settings .p * 1000)
   pub all : printedIncome G sheet +ℤ printedRemainder Generation sheet +ℤ printedRemainder Demand sheet
       ≡ pos (G .settings .revenue * 1000000)
   pub notNegative : (side : Side) → pos 0 ≤ℤ printedRemainder side sheet
   pub small : (side : Side) → printedRemainder side sheet <ℤ pos (totalPaying G side)
+  -- fields of a zone's line from 0: tariff 4, residual 5, total 6; a line with `-` has none, and reads as 0
+  pub totals : (side : Side) (k : ℕ) → hasLetter (letter side) (lineAt k sheet) ≡ true
+      → readWhole (field 6 (lineAt k sheet)) ≡ readWhole (field 4 (lineAt k sheet)) +ℤ readWhole (field 5 (lineAt k sheet))
 
 abbrev pub RevenueRecovered : Type 0
 RevenueRecovered = (file : List ℕ) (runs : Runs) → Acceptable file runs → Recovered (gridOf (studyOf file)) (sheetOf file runs)
@@ -83,6 +119,35 @@ pub record SameButStations (S S′ : Study) : Type 0 where
   pub nodes : S .nodes ≡ S′ .nodes
   pub circuits : S .circuits ≡ S′ .circuits
   pub capacity : (v plantType : ℕ) → v < length (S .nodes) → InRange plantType 1 7 → capacityOf S v plantType ≡ capacityOf S′ v plantType
+
+-- t and u have the node and the plant type of s, and together its TEC
+pub record Parts (s t u : Station) : Type 0 where
+  pub firstNode : t .node ≡ s .node
+  pub secondNode : u .node ≡ s .node
+  pub firstType : t .plantType ≡ s .plantType
+  pub secondType : u .plantType ≡ s .plantType
+  pub tec : s .tec ≡ t .tec + u .tec
+
+-- "stations may be divided and listed differently": a row in two of its node and type, under any identifiers; two rows exchanged; and back, at any place
+pub data Rearranged : List Station → List Station → Type 0 where
+  same : {ss : List Station} → Rearranged ss ss
+  exchanged : {s t : Station} {ss : List Station} → Rearranged (s ∷ t ∷ ss) (t ∷ s ∷ ss)
+  divided : {s t u : Station} {ss : List Station} → Parts s t u → Rearranged (s ∷ ss) (t ∷ u ∷ ss)
+  below : {s : Station} {ss ts : List Station} → Rearranged ss ts → Rearranged (s ∷ ss) (s ∷ ts)
+  back : {ss ts : List Station} → Rearranged ss ts → Rearranged ts ss
+  then : {ss ts us : List Station} → Rearranged ss ts → Rearranged ts us → Rearranged ss us
+
+-- two studies that differ so, and in nothing else
+pub record StationsRearranged (S S′ : Study) : Type 0 where
+  pub settings : S .settings ≡ S′ .settings
+  pub nodes : S .nodes ≡ S′ .nodes
+  pub circuits : S .circuits ≡ S′ .circuits
+  pub stations : Rearranged (S .stations) (S′ .stations)
+
+-- their capacities are equal, and more
+abbrev pub CapacityKept : Type 0
+CapacityKept =
+    (S S′ : Study) → StationsRearranged S S′ → (v plantType : ℕ) → capacityOf S v plantType ≡ capacityOf S′ v plantType
 
 -- what two accepted cases then agree on, whatever the proposals
 pub record Agree (S : Study) (runs runs′ : Runs) (sheet sheet′ : List ℕ) : Type 0 where
@@ -103,10 +168,8 @@ SolversAgree =
     → Agree (studyOf file) runs runs′ (sheetOf file runs) (sheetOf file′ runs′)
 
 -- and a refusal tells no more of the stations: cases that pass 1 to 5 and differ in their stations alone get one answer
-pub record PassesToFive (file : List ℕ) (runs : Runs) : Type 0 where
-  pub whole : stops (fileStage file) ≡ false
-  pub runLengths : stops (runsStage file (length (runs .base)) (length (runs .wider)) (length (runs .local))) ≡ false
-  pub tables : stops (rowsStage (studyOf file)) ≡ false
+abbrev pub PassesToFive : List ℕ → Runs → Type 0
+PassesToFive file runs = WholeFile file runs × AllMet (rowsOrder (studyOf file))
 
 abbrev pub StationsHidden : Type 0
 StationsHidden =

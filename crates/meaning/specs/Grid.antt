@@ -11,8 +11,8 @@ use Rattle.meaning.specs.Name.{Name, sameName}
 use Rattle.meaning.specs.Study.{Kw, Settings, Node, Circuit, Station, Study, node, station}
 use Rattle.meaning.specs.declared.Plant.{Plant}
 use Rattle.meaning.specs.declared.Plant.the-variants.{Intermittent, NuclearAndCcs, Interconnector, Hydro, PumpedStorage, Peaking, Other}
-use Rattle.meaning.specs.declared.Answer.{Answer}
-use Rattle.meaning.specs.declared.Answer.the-variants.{BadTotal}
+use Rattle.meaning.specs.declared.Judgement.{Judgement}
+use Rattle.meaning.specs.declared.Refusal.the-variants.{BadTotal}
 use Rattle.meaning.specs.Answers.{unless}
 
 -- 01, The case file (CUSC 14.15.7 of the later edition): plant types 1 to 7 "are the rows of the table in 14.15.7, in order"
@@ -95,5 +95,5 @@ totalDemand G = sum (length (G .nodes)) (nodeDemand G)
 unfoldable pub soundTotals : (demand tec : Kw) → Bool
 soundTotals demand tec = demand between 1 and 100000000 && tec between 1 and 100000000 && leb demand tec
 
-unfoldable pub totalsStage : Grid → Answer
+unfoldable pub totalsStage : Grid → Judgement
 totalsStage G = unless (soundTotals (totalDemand G) (totalTec G)) BadTotal

@@ -18,8 +18,10 @@ pub mod Sheet
 pub mod Outcome
 pub mod Edges
 pub mod Conditions
+pub mod Refusals
 pub mod Read
 pub mod Demands
+pub mod Calls
 -- no words of 01: arrays and searches as code has them
 pub mod Columns
 pub mod First

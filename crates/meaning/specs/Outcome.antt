@@ -1,12 +1,15 @@
 -- 01, What stops a case ("Order") and What each entry settles: from the bytes of a file, three runs and a buffer to the answer.
-use mathlib.Core.Bool.{cond}
 use mathlib.Core.List.{List, [], _∷_, _++_}
 use Prim.Native.Nat.{ℕ}
 use lib.Dec.{leb}
 use lib.ListN.{length, drop}
+use Rattle.meaning.specs.declared.Refusal.{Refusal}
+use Rattle.meaning.specs.declared.Refusal.the-variants.{BadFile, ShortBuffer}
+use Rattle.meaning.specs.declared.Judgement.{Judgement}
+use Rattle.meaning.specs.declared.Judgement.the-variants.{Passes, Stops}
 use Rattle.meaning.specs.declared.Answer.{Answer}
-use Rattle.meaning.specs.declared.Answer.the-variants.{Accepted, BadFile, ShortBuffer}
-use Rattle.meaning.specs.Answers.{values, stops, _orElse_, unless}
+use Rattle.meaning.specs.declared.Answer.the-variants.{Accepted, Refused}
+use Rattle.meaning.specs.Answers.{values, _orElse_, unless}
 use Rattle.meaning.specs.Study.{Study, Runs}
 use Rattle.meaning.specs.File.{fileWhole, runsWhole, studyOf, runsIn}
 use Rattle.meaning.specs.Tables.{settingsStage, nodesStage, circuitsStage, stationsStage}
@@ -17,27 +20,27 @@ use Rattle.meaning.specs.Text.{text, natural, line}
 use Rattle.meaning.specs.Sheet.{sheet}
 
 -- 1: of the file, and of the lengths of the runs
-unfoldable pub fileStage : (file : List ℕ) → Answer
+unfoldable pub fileStage : (file : List ℕ) → Judgement
 fileStage file = unless (fileWhole file) BadFile
 
-unfoldable pub runsStage : (file : List ℕ) → (base wider local : ℕ) → Answer
+unfoldable pub runsStage : (file : List ℕ) → (base wider local : ℕ) → Judgement
 runsStage file base wider local = unless (runsWhole file base wider local) BadFile
 
 -- 2 to 5 of a study
-unfoldable pub rowsStage : Study → Answer
+unfoldable pub rowsStage : Study → Judgement
 rowsStage S = settingsStage S orElse nodesStage S orElse circuitsStage S orElse stationsStage S
 
 -- 6 and 7 of a grid
-unfoldable pub gridStage : Grid → Answer
+unfoldable pub gridStage : Grid → Judgement
 gridStage G = reachStage (networkOf G) orElse totalsStage G
 
 -- "Tables are sound when none of 1 to 7 holds": of a file, and the lengths of the three runs
-unfoldable pub tablesStage : (file : List ℕ) → (base wider local : ℕ) → Answer
+unfoldable pub tablesStage : (file : List ℕ) → (base wider local : ℕ) → Judgement
 tablesStage file base wider local =
     fileStage file orElse runsStage file base wider local orElse rowsStage (studyOf file) orElse gridStage (gridOf (studyOf file))
 
 -- "Order: 1 to 7; 8, 9, 10 for system 1 (base); 11; 8, 9, 10 for system 2 (wider), then 3 (local)"
-unfoldable pub judged : (file : List ℕ) → Runs → Answer
+unfoldable pub judged : (file : List ℕ) → Runs → Judgement
 judged file runs =
     tablesStage file (length (runs .base)) (length (runs .wider)) (length (runs .local)) orElse proposalsStage (gridOf (studyOf file)) runs
 
@@ -45,30 +48,52 @@ judged file runs =
 abbrev pub sheetOf : List ℕ → Runs → List ℕ
 sheetOf file runs = sheet (gridOf (studyOf file)) runs
 
+-- what an entry answers with room enough for the sheet: "Acceptance carries the sheet's length"
+unfoldable pub answeredBy : Judgement → (sheet : List ℕ) → Answer
+answeredBy Passes sheet = Accepted (length sheet)
+answeredBy (Stops r) sheet = Refused r
+
+unfoldable pub answerOf : (file : List ℕ) → Runs → Answer
+answerOf file runs = answeredBy (judged file runs) (sheetOf file runs)
+
 -- ---- what an entry answers, and the lent buffer afterwards
 pub record Settled : Type 0 where
   pub answer : Answer
   pub buffer : List ℕ
 
 -- a refusal "writes nothing"
-unfoldable pub refused : Answer → (buffer : List ℕ) → Settled
-refused a buffer = record { answer = a; buffer = buffer }
+unfoldable pub refused : Refusal → (buffer : List ℕ) → Settled
+refused r buffer = record { answer = Refused r; buffer = buffer }
 
 -- "Acceptance carries the sheet's length; bytes behind it are untouched."
 unfoldable pub written : (sheet buffer : List ℕ) → Settled
 written sheet buffer = record { answer = Accepted (length sheet); buffer = sheet ++ drop (length sheet) buffer }
 
--- refused by what stops the case first; then 12, "sheet buffer shorter than the sheet"; else the sheet
+-- 12: "sheet buffer shorter than the sheet"
+unfoldable pub bufferStage : (sheet buffer : List ℕ) → Judgement
+bufferStage sheet buffer = unless (leb (length sheet) (length buffer)) ShortBuffer
+
+-- refused by what stops the case first, else the sheet
+unfoldable pub settledBy : Judgement → (sheet buffer : List ℕ) → Settled
+settledBy Passes sheet buffer = written sheet buffer
+settledBy (Stops r) sheet buffer = refused r buffer
+
+-- 1 to 11, then 12
 unfoldable pub settle : (file : List ℕ) → Runs → (buffer : List ℕ) → Settled
 settle file runs buffer =
-    cond (stops (judged file runs)) (refused (judged file runs) buffer)
-    (cond (leb (length (sheetOf file runs)) (length buffer)) (written (sheetOf file runs) buffer) (refused ShortBuffer buffer))
+    let sheet = sheetOf file runs in
+    settledBy (judged file runs orElse bufferStage sheet buffer) sheet buffer
 
 -- ---- the program: "It prints the sheet, or `refused`, number, system and row."
-unfoldable pub refusedLine : Answer → List ℕ
-refusedLine a =
-    line (text "refused" ∷ natural (values a .number) ∷ natural (values a .system) ∷ natural (values a .row) ∷ [])
+unfoldable pub refusedLine : Refusal → List ℕ
+refusedLine r =
+    let v = values (Refused r) in
+    line (text "refused" ∷ natural (v .number) ∷ natural (v .system) ∷ natural (v .row) ∷ [])
+
+unfoldable pub printedBy : Judgement → (sheet : List ℕ) → List ℕ
+printedBy Passes sheet = sheet
+printedBy (Stops r) sheet = refusedLine r
 
 -- one case on standard input; "it never prints 12"
 unfoldable pub prints : (file : List ℕ) → List ℕ
-prints file = cond (stops (judged file (runsIn file))) (refusedLine (judged file (runsIn file))) (sheetOf file (runsIn file))
+prints file = printedBy (judged file (runsIn file)) (sheetOf file (runsIn file))

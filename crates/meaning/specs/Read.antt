@@ -44,6 +44,10 @@ hasLetter l line = sameName (field 0 line) l
 unfoldable pub padded : List ℕ → Name
 padded name = take 12 (name ++ replicate 12 32)
 
+-- line k of a text
+abbrev pub lineAt : ℕ → (sheet : List ℕ) → List ℕ
+lineAt k sheet = getD (pieces 10 sheet) k []
+
 -- f of each line of a text, added up
 unfoldable pub overLines : (List ℕ → ℤ) → List (List ℕ) → ℤ
 overLines f [] = pos 0
@@ -60,9 +64,17 @@ module _ (G : Grid) where
   nodeIncome line =
       cond (hasLetter (text "L") line) (readWhole (field 3 line) *ℤ pos (payingTec G (place (G .nodes) (padded (field 1 line))))) (pos 0)
 
-  -- "Income from the printed tariffs"
+  -- what a line brings in to a side: to generation a `G` line and an `L` line, to demand a `D` line
+  unfoldable pub lineIncome : Side → (line : List ℕ) → ℤ
+  lineIncome Generation line = zoneIncome Generation line +ℤ nodeIncome line
+  lineIncome Demand line = zoneIncome Demand line
+
+  -- "Income from the printed tariffs": of a side, and of both
+  unfoldable pub sideIncome : Side → (sheet : List ℕ) → ℤ
+  sideIncome side sheet = overLines (lineIncome side) (pieces 10 sheet)
+
   unfoldable pub printedIncome : (sheet : List ℕ) → ℤ
-  printedIncome sheet = overLines (λ l. zoneIncome Generation l +ℤ zoneIncome Demand l +ℤ nodeIncome l) (pieces 10 sheet)
+  printedIncome sheet = sideIncome Generation sheet +ℤ sideIncome Demand sheet
 
 -- "`R`, generation remainder, demand remainder"
 unfoldable pub remainderField : Side → ℕ

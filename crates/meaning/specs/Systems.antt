@@ -9,8 +9,8 @@ use Rattle.meaning.specs.Rows.{failing}
 use Rattle.meaning.specs.Study.{Runs, circuit}
 use Rattle.meaning.specs.declared.System.{System}
 use Rattle.meaning.specs.declared.System.the-variants.{Base, Wider, Local}
-use Rattle.meaning.specs.declared.Answer.{Answer}
-use Rattle.meaning.specs.declared.Answer.the-variants.{DirectionInDoubt}
+use Rattle.meaning.specs.declared.Judgement.{Judgement}
+use Rattle.meaning.specs.declared.Refusal.the-variants.{DirectionInDoubt}
 use Rattle.meaning.specs.Answers.{_orElse_, at}
 use Rattle.meaning.specs.Grid.{Grid, nodeTec, nodeDemand, totalDemand}
 use Rattle.meaning.specs.Network.{networkOf}
@@ -62,16 +62,16 @@ module _ (G : Grid) where
     proposed s = record { system = s; limit = limitOf s; supply = supply s; offset = offset s; run = runOf runs s }
 
     -- 8, 9, 10 of a system
-    abbrev pub solutionStage : System → Answer
+    abbrev pub solutionStage : System → Judgement
     solutionStage s = systemStage (networkOf G) (proposed s)
 
     -- 11: the direction of a circuit with a length is not in doubt
     unfoldable pub directionClear : ℕ → Bool
     directionClear c = not (hasLength (circuit circuits c)) || not (inDoubt (direction (baseFlow c)))
 
-    unfoldable pub directionStage : Answer
+    unfoldable pub directionStage : Judgement
     directionStage = at (failing directionClear (length circuits)) DirectionInDoubt
 
     -- "8, 9, 10 for system 1 (base); 11; 8, 9, 10 for system 2 (wider), then 3 (local)"
-    unfoldable pub proposalsStage : Answer
+    unfoldable pub proposalsStage : Judgement
     proposalsStage = solutionStage Base orElse directionStage orElse solutionStage Wider orElse solutionStage Local

@@ -7,8 +7,8 @@ use lib.ListN.{length}
 use Rattle.meaning.specs.Rows.{_between_and_, failing, any}
 use Rattle.meaning.specs.Name.{Name, wellFormed, sameName}
 use Rattle.meaning.specs.Study.{Settings, Node, Circuit, Station, Study, node, circuit, station}
-use Rattle.meaning.specs.declared.Answer.{Answer}
-use Rattle.meaning.specs.declared.Answer.the-variants.{BadSetting, BadNode, BadCircuit, BadStation}
+use Rattle.meaning.specs.declared.Judgement.{Judgement}
+use Rattle.meaning.specs.declared.Refusal.the-variants.{BadSetting, BadNode, BadCircuit, BadStation}
 use Rattle.meaning.specs.Answers.{unless, at}
 
 -- "seen earlier": row i has the name of an earlier row
@@ -66,14 +66,14 @@ module _ (S : Study) where
   soundStation i = soundStationRow nodes (station stations i) && not (seenEarlier (λ j. station stations j .identifier) i)
 
   -- the stages 2, 3, 4 and 5: lowest row first
-  unfoldable pub settingsStage : Answer
+  unfoldable pub settingsStage : Judgement
   settingsStage = unless (soundSettings (length nodes) settings) BadSetting
 
-  unfoldable pub nodesStage : Answer
+  unfoldable pub nodesStage : Judgement
   nodesStage = at (failing soundNode (length nodes)) BadNode
 
-  unfoldable pub circuitsStage : Answer
+  unfoldable pub circuitsStage : Judgement
   circuitsStage = at (failing soundCircuit (length circuits)) BadCircuit
 
-  unfoldable pub stationsStage : Answer
+  unfoldable pub stationsStage : Judgement
   stationsStage = at (failing soundStation (length stations)) BadStation

@@ -39,10 +39,8 @@ pub enum Direction {
     InDoubt,
 }
 
-// 01, What stops a case: a case for each number 1 to 12, with the system and the row (from 1) where the table has one;
-// and accepted, with the length of the sheet.
-pub enum Answer {
-    Accepted(usize),
+// 01, What stops a case: a case for each number 1 to 12, with the system and the row (from 1) where the table has one.
+pub enum Refusal {
     BadFile,
     BadSetting,
     BadNode(usize),
@@ -55,6 +53,18 @@ pub enum Answer {
     MissesTooHigh(System),
     DirectionInDoubt(usize),
     ShortBuffer,
+}
+
+// What a stage of 01's order makes of a case: it goes on to the next stage, or it is refused.
+pub enum Judgement {
+    Passes,
+    Stops(Refusal),
+}
+
+// What an entry answers: accepted with the length of the sheet, or refused. There is no accepting without a sheet.
+pub enum Answer {
+    Accepted(usize),
+    Refused(Refusal),
 }
 
 // What an answer carries: 01's number (0 for accepted), system and row, and the sheet's length.
@@ -96,4 +106,10 @@ pub struct Figures {
     pub demand: SideFigures,
     pub nodes: usize,
     pub local: [LocalFigures; 256],
+}
+
+// 01, The sheet: what the program prints, the first `length` of these bytes. No sheet is longer than 14,240.
+pub struct Printed {
+    pub length: usize,
+    pub bytes: [u8; 16384],
 }

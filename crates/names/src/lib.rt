@@ -58,7 +58,7 @@ pub fn repeated(file: &[u8], start: u32, stride: u32, count: u32) -> usize
 }
 
 // The lowest row that has the name at a place; the count of rows where there is none.
-pub fn place(file: &[u8], start: u32, stride: u32, count: u32, at: usize) -> usize
+fn place(file: &[u8], start: u32, stride: u32, count: u32, at: usize) -> usize
     ensures { λ r. ⌜ r ≡ firstNamed (now (file .entry)) start stride count at ⌝ }
 {
     let known = same::inside(file, name_rows::row_at(start, stride, count), at);

@@ -4,8 +4,8 @@ use mathlib.Core.List.{List}
 use mathlib.Core.Bool.{not, _||_}
 use Prim.Native.Nat.{ℕ, _+_, _*_, _≤_, _<_}
 use native.Mathlib.Omega.{arith}
-use Rattle.meaning.specs.declared.Answer.the-variants.{BadNode}
-use Rattle.meaning.specs.Answers.{passed}
+use Rattle.meaning.specs.declared.Refusal.the-variants.{BadNode}
+use Rattle.meaning.specs.declared.Judgement.the-variants.{Passes, Stops}
 use Rattle.meaning.specs.Name.{Name}
 use Rattle.meaning.specs.Study.{node}
 use Rattle.meaning.specs.File.{nameAt, nodeAt}
@@ -42,15 +42,15 @@ module _ {file : List ℕ} {n : ℕ} (told : ToldNodes file n) where
       (not-and (soundNodeRow (readable file .settings) (nodeAt file (64 + 24 * i))) (seenEarlier (namesInFile file) i))
 
   module _ {r s : ℕ} (f : IsFirst (unsoundNode file) n r) (g : IsFirst (seenEarlier (namesInFile file)) n s) where
-    pub node-unsound : r < s → BadNode (r + 1) ≡ nodesStage (readable file)
+    pub node-unsound : r < s → Stops (BadNode (r + 1)) ≡ nodesStage (readable file)
     unfolding nodesStage
     node-unsound h =
         rw (← told .count) (at-first BadNode (first-as node-test (lower-first f g (omega arith))) (omega (arith, g .within)))
 
-    pub node-repeated : s ≤ r → s < n → BadNode (s + 1) ≡ nodesStage (readable file)
+    pub node-repeated : s ≤ r → s < n → Stops (BadNode (s + 1)) ≡ nodesStage (readable file)
     unfolding nodesStage
     node-repeated h k = rw (← told .count) (at-first BadNode (first-as node-test (lower-second f g h)) k)
 
-    pub nodes-sound : s ≤ r → n ≤ s → passed ≡ nodesStage (readable file)
+    pub nodes-sound : s ≤ r → n ≤ s → Passes ≡ nodesStage (readable file)
     unfolding nodesStage
     nodes-sound h k = rw (← told .count) (at-none BadNode (first-as node-test (lower-second f g h)) k)

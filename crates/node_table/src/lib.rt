@@ -6,7 +6,7 @@ ghost use mathlib.Core.Path.{_≡_};
 ghost use Rattle.meaning.specs.Tables.{nodesStage};
 ghost use Rattle.layout.specs.Readable.{readable};
 ghost use Rattle.node_table.specs.Columns.{nodesOf};
-use meaning::Answer;
+use meaning::Judgement;
 use meaning::Kw;
 
 // Zones and demand of each node.
@@ -33,7 +33,7 @@ pub fn columns(file: &[u8]) -> NodeColumns
 }
 
 // 3: the lowest node that is not sound.
-pub fn judge(file: &[u8]) -> Answer
+pub fn judge(file: &[u8]) -> Judgement
     ensures { λ r. ⌜ r ≡ nodesStage (readable (now (file .entry))) ⌝ }
 {
     let rows = layout::counts(file);

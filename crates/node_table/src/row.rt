@@ -6,7 +6,8 @@ ghost use Rattle.meaning.specs.Tables.{soundNodeRow, nodesStage};
 ghost use Rattle.layout.specs.Readable.{readable};
 ghost use Rattle.meaning.specs.First.{IsFirst};
 ghost use Rattle.node_table.specs.Told.{ToldZones, ToldNodes, unsoundNode};
-use meaning::Answer;
+use meaning::Judgement;
+use meaning::Refusal;
 
 // Whether the row at a place is sound by itself.
 pub fn sound_row(file: &[u8], at: usize, generation: usize, demand: usize) -> bool
@@ -36,17 +37,17 @@ pub fn first_unsound(file: &[u8], count: usize, generation: usize, demand: usize
 }
 
 // The stage: the lowest row that is not, or whose name is seen earlier.
-pub fn stage(file: &[u8], count: usize, generation: usize, demand: usize) -> Answer
+pub fn stage(file: &[u8], count: usize, generation: usize, demand: usize) -> Judgement
     requires { ⌜ ToldNodes (now file) count × ToldZones (now file) generation demand ⌝ }
     ensures { λ r. ⌜ r ≡ nodesStage (readable (now (file .entry))) ⌝ }
 {
     let unsound = first_unsound(file, count, generation, demand);
     let repeated = names::repeated(file, 64, 24, count as u32);
     if unsound < repeated {
-        return Answer::BadNode(unsound + 1);
+        return Judgement::Stops(Refusal::BadNode(unsound + 1));
     }
     if repeated < count {
-        return Answer::BadNode(repeated + 1);
+        return Judgement::Stops(Refusal::BadNode(repeated + 1));
     }
-    Answer::Accepted(0)
+    Judgement::Passes
 }

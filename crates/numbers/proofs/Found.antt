@@ -6,8 +6,9 @@ use mathlib.Core.Option.{Option, none, some}
 use Prim.Native.Nat.{ℕ, _+_, _≤_, _<_}
 use native.Mathlib.Numerals.{add-one}
 use native.Mathlib.Omega.{arith}
-use Rattle.meaning.specs.declared.Answer.{Answer}
-use Rattle.meaning.specs.Answers.{passed, at}
+use Rattle.meaning.specs.declared.Refusal.{Refusal}
+use Rattle.meaning.specs.declared.Judgement.the-variants.{Passes, Stops}
+use Rattle.meaning.specs.Answers.{at}
 use Rattle.meaning.specs.Rows.{failing}
 use Rattle.meaning.proofs.Rows.{Lowest, nothing, first, lowest-is, lowest-stops, lowest-none, below-suc}
 use Rattle.numbers.specs.Numbers.{rowOf}
@@ -74,11 +75,11 @@ module _ (test : ℕ → Bool) (n more row : ℕ) (h : n ≤ more) where
       go o (nothing g) e l = lowest-none (λ j. not (test j)) n (λ j k. g j (omega arith))
       go o (first i k t g) e l = lowest-none (λ j. not (test j)) n (λ j k. g j (omega arith))
 
--- a stage that looks for the lowest row: what it answers
-pub row-stops : (test : ℕ → Bool) (n row : ℕ) (answer : ℕ → Answer) → failing test n ≡ some row → answer (row + 1) ≡ at (failing test n) answer
+-- a stage that looks for the lowest row: what it says
+pub row-stops : (test : ℕ → Bool) (n row : ℕ) (cause : ℕ → Refusal) → failing test n ≡ some row → Stops (cause (row + 1)) ≡ at (failing test n) cause
 unfolding at
-row-stops test n row answer f = rw (add-one, f) refl
+row-stops test n row cause f = rw (add-one, f) refl
 
-pub row-passes : (test : ℕ → Bool) (n : ℕ) (answer : ℕ → Answer) → failing test n ≡ none → passed ≡ at (failing test n) answer
+pub row-passes : (test : ℕ → Bool) (n : ℕ) (cause : ℕ → Refusal) → failing test n ≡ none → Passes ≡ at (failing test n) cause
 unfolding at
-row-passes test n answer f = rw f refl
+row-passes test n cause f = rw f refl

@@ -76,7 +76,7 @@ pub fn direction_of(flow: i64) -> Direction
 }
 
 // Whether a flow's direction is in doubt.
-pub fn doubtful(flow: i64) -> bool
+fn doubtful(flow: i64) -> bool
     ensures { λ r. ⌜ r ≡ inDoubt (direction flow) ⌝ }
 {
     match direction_of(flow) {

@@ -1,20 +1,19 @@
 -- The runs that the program copies out of a whole file are those that the file holds.
-use mathlib.Core.Path.{_≡_, refl, sym, _∙_, ap}
-use mathlib.Core.Bool.{Bool, true, false, cond}
-use mathlib.Core.List.{List, [], _∷_}
-use Prim.Native.Nat.{ℕ, zero, suc, _+_, _*_, _-_, _≤_, _<_}
+use mathlib.Core.Path.{_≡_, refl, _∙_, ap}
+use mathlib.Core.Bool.{true, cond}
+use mathlib.Core.List.{List, _∷_}
+use Prim.Native.Nat.{ℕ, zero, suc, _+_, _*_, _-_, _≤_}
 use native.Mathlib.Omega.{arith}
 use lib.Dec.{ltb}
 use lib.IntN.{ℤ, pos}
-use lib.ListN.{length, take, drop}
+use lib.ListN.{length, take}
 use borrow.Author.Tests.{lt-ltb}
 use Rattle.meaning.specs.Rows.{rows}
-use Rattle.meaning.specs.Study.{Study, Runs}
+use Rattle.meaning.specs.Study.{runsOf}
 use Rattle.meaning.specs.File.{recordSize, sectionCount, sectionStart, studyOf, i64, runIn, runsIn, fileWhole}
 use Rattle.meaning.specs.Conditions.{WholeFile, InRange}
 use Rattle.meaning.proofs.Rows.{rows-same}
-use Rattle.meaning.proofs.Starts.{counts, stations-start, file-length}
-use Rattle.proposal.specs.Judges.{runsOf}
+use Rattle.meaning.proofs.Starts.{counts}
 use Rattle.output.specs.declared.runs.Solutions.{Solutions}
 use Rattle.output.specs.Standing.{Stands}
 use Rattle.meaning.specs.Columns.{column}

@@ -1,26 +1,23 @@
-// The program's whole output, from the bytes of its input: the sheet, or why there is none.
+// The program's whole output, from the bytes that it read: the sheet, or why there is none.
 mod runs;
 
 ghost use mathlib.Core.Path.{_≡_};
 ghost use mathlib.Core.Bool.{true};
+ghost use lib.ListN.{take};
+ghost use Rattle.meaning.specs.Study.{runsOf};
 ghost use Rattle.meaning.specs.File.{fileWhole, runsIn};
-ghost use Rattle.proposal.specs.Judges.{runsOf};
 ghost use Rattle.meaning.specs.Outcome.{prints, refusedLine};
-ghost use Rattle.output.specs.Printing.{Prints};
+ghost use Rattle.meaning.specs.Calls.{Prints};
 use meaning::Answer;
-
-// What is printed: the first `length` bytes; the rest is zero.
-pub struct Printed {
-    pub length: usize,
-    pub bytes: [u8; 16384],
-}
+use meaning::Printed;
+use meaning::Refusal;
 
 // The line of a refusal.
-fn refused(answer: Answer) -> Printed
-    ensures { λ r. ⌜ Prints (refusedLine answer) r ⌝ }
+fn refused(cause: Refusal) -> Printed
+    ensures { λ r. ⌜ Prints (refusedLine cause) r ⌝ }
 {
     let mut bytes = [0u8; 16384];
-    let length = text::refuse(answer, &mut bytes);
+    let length = text::refuse(cause, &mut bytes);
     Printed { length, bytes }
 }
 
@@ -31,12 +28,10 @@ fn with_runs(file: &[u8], base: &[i64], wider: &[i64], local: &[i64]) -> Printed
 {
     let mut bytes = [0u8; 16384];
     let answer = sheet::write(file, base, wider, local, &mut bytes);
-    let carried = answers::values(answer);
-    if carried.number >= 1 {
-        return refused(answer);
+    match answer {
+        Answer::Refused(cause) => refused(cause),
+        Answer::Accepted(length) => Printed { length, bytes },
     }
-    let length = carried.length;
-    Printed { length, bytes }
 }
 
 // What is printed for a whole file: its solutions are copied out.
@@ -53,12 +48,23 @@ fn of_whole_file(file: &[u8]) -> Printed
     with_runs(file, &base[0..count], &wider[0..count], &local[0..count])
 }
 
-// What the program prints for an input, of any bytes.
-pub fn print(input: &[u8]) -> Printed
+// What is printed for an input, of any bytes.
+fn of_input(input: &[u8]) -> Printed
     ensures { λ r. ⌜ Prints (prints (now (input .entry))) r ⌝ }
 {
     if layout::whole(input) {
         return of_whole_file(input);
     }
-    refused(Answer::BadFile)
+    refused(Refusal::BadFile)
+}
+
+// What the program prints when it has read `count` bytes into its buffer; a count past the buffer's end is all of it.
+pub fn print(buffer: &[u8; 65536], count: usize) -> Printed
+    ensures { λ r. ⌜ Prints (prints (take count (now (buffer .entry)))) r ⌝ }
+{
+    let all: &[u8] = buffer;
+    if count < all.len() {
+        return of_input(&all[0..count]);
+    }
+    of_input(all)
 }

@@ -2,43 +2,29 @@
 use mathlib.Core.Path.{_≡_, refl, sym, _∙_, ap, subst}
 use mathlib.Core.Logic.{_↔_, _⊎_, inl, inr}
 use mathlib.Core.List.{List, _++_}
-use Prim.Native.Nat.{ℕ, zero, suc, _≤_, _<_}
-use native.Mathlib.Omega.{arith}
+use Prim.Native.Nat.{ℕ}
 use lib.ListN.{length, take, drop}
 use lib.Seq.{take-at}
-use Rattle.meaning.specs.declared.Answer.{Answer}
-use Rattle.meaning.specs.declared.Values.{Values}
-use Rattle.meaning.specs.Answers.{values, refusal}
+use Rattle.meaning.specs.declared.Refusal.{Refusal}
+use Rattle.meaning.specs.declared.Answer.the-variants.{Refused}
+use Rattle.meaning.specs.Answers.{values}
 use Rattle.meaning.specs.Study.{Runs}
 use Rattle.meaning.specs.File.{studyOf}
 use Rattle.meaning.specs.Grid.{gridOf}
 use Rattle.meaning.specs.Outcome.{sheetOf, Settled, settle, written, refused}
 use Rattle.meaning.specs.Conditions.{Acceptable}
-use Rattle.meaning.specs.Demands.{Listed, badFile, badSetting, badNode, badCircuit, badStation, unreached, badTotal, badNumber, unbalanced, missesTooHigh, inDoubt, shortBuffer, ListedFor, IsWritten, IsRefused, Recovered, SameButStations, Agree, PassesToFive}
-use Rattle.claims.proofs.Theorems.{every-input-settled, accepted-exactly-when, revenue-recovered, solvers-agree, stations-hidden}
-use Rattle.promises.specs.Calls.{Call, Kept, IsAccepted, sheetIn, IsRefusal, EveryCallSettled, CallExactlyWhen, CallAcceptedExactlyWhen, CallRecoversRevenue, CallsAgree, CallsHideStations}
-
--- a listed refusal is not number 0
-listed-number : {n m k : ℕ} {v : Values} → Listed n m k v → v .number ≡ 0 → ⊥
-unfolding refusal
-listed-number badFile e = omega arith
-listed-number badSetting e = omega arith
-listed-number (badNode r h) e = omega arith
-listed-number (badCircuit r h) e = omega arith
-listed-number (badStation r h) e = omega arith
-listed-number (unreached r h) e = omega arith
-listed-number badTotal e = omega arith
-listed-number (badNumber s r g h) e = omega arith
-listed-number (unbalanced s r g h) e = omega arith
-listed-number (missesTooHigh s g) e = omega arith
-listed-number (inDoubt r h) e = omega arith
-listed-number shortBuffer e = omega arith
+use Rattle.meaning.specs.Demands.{IsWritten, IsRefused, Recovered, SameButStations, Agree, PassesToFive}
+use Rattle.claims.proofs.Accepted.{accepted≢refused}
+use Rattle.claims.proofs.Theorems.{every-input-settled, accepted-exactly-when, refused-exactly-when, revenue-recovered, solvers-agree, stations-hidden}
+use Rattle.meaning.specs.Refusals.{Stopped}
+use Rattle.meaning.specs.Calls.{Call, Kept}
+use Rattle.promises.specs.Calls.{IsAccepted, sheetIn, IsRefusal, Promised, EveryCallPromised, EveryTwoPromised}
 
 module _ (c : Call) (kept : Kept c) where
   -- what is written, seen by the caller
   written-accepted : IsWritten (c .file) (c .runs) (c .before) → IsAccepted c
-  unfolding written values
-  written-accepted w = ap (λ (s : Settled). values (s .answer) .number) (kept .contract ∙ w)
+  unfolding written
+  written-accepted w = ap (λ (s : Settled). s .answer) (kept .contract ∙ w)
 
   written-sheet : IsWritten (c .file) (c .runs) (c .before) → sheetIn c ≡ sheetOf (c .file) (c .runs)
   unfolding written values
@@ -52,14 +38,16 @@ module _ (c : Call) (kept : Kept c) where
       ∙ ap (λ (k : ℕ). sheetIn c ++ drop k (c .before)) (sym (ap (λ (s : Settled). values (s .answer) .length) (kept .contract ∙ w)))
 
   -- what is refused, seen by the caller
-  refused-answer : (r : IsRefused (c .file) (c .runs) (c .before)) → c .answer ≡ r .answer
+  refused-answer : (r : IsRefused (c .file) (c .runs) (c .before)) → c .answer ≡ Refused (r .cause)
   unfolding refused
   refused-answer r = ap (λ (s : Settled). s .answer) (kept .contract ∙ r .settled)
 
   refused-call : IsRefused (c .file) (c .runs) (c .before) → IsRefusal c
   unfolding refused
   refused-call r = record {
-    listed = subst (λ a. ListedFor (studyOf (c .file)) a) (sym (refused-answer r)) (r .listed);
+    cause = r .cause;
+    answered = refused-answer r;
+    listed = r .listed;
     untouched = ap (λ (s : Settled). s .buffer) (kept .contract ∙ r .settled);
   }
 
@@ -75,39 +63,48 @@ module _ (c : Call) (kept : Kept c) where
     where
       go : IsWritten (c .file) (c .runs) (c .before) ⊎ IsRefused (c .file) (c .runs) (c .before) → IsWritten (c .file) (c .runs) (c .before)
       go (inl w) = w
-      go (inr r) = absurd (listed-number (refused-call r .listed) a)
+      go (inr r) = absurd (accepted≢refused (sym a ∙ refused-answer r))
 
   acceptable : IsAccepted c → Acceptable (c .file) (c .runs)
   acceptable a = accepted-exactly-when (c .file) (c .runs) (c .before) .accepted .0 (accepted-written a) .0
 
-  exactly : CallExactlyWhen c
-  exactly =
+  refused-when : (r : Refusal) → (c .answer ≡ Refused r) ↔ Stopped (c .file) (c .runs) (c .before) r
+  refused-when r =
+      let e = ap (λ (s : Settled). s .answer) (kept .contract) in
+      let w = refused-exactly-when (c .file) (c .runs) (c .before) r .exactly in
+      (λ a. w .0 (sym e ∙ a), λ f. e ∙ w .1 f)
+
+  promised : Promised c
+  promised =
       let w = accepted-exactly-when (c .file) (c .runs) (c .before) .accepted in
       record {
+        settled = settled;
         accepted = (λ a. w .0 (accepted-written a), λ t. written-accepted (w .1 t));
         sheet = λ a. written-sheet (accepted-written a);
         behind = λ a. written-behind (accepted-written a);
+        refused = refused-when;
+        revenue = λ a.
+            subst (λ (l : List ℕ). Recovered (gridOf (studyOf (c .file))) l) (sym (written-sheet (accepted-written a)))
+            (revenue-recovered (c .file) (c .runs) (acceptable a));
       }
 
-pub every-call-settled : EveryCallSettled
-every-call-settled = settled
+pub every-call-promised : EveryCallPromised
+every-call-promised = promised
 
-pub call-accepted-exactly-when : CallAcceptedExactlyWhen
-call-accepted-exactly-when = exactly
+pub every-two-promised : EveryTwoPromised
+every-two-promised c d keptC keptD = record { agree = agree; hidden = hidden }
+  where
+    agree : IsAccepted c → IsAccepted d → SameButStations (studyOf (c .file)) (studyOf (d .file))
+        → Agree (studyOf (c .file)) (c .runs) (d .runs) (sheetIn c) (sheetIn d)
+    agree a b same =
+        subst (λ (l : List ℕ). Agree (studyOf (c .file)) (c .runs) (d .runs) l (sheetIn d)) (sym (promised c keptC .sheet a))
+        (subst (λ (l : List ℕ). Agree (studyOf (c .file)) (c .runs) (d .runs) (sheetOf (c .file) (c .runs)) l) (sym (promised d keptD .sheet b))
+        (solvers-agree (c .file) (d .file) (c .runs) (d .runs) (acceptable c keptC a) (acceptable d keptD b) same))
 
-pub call-recovers-revenue : CallRecoversRevenue
-call-recovers-revenue c kept a =
-    subst (λ (l : List ℕ). Recovered (gridOf (studyOf (c .file))) l) (sym (exactly c kept .sheet a)) (revenue-recovered (c .file) (c .runs) (acceptable c kept a))
-
-pub calls-agree : CallsAgree
-calls-agree c d keptC keptD a b same =
-    subst (λ (l : List ℕ). Agree (studyOf (c .file)) (c .runs) (d .runs) l (sheetIn d)) (sym (exactly c keptC .sheet a))
-    (subst (λ (l : List ℕ). Agree (studyOf (c .file)) (c .runs) (d .runs) (sheetOf (c .file) (c .runs)) l) (sym (exactly d keptD .sheet b))
-    (solvers-agree (c .file) (d .file) (c .runs) (d .runs) (acceptable c keptC a) (acceptable d keptD b) same))
-
-pub calls-hide-stations : CallsHideStations
-calls-hide-stations c d keptC keptD runs p q same e =
-    ap (λ (s : Settled). s .answer) (keptC .contract)
-    ∙ stations-hidden (c .file) (d .file) (c .runs) (c .before) (d .before) p (subst (λ (r : Runs). PassesToFive (d .file) r) (sym runs) q) same e
-    ∙ ap (λ (r : Runs). settle (d .file) r (d .before) .answer) runs
-    ∙ sym (ap (λ (s : Settled). s .answer) (keptD .contract))
+    hidden : c .runs ≡ d .runs → PassesToFive (c .file) (c .runs) → PassesToFive (d .file) (d .runs)
+        → SameButStations (studyOf (c .file)) (studyOf (d .file)) → length (c .before) ≡ length (d .before) → c .answer ≡ d .answer
+    hidden runs p q same e =
+        ap (λ (s : Settled). s .answer) (keptC .contract)
+        ∙ stations-hidden (c .file) (d .file) (c .runs) (c .before) (d .before) p (subst (λ (r : Runs). PassesToFive (d .file) r) (sym runs) q) same e
+        ∙ ap (λ (r : Runs). settle (d .file) r (d .before) .answer) runs
+        ∙ sym (ap (λ (s : Settled). s .answer) (keptD .contract))

@@ -94,7 +94,7 @@ module _ (S : Study) (sound : SoundTables S) (few : length (S .nodes) ≤ 256) (
   unfolding supply net gridOf
   supplied v h =
       base-supply-at (rows .nodes) scaling (nodes .demand) (omega (arith, node-count))
-      (rw (total-demand, total-tec) (says-totals _ _ .1 ((sound .demandTotal, sound .tecTotal), sound .enough))) v h
+      (rw (total-demand, total-tec) (says-totals _ _ .1 ((sound .totals .demandTotal, sound .totals .tecTotal), sound .totals .enough))) v h
       ∙ ap₂ (λ (a d : ℕ). pos 1000000 *ℤ (pos a -ℤ pos d))
       (scaled-same (rows .nodes) (kwAt scaling) (nodeTec (gridOf S)) (sum (rows .nodes) (kwAt (nodes .demand))) tec-at v h
       ∙ ap₂ (λ (n d : ℕ). scaled n (nodeTec (gridOf S)) d v) node-count total-demand)

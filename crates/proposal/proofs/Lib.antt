@@ -4,5 +4,4 @@ pub mod Cases
 pub mod Told
 pub mod Sound
 pub mod CaseOf
-pub mod Chain
 pub mod Opening

@@ -1,13 +1,13 @@
--- From a file that was opened to the answer of 1 to 11: where the tables stop the case, and where the proposals decide.
-use mathlib.Core.Path.{_≡_, sym, _∙_, ap}
-use mathlib.Core.Bool.{Bool, true, false}
+-- From a file that was opened to the judgement of 1 to 11: where the tables stop the case, and where the proposals decide.
+use mathlib.Core.Path.{_≡_, _∙_, ap}
 use mathlib.Core.List.{List}
 use Prim.Native.Nat.{ℕ, _+_, _≤_}
 use native.Mathlib.Omega.{arith}
 use lib.IntN.{ℤ}
 use lib.ListN.{length}
-use Rattle.meaning.specs.declared.Answer.{Answer}
-use Rattle.meaning.specs.Answers.{stops}
+use Rattle.meaning.specs.declared.Refusal.{Refusal}
+use Rattle.meaning.specs.declared.Judgement.{Judgement}
+use Rattle.meaning.specs.declared.Judgement.the-variants.{Passes, Stops}
 use Rattle.meaning.specs.Study.{Study, Runs}
 use Rattle.meaning.specs.File.{studyOf}
 use Rattle.meaning.specs.Grid.{gridOf}
@@ -15,6 +15,7 @@ use Rattle.meaning.specs.declared.System.{System}
 use Rattle.meaning.specs.declared.System.the-variants.{Base, Wider, Local}
 use Rattle.meaning.specs.Systems.{runOf, proposalsStage}
 use Rattle.meaning.specs.Outcome.{judged}
+use Rattle.meaning.proofs.Answers.{stops-first, passes-first}
 use Rattle.station_table.specs.declared.TecColumns.{TecColumns}
 use Rattle.station_table.specs.Tec.{tecOf}
 use Rattle.tables.specs.declared.Opened.{Opened}
@@ -23,28 +24,26 @@ use Rattle.tables.proofs.Sound.{SoundOpened, opened-sound}
 use Rattle.flows.specs.declared.Case.{Case}
 use Rattle.flows.specs.Flows.{circuitsIn}
 use Rattle.proposal.specs.Case.{caseOf, proposalsIn, Judgeable}
-use Rattle.proposal.specs.Judges.{withAnswer, Judges}
+use Rattle.proposal.specs.Judges.{withJudgement, Judges}
 use Rattle.proposal.proofs.Told.{Told, proposals-told}
 use Rattle.proposal.proofs.Sound.{circuits-in, judgeable}
 use Rattle.proposal.proofs.CaseOf.{reference-least, case-told}
-use Rattle.proposal.proofs.Chain.{chain-stops, chain-passes}
 
-module _ (file : List ℕ) (runs : Runs) (o : Opened) (t : Opens file (length (runs .base)) (length (runs .wider)) (length (runs .local)) o) (told : Bool) (e : told ≡ stops (o .answer)) where
+module _ (file : List ℕ) (runs : Runs) (o : Opened) (t : Opens file (length (runs .base)) (length (runs .wider)) (length (runs .local)) o) where
   -- the columns stay as they are
-  with-answer : (r : Answer) → r ≡ judged file runs
-      → Judges file runs (withAnswer o r)
-  with-answer r a = record { answer = a; counts = t .counts; settings = t .settings; nodes = t .nodes; circuits = t .circuits; tec = t .tec }
+  with-judgement : (r : Judgement) → r ≡ judged file runs → Judges file runs (withJudgement o r)
+  with-judgement r a = record { judgement = a; counts = t .counts; settings = t .settings; nodes = t .nodes; circuits = t .circuits; tec = t .tec }
 
-  pub tables-stop : told ≡ true → Judges file runs o
+  pub tables-stop : {r : Refusal} → o .judgement ≡ Stops r → Judges file runs o
   unfolding judged
-  tables-stop h = with-answer (o .answer) (chain-stops _ (proposalsStage (gridOf (studyOf file)) runs) (o .answer) told (t .answer) e h)
+  tables-stop h = with-judgement (o .judgement) (h ∙ stops-first (proposalsStage (gridOf (studyOf file)) runs) (t .judgement) h)
 
-  module _ (h : told ≡ false) where
+  module _ (h : o .judgement ≡ Passes) where
     abbrev S : Study
     S = studyOf file
 
     s : SoundOpened file (length (runs .base)) (length (runs .wider)) (length (runs .local)) o
-    s = opened-sound t (sym e ∙ h)
+    s = opened-sound t h
 
     few : length (S .nodes) ≤ 256
     few = omega (arith, s .nodeCount, s .nodesFew .most)
@@ -79,10 +78,10 @@ module _ (file : List ℕ) (runs : Runs) (o : Opened) (t : Opens file (length (r
     pub passed-judgeable : (k : Case) → k ≡ caseOf o → Judgeable k (runs .base) (runs .base) × Judgeable k (runs .base) (runs .wider) × Judgeable k (runs .base) (runs .local)
     passed-judgeable k q = rw q (can-judge _ (s .baseRun), can-judge _ (s .widerRun), can-judge _ (s .localRun))
 
-    pub proposals-decide : (k : Case) → k ≡ caseOf o → (r : Answer) → r ≡ proposalsIn k (runs .base) (runs .wider) (runs .local)
-        → (w : Opened) → w ≡ withAnswer o r → Judges file runs w
+    pub proposals-decide : (k : Case) → k ≡ caseOf o → (r : Judgement) → r ≡ proposalsIn k (runs .base) (runs .wider) (runs .local)
+        → (w : Opened) → w ≡ withJudgement o r → Judges file runs w
     unfolding judged gridOf caseOf
     proposals-decide k q r f w g =
-        rw g (with-answer r
-        (chain-passes _ (proposalsStage (gridOf S) runs) (o .answer) told (t .answer) e r h
+        rw g (with-judgement r
+        (passes-first (proposalsStage (gridOf S) runs) (t .judgement) h
         (f ∙ ap (λ (c : Case). proposalsIn c (runs .base) (runs .wider) (runs .local)) q ∙ proposals-told (gridOf S) (caseOf o) told-case (s .nodesFew .most) runs (s .tables .settings) circuits-of)))

@@ -7,7 +7,7 @@ use lib.IntN.{ℤ, pos, natAbs, _-ℤ_}
 use lib.ListN.{getD}
 use Rattle.integers.specs.Numbers.{sum, Σ}
 use Rattle.integers.proofs.Sum.{sum-same, Σ-same}
-use Rattle.meaning.specs.declared.Answer.the-variants.{Unbalanced, MissesTooHigh}
+use Rattle.meaning.specs.declared.Refusal.the-variants.{Unbalanced, MissesTooHigh}
 use Rattle.meaning.specs.Answers.{_orElse_, at, unless}
 use Rattle.meaning.specs.Rows.{failing}
 use Rattle.meaning.specs.Network.{Network}

@@ -3,7 +3,7 @@ use mathlib.Core.Path.{_≡_, refl, sym, _∙_, ap, ap₂}
 use mathlib.Core.Bool.{Bool, true, false, not}
 use mathlib.Core.List.{List}
 use mathlib.Core.Option.{none, some}
-use Prim.Native.Nat.{ℕ, suc, _+_, _≤_, _<_}
+use Prim.Native.Nat.{ℕ, _+_, _≤_, _<_}
 use native.Mathlib.Decide.{ℕ-discrete, decLt}
 use native.Mathlib.Numerals.{add-one}
 use native.Mathlib.Omega.{arith}
@@ -12,16 +12,15 @@ use lib.IntN.{ℤ, pos, natAbs}
 use lib.ListN.{length, List·getD-eq-default}
 use Rattle.meaning.specs.declared.System.{System}
 use Rattle.meaning.specs.declared.System.the-variants.{Base, Wider, Local}
-use Rattle.meaning.specs.declared.Answer.the-variants.{BadNumber, Unbalanced, MissesTooHigh}
-use Rattle.meaning.specs.Answers.{values, refusal, stops, passed, unless, at, _orElse_}
+use Rattle.meaning.specs.declared.Refusal.the-variants.{BadNumber, Unbalanced, MissesTooHigh}
+use Rattle.meaning.specs.declared.Judgement.the-variants.{Passes, Stops}
+use Rattle.meaning.specs.Answers.{unless, at, _orElse_}
 use Rattle.meaning.specs.Rows.{failing, rows}
 use Rattle.meaning.specs.Network.{Network}
 use Rattle.meaning.specs.Proposal.{Proposed, potential, flow, same, numberInRange, balanced, missSum, rangeStage, balanceStage, missStage, systemStage}
 use Rattle.meaning.specs.Systems.{limitOf}
 use Rattle.meaning.proofs.Says.{says-le}
-use Rattle.meaning.proofs.Answers.{passed-passes, orElse-stops, orElse-passes}
-use Rattle.meaning.proofs.Rows.{rows-at}
-use Rattle.meaning.proofs.Rows.{lowest-same}
+use Rattle.meaning.proofs.Rows.{rows-at, lowest-same}
 use Rattle.numbers.specs.Numbers.{evenIn, pinned, rowOf}
 use Rattle.flows.specs.Flows.{number, netFlow}
 use Rattle.numbers.proofs.Found.{AllPass, row-is, row-below, row-beyond}
@@ -87,27 +86,27 @@ module _ (N : Network) (limit : ℕ) (run : List ℤ) (h : limit ≤ 20000000000
 -- ---- the chain
 module _ (N : Network) (P : Proposed) where
   -- 8 stops at a row
-  pub stops-number : (row : ℕ) → row ≡ rowOf (failing (numbers N P) (count N)) (count N) → row < count N → BadNumber (P .system) (row + 1) ≡ systemStage N P
-  unfolding systemStage rangeStage at stops values refusal
+  pub stops-number : (row : ℕ) → row ≡ rowOf (failing (numbers N P) (count N)) (count N) → row < count N → Stops (BadNumber (P .system) (row + 1)) ≡ systemStage N P
+  unfolding systemStage rangeStage at _orElse_
   stops-number row e h =
       let f : failing (numbers N P) (count N) ≡ some row = row-is (numbers N P) (count N) (omega arith) ∙ ap some (sym e) in
-      rw (add-one, f) (sym (orElse-stops (BadNumber (P .system) (suc row)) (balanceStage N P orElse missStage N P) refl))
+      rw (add-one, f) refl
 
   -- 8 passes
   passes-numbers : failing (numbers N P) (count N) ≡ none → systemStage N P ≡ balanceStage N P orElse missStage N P
-  unfolding systemStage rangeStage at
-  passes-numbers f = rw f (orElse-passes passed (balanceStage N P orElse missStage N P) passed-passes)
+  unfolding systemStage rangeStage at _orElse_
+  passes-numbers f = rw f refl
 
   -- 9 stops at a node
-  pub stops-node : failing (numbers N P) (count N) ≡ none → (row : ℕ) → failing (nodes N P) (N .nodes) ≡ some row → Unbalanced (P .system) (row + 1) ≡ systemStage N P
-  unfolding balanceStage at stops values refusal
-  stops-node g row f = rw (add-one, passes-numbers g, f) (sym (orElse-stops (Unbalanced (P .system) (suc row)) (missStage N P) refl))
+  pub stops-node : failing (numbers N P) (count N) ≡ none → (row : ℕ) → failing (nodes N P) (N .nodes) ≡ some row → Stops (Unbalanced (P .system) (row + 1)) ≡ systemStage N P
+  unfolding balanceStage at _orElse_
+  stops-node g row f = rw (add-one, passes-numbers g, f) refl
 
   -- 9 passes, and 10 decides
-  pub stops-misses : failing (numbers N P) (count N) ≡ none → failing (nodes N P) (N .nodes) ≡ none → low N P ≡ false → MissesTooHigh (P .system) ≡ systemStage N P
-  unfolding balanceStage missStage at unless
-  stops-misses g f e = rw (passes-numbers g, f, e) (sym (orElse-passes passed (MissesTooHigh (P .system)) passed-passes))
+  pub stops-misses : failing (numbers N P) (count N) ≡ none → failing (nodes N P) (N .nodes) ≡ none → low N P ≡ false → Stops (MissesTooHigh (P .system)) ≡ systemStage N P
+  unfolding balanceStage missStage at unless _orElse_
+  stops-misses g f e = rw (passes-numbers g, f, e) refl
 
-  pub passes-all : failing (numbers N P) (count N) ≡ none → failing (nodes N P) (N .nodes) ≡ none → low N P ≡ true → passed ≡ systemStage N P
-  unfolding balanceStage missStage at unless
-  passes-all g f e = rw (passes-numbers g, f, e) (sym (orElse-passes passed passed passed-passes))
+  pub passes-all : failing (numbers N P) (count N) ≡ none → failing (nodes N P) (N .nodes) ≡ none → low N P ≡ true → Passes ≡ systemStage N P
+  unfolding balanceStage missStage at unless _orElse_
+  passes-all g f e = rw (passes-numbers g, f, e) refl

@@ -7,14 +7,14 @@ use native.Mathlib.Nat.{mul-le-mul-left, zero-mul}
 use native.Mathlib.Decide.{decLe}
 use native.Mathlib.Omega.{arith}
 use lib.Dec.{eqb, leb}
-use lib.IntN.{pos, _-ℤ_, _*ℤ_}
+use lib.IntN.{pos}
 use lib.ListN.{length, getD, getD-replicate}
 use borrow.Author.Tests.{le-leb}
 use Rattle.integers.proofs.Sum.{sum-same}
 use Rattle.meaning.specs.declared.Kw.{Kw}
 use Rattle.meaning.specs.declared.System.{System}
 use Rattle.meaning.specs.declared.System.the-variants.{Base, Wider, Local}
-use Rattle.meaning.specs.declared.Answer.the-variants.{DirectionInDoubt}
+use Rattle.meaning.specs.declared.Refusal.the-variants.{DirectionInDoubt}
 use Rattle.meaning.specs.Answers.{at, _orElse_}
 use Rattle.meaning.specs.Rows.{rows, failing}
 use Rattle.meaning.specs.Study.{Settings, Circuit, Runs, circuit}

@@ -6,8 +6,8 @@ use lib.IntN.{ℤ, natAbs}
 use lib.ListN.{length}
 use Rattle.meaning.specs.declared.System.{System}
 use Rattle.meaning.specs.declared.System.the-variants.{Base, Wider, Local}
-use Rattle.meaning.specs.declared.Answer.{Answer}
-use Rattle.meaning.specs.declared.Answer.the-variants.{DirectionInDoubt}
+use Rattle.meaning.specs.declared.Refusal.the-variants.{DirectionInDoubt}
+use Rattle.meaning.specs.declared.Judgement.{Judgement}
 use Rattle.meaning.specs.Answers.{_orElse_, at}
 use Rattle.meaning.specs.Rows.{failing}
 use Rattle.meaning.specs.Columns.{numberAt}
@@ -67,15 +67,15 @@ offeredIn system k base run =
     }
 
 -- 8, 9, 10 of a system
-abbrev pub solutionIn : System → Case → (base run : List ℤ) → Answer
+abbrev pub solutionIn : System → Case → (base run : List ℤ) → Judgement
 solutionIn system k base run = systemStage (netIn k run) (offeredIn system k base run)
 
 -- 11: the lowest circuit with a length whose base flow is in doubt
-abbrev pub doubtIn : Case → (base : List ℤ) → Answer
+abbrev pub doubtIn : Case → (base : List ℤ) → Judgement
 doubtIn k base = at (failing (clearBy (k .nodes) (k .length) base) (netIn k base .circuits)) DirectionInDoubt
 
 -- 01, Order: "8, 9, 10 for system 1 (base); 11; 8, 9, 10 for system 2 (wider), then 3 (local)"
-abbrev pub proposalsIn : Case → (base wider local : List ℤ) → Answer
+abbrev pub proposalsIn : Case → (base wider local : List ℤ) → Judgement
 proposalsIn k base wider local = solutionIn Base k base base orElse doubtIn k base orElse solutionIn Wider k base wider orElse solutionIn Local k base local
 
 -- what is known of a case whose tables are sound, and of two runs of their length; the runs' numbers are any

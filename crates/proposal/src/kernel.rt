@@ -1,6 +1,7 @@
 // One judge of a proposed solution, for all three systems: 01, step 2.
 use flows::Case;
-use meaning::Answer;
+use meaning::Judgement;
+use meaning::Refusal;
 use meaning::System;
 ghost use mathlib.Core.Path.{_≡_};
 ghost use Rattle.meaning.specs.Proposal.{systemStage};
@@ -14,21 +15,21 @@ pub fn judge_system(
     supply: [i64; 256],
     offset: [i64; 512],
     run: &[i64],
-) -> Answer
+) -> Judgement
     requires { ⌜ Ready k offset (now run) ⌝ }
     ensures { λ r. ⌜ r ≡ systemStage (netIn k (now (run .entry))) (proposedIn system supply offset (now (run .entry))) ⌝ }
 {
     let n = k.nodes;
     let row = numbers::first_out_of_range(n, k.reference, numbers::limit_of(system), run);
     if row < run.len() {
-        return Answer::BadNumber(system, row + 1);
+        return Judgement::Stops(Refusal::BadNumber(system, row + 1));
     }
     let node = numbers::first_apart(flows::net_flows(k, run), supply);
     if node < n {
-        return Answer::Unbalanced(system, node + 1);
+        return Judgement::Stops(Refusal::Unbalanced(system, node + 1));
     }
     if flows::misses_low(k, offset, run) {
-        return Answer::Accepted(0);
+        return Judgement::Passes;
     }
-    Answer::MissesTooHigh(system)
+    Judgement::Stops(Refusal::MissesTooHigh(system))
 }

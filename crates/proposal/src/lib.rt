@@ -5,14 +5,14 @@ mod order;
 mod solution;
 
 ghost use mathlib.Core.Path.{_≡_};
-ghost use Rattle.meaning.specs.Outcome.{judged};
-ghost use Rattle.proposal.specs.Judges.{runsOf, withAnswer, Judges};
-use meaning::Answer;
+ghost use Rattle.meaning.specs.Study.{runsOf};
+ghost use Rattle.proposal.specs.Judges.{withJudgement, Judges};
+use meaning::Judgement;
 use tables::Opened;
 
-// The same columns with another answer.
-fn with_answer(read: Opened, answer: Answer) -> Opened
-    ensures { λ r. ⌜ r ≡ withAnswer read answer ⌝ }
+// The same columns with another judgement.
+fn with_judgement(read: Opened, judgement: Judgement) -> Opened
+    ensures { λ r. ⌜ r ≡ withJudgement read judgement ⌝ }
 {
     let counts = read.counts;
     let settings = read.settings;
@@ -20,7 +20,7 @@ fn with_answer(read: Opened, answer: Answer) -> Opened
     let circuits = read.circuits;
     let tec = read.tec;
     Opened {
-        answer: answer,
+        judgement: judgement,
         counts: counts,
         settings: settings,
         nodes: nodes,
@@ -34,19 +34,12 @@ pub fn open(file: &[u8], base: &[i64], wider: &[i64], local: &[i64]) -> Opened
     ensures { λ r. ⌜ Judges (now (file .entry)) (runsOf (now (base .entry)) (now (wider .entry)) (now (local .entry))) r ⌝ }
 {
     let read = tables::open(file, base.len(), wider.len(), local.len());
-    let refusal = read.answer;
-    if answers::is_refusal(refusal) {
-        return read;
+    let judgement = read.judgement;
+    match judgement {
+        Judgement::Stops(_) => read,
+        Judgement::Passes => with_judgement(
+            read,
+            order::proposals(case::case_of(read), base, wider, local),
+        ),
     }
-    with_answer(
-        read,
-        order::proposals(case::case_of(read), base, wider, local),
-    )
-}
-
-// What stops a case first among 1 to 11; accepted, with no sheet yet, where nothing does.
-pub fn judge(file: &[u8], base: &[i64], wider: &[i64], local: &[i64]) -> Answer
-    ensures { λ r. ⌜ r ≡ judged (now (file .entry)) (runsOf (now (base .entry)) (now (wider .entry)) (now (local .entry))) ⌝ }
-{
-    open(file, base, wider, local).answer
 }

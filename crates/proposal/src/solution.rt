@@ -1,13 +1,14 @@
 // One system's proposed solution, judged over its supply and offset: 01, steps 1 to 5, refusals 8 to 11.
 use crate::kernel;
 use flows::Case;
-use meaning::Answer;
+use meaning::Judgement;
+use meaning::Refusal;
 use meaning::System;
 ghost use mathlib.Core.Path.{_≡_};
 ghost use Rattle.proposal.specs.Case.{solutionIn, doubtIn, Based, Judgeable};
 
 // 8, 9 and 10 of a system: its supply and offset from the columns and the base flows, then the one judge.
-pub fn solution(system: System, k: Case, base: &[i64], run: &[i64]) -> Answer
+pub fn solution(system: System, k: Case, base: &[i64], run: &[i64]) -> Judgement
     requires { ⌜ Judgeable k (now base) (now run) ⌝ }
     ensures { λ r. ⌜ r ≡ solutionIn system k (now (base .entry)) (now (run .entry)) ⌝ }
 {
@@ -18,14 +19,14 @@ pub fn solution(system: System, k: Case, base: &[i64], run: &[i64]) -> Answer
 }
 
 // 11: the lowest circuit with a length whose direction is in doubt.
-pub fn doubt(k: Case, base: &[i64]) -> Answer
+pub fn doubt(k: Case, base: &[i64]) -> Judgement
     requires { ⌜ Based k (now base) ⌝ }
     ensures { λ r. ⌜ r ≡ doubtIn k (now (base .entry)) ⌝ }
 {
     let m = base.len() - k.nodes;
     let row = numbers::first_in_doubt(k.nodes, &k.length, base);
     if row < m {
-        return Answer::DirectionInDoubt(row + 1);
+        return Judgement::Stops(Refusal::DirectionInDoubt(row + 1));
     }
-    Answer::Accepted(0)
+    Judgement::Passes
 }

@@ -19,7 +19,7 @@ fn replayed() -> bool {
     if read < length {
         return false;
     }
-    let printed = output::print(case);
+    let printed = output::print(&space, length);
     let bytes = printed.bytes;
     let written = printed.length;
     io::write_all(STDOUT_FILENO, &bytes[0..written])

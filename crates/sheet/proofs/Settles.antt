@@ -1,58 +1,67 @@
--- What an entry settles, by what stops the case and by the length of its sheet; and the figures of a case that nothing stops.
-use mathlib.Core.Path.{_≡_, sym, _∙_, ap}
-use mathlib.Core.Bool.{true, false}
-use mathlib.Core.List.{List, _++_}
+-- What the entry settles, by what stops the case: a refusal, or the text of its figures, which is its sheet.
+use mathlib.Core.Path.{_≡_, refl, sym, _∙_, ap}
+use mathlib.Core.List.{List}
 use Prim.Native.Nat.{ℕ, _≤_, _<_}
 use native.Mathlib.Omega.{arith}
 use borrow.Author.Tests.{le-leb, lt-leb}
-use lib.ListN.{length, drop}
-use Rattle.meaning.specs.declared.Answer.the-variants.{Accepted, ShortBuffer}
-use Rattle.meaning.specs.Answers.{stops}
+use lib.ListN.{length}
+use Rattle.meaning.specs.declared.Refusal.{Refusal}
+use Rattle.meaning.specs.declared.Refusal.the-variants.{ShortBuffer}
+use Rattle.meaning.specs.declared.Judgement.the-variants.{Passes, Stops}
+use Rattle.meaning.specs.declared.Answer.the-variants.{Accepted, Refused}
+use Rattle.meaning.specs.Answers.{_orElse_, unless}
 use Rattle.meaning.specs.Study.{Runs}
 use Rattle.meaning.specs.File.{studyOf}
 use Rattle.meaning.specs.Grid.{gridOf}
-use Rattle.meaning.specs.Outcome.{judged, sheetOf, refused, written, settle}
+use Rattle.meaning.specs.Outcome.{judged, sheetOf, Settled, refused, written, bufferStage, answeredBy, answerOf, settledBy, settle}
 use Rattle.meaning.specs.Conditions.{Acceptable}
-use Rattle.claims.proofs.Accepted.{judged-pass}
+use Rattle.meaning.proofs.Judged.{judged-pass}
 use Rattle.charges.specs.declared.Charged.{Charged}
-use Rattle.charges.specs.Charged.{chargedOf}
+use Rattle.charges.specs.Charged.{figuresBy, chargedOf}
 use Rattle.charges.specs.Case.{figuresOf}
 use Rattle.text.specs.SheetText.{textOf, Sized}
 use Rattle.text.specs.Writing.{Fitted}
 use Rattle.text.proofs.Sizing.{says-sized, text-sized}
 use Rattle.sheet.proofs.OfCase.{case-sheet, case-sized}
 
-module _ (file : List ℕ) (runs : Runs) (buffer : List ℕ) where
-  pub settles-refused : stops (judged file runs) ≡ true → record { answer = judged file runs; buffer = buffer } ≡ settle file runs buffer
-  unfolding settle refused
-  settles-refused e = rw e
+-- ---- a text in a buffer: 12 where the buffer is shorter
+module _ (text before after : List ℕ) (n : ℕ) (w : Fitted text before after n) where
+  pub short-settled : length before < n → _≡_ {A = Settled} (record { answer = Refused ShortBuffer; buffer = after }) (settledBy (bufferStage text before) text before)
+  unfolding settledBy bufferStage unless refused
+  short-settled h =
+      let l = lt-leb (length text) (length before) (omega (arith, w .answer)) in
+      rw (w .buffer, l) refl
 
-  pub settles-short : stops (judged file runs) ≡ false → length buffer < length (sheetOf file runs)
-      → record { answer = ShortBuffer; buffer = buffer } ≡ settle file runs buffer
-  unfolding settle refused
-  settles-short e h = rw (e, lt-leb (length (sheetOf file runs)) (length buffer) h)
+  pub text-settled : n ≤ length before → _≡_ {A = Settled} (record { answer = Accepted n; buffer = after }) (settledBy (bufferStage text before) text before)
+  unfolding settledBy bufferStage unless written
+  text-settled h =
+      let l = le-leb (length text) (length before) (omega (arith, w .answer)) in
+      rw (w .answer, w .buffer, l) refl
 
-  pub settles-written : stops (judged file runs) ≡ false → length (sheetOf file runs) ≤ length buffer
-      → record { answer = Accepted (length (sheetOf file runs)); buffer = sheetOf file runs ++ drop (length (sheetOf file runs)) buffer } ≡ settle file runs buffer
-  unfolding settle written
-  settles-written e h = rw (e, le-leb (length (sheetOf file runs)) (length buffer) h)
-
--- the figures that were made where nothing stops the case
+-- ---- a case that was charged
 module _ (file : List ℕ) (runs : Runs) (r : Charged) (made : r ≡ chargedOf file runs) where
-  pub answer-is : r .answer ≡ judged file runs
+  judged-is : r .judgement ≡ judged file runs
   unfolding chargedOf
-  answer-is = ap (λ (x : Charged). x .answer) made
+  judged-is = ap (λ (x : Charged). x .judgement) made
 
-  pub figures-refused : (before : List ℕ) → stops (r .answer) ≡ true → record { answer = r .answer; buffer = before } ≡ settle file runs before
-  figures-refused before t = rw answer-is (settles-refused file runs before (rw answer-is at t))
+  -- stopped: the refusal, and the buffer as it was
+  module _ {cause : Refusal} (stops : r .judgement ≡ Stops cause) where
+    pub refusal-settled : (buffer : List ℕ) → _≡_ {A = Settled} (record { answer = Refused cause; buffer = buffer }) (settle file runs buffer)
+    unfolding settle settledBy _orElse_ refused
+    refusal-settled buffer = rw (sym judged-is ∙ stops) refl
 
-  module _ (passes : stops (r .answer) ≡ false) where
-    pub judged-passes : stops (judged file runs) ≡ false
-    judged-passes = rw (sym answer-is) passes
+    pub refusal-answered : Refused cause ≡ answerOf file runs
+    unfolding answerOf answeredBy
+    refusal-answered = rw (sym judged-is ∙ stops) refl
+
+  -- not stopped: the text of the figures is the sheet
+  module _ (passes : r .judgement ≡ Passes) where
+    judged-passes : judged file runs ≡ Passes
+    judged-passes = sym judged-is ∙ passes
 
     figures-are : r .figures ≡ figuresOf (gridOf (studyOf file)) runs
-    unfolding chargedOf
-    figures-are = ap (λ (x : Charged). x .figures) made ∙ rw judged-passes
+    unfolding chargedOf figuresBy
+    figures-are = ap (λ (x : Charged). x .figures) made ∙ rw judged-passes refl
 
     acceptable : Acceptable file runs
     acceptable = judged-pass file runs .0 judged-passes
@@ -60,25 +69,15 @@ module _ (file : List ℕ) (runs : Runs) (r : Charged) (made : r ≡ chargedOf f
     figures-sized : Sized (r .figures) file
     figures-sized = rw figures-are (case-sized file runs (acceptable .whole) (acceptable .tables .settings))
 
-    -- their text is the sheet
     figures-text : textOf (r .figures) file ≡ sheetOf file runs
     figures-text =
         text-sized (r .figures) file (says-sized (r .figures) file .1 figures-sized)
         ∙ rw figures-are (case-sheet file runs (acceptable .whole) (acceptable .tables .settings))
 
-    module _ (before after : List ℕ) (n : ℕ) (w : Fitted (textOf (r .figures) file) before after n) where
-      sheet-fitted : Fitted (sheetOf file runs) before after n
-      sheet-fitted = rw figures-text at w
+    pub sheet-settled : (before : List ℕ) (s : Settled) → s ≡ settledBy (bufferStage (textOf (r .figures) file) before) (textOf (r .figures) file) before → s ≡ settle file runs before
+    unfolding settle _orElse_
+    sheet-settled before s e = e ∙ rw (figures-text, judged-passes) refl
 
-      -- a buffer that is shorter than the sheet is as it was
-      pub figures-short : length before < n → record { answer = ShortBuffer; buffer = after } ≡ settle file runs before
-      figures-short h =
-          let short : length before < length (sheetOf file runs) = omega (arith, sheet-fitted .answer) in
-          rw (sheet-fitted .buffer, lt-leb (length (sheetOf file runs)) (length before) short) (settles-short file runs before judged-passes short)
-
-      -- another has the sheet at its front
-      pub figures-written : n ≤ length before → record { answer = Accepted n; buffer = after } ≡ settle file runs before
-      figures-written h =
-          let fits : length (sheetOf file runs) ≤ length before = omega (arith, sheet-fitted .answer) in
-          rw (sheet-fitted .answer, sheet-fitted .buffer, le-leb (length (sheetOf file runs)) (length before) fits)
-          (settles-written file runs before judged-passes fits)
+    pub sheet-answered : {n : ℕ} → n ≡ length (textOf (r .figures) file) → Accepted n ≡ answerOf file runs
+    unfolding answerOf answeredBy
+    sheet-answered e = ap Accepted (e ∙ ap length figures-text) ∙ rw judged-passes refl

@@ -70,8 +70,8 @@ ranged S sound = record {
   inZone = inZone;
   weighing = weighing;
   payers = payers;
-  someTec = sound .tecTotal .least;
-  enough = sound .enough;
+  someTec = sound .totals .tecTotal .least;
+  enough = sound .totals .enough;
   p = sound .settings .p;
   constant = sound .settings .constant .most;
   widerFactor = sound .settings .widerFactor .most;
@@ -90,9 +90,9 @@ ranged S sound = record {
     inZone Demand v h = sound .nodes v h .demandZone
 
     weighing : (side : Side) → sum (length (S .nodes)) (weight (gridOf S) side) ≤ 100000000
-    weighing Generation = sound .tecTotal .most
-    weighing Demand = sound .demandTotal .most
+    weighing Generation = sound .totals .tecTotal .most
+    weighing Demand = sound .totals .demandTotal .most
 
     payers : (side : Side) → InRange (totalPaying (gridOf S) side) 1 100000000
-    payers Generation = tec-pays (gridOf S) (sound .tecTotal)
-    payers Demand = demand-pays (gridOf S) (sound .demandTotal)
+    payers Generation = tec-pays (gridOf S) (sound .totals .tecTotal)
+    payers Demand = demand-pays (gridOf S) (sound .totals .demandTotal)

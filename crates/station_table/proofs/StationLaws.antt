@@ -4,9 +4,9 @@ use mathlib.Core.List.{List}
 use mathlib.Core.Bool.{not, _||_}
 use Prim.Native.Nat.{ℕ, _+_, _*_, _≤_, _<_}
 use native.Mathlib.Omega.{arith}
-use lib.ListN.{length, getD}
-use Rattle.meaning.specs.declared.Answer.the-variants.{BadStation}
-use Rattle.meaning.specs.Answers.{passed}
+use lib.ListN.{getD}
+use Rattle.meaning.specs.declared.Refusal.the-variants.{BadStation}
+use Rattle.meaning.specs.declared.Judgement.the-variants.{Passes, Stops}
 use Rattle.meaning.specs.Name.{Name}
 use Rattle.meaning.specs.Study.{station}
 use Rattle.meaning.specs.File.{nameAt, stationAt}
@@ -70,14 +70,14 @@ module _ {file : List ℕ} {nodes count start : ℕ} {k : List ℕ} (told : Told
       (not-and (soundStationRow (readable file .nodes) (stationAt file (start + 32 * i))) (seenEarlier (identifiers file start) i))
 
   module _ {r s : ℕ} (f : IsFirst (unsoundStation file start) count r) (g : IsFirst (seenEarlier (identifiers file start)) count s) where
-    pub station-unsound : r < s → BadStation (r + 1) ≡ stationsStage (readable file)
+    pub station-unsound : r < s → Stops (BadStation (r + 1)) ≡ stationsStage (readable file)
     unfolding stationsStage
     station-unsound h = rw (← told .countIs) (at-first BadStation (first-as station-test (lower-first f g (omega arith))) (omega (arith, g .within)))
 
-    pub station-repeated : s ≤ r → s < count → BadStation (s + 1) ≡ stationsStage (readable file)
+    pub station-repeated : s ≤ r → s < count → Stops (BadStation (s + 1)) ≡ stationsStage (readable file)
     unfolding stationsStage
     station-repeated h l = rw (← told .countIs) (at-first BadStation (first-as station-test (lower-second f g h)) l)
 
-    pub stations-sound : s ≤ r → count ≤ s → passed ≡ stationsStage (readable file)
+    pub stations-sound : s ≤ r → count ≤ s → Passes ≡ stationsStage (readable file)
     unfolding stationsStage
     stations-sound h l = rw (← told .countIs) (at-none BadStation (first-as station-test (lower-second f g h)) l)

@@ -7,7 +7,7 @@ ghost use Rattle.meaning.specs.Tables.{stationsStage};
 ghost use Rattle.layout.specs.Readable.{readable};
 ghost use Rattle.station_table.specs.Columns.{stationsOf};
 ghost use Rattle.station_table.specs.Tec.{tecOf};
-use meaning::Answer;
+use meaning::Judgement;
 use meaning::Kw;
 
 // The number of each station's node, its plant type and TEC.
@@ -23,20 +23,14 @@ pub struct TecColumns {
     pub paying: [Kw; 256],
 }
 
-// The stations, and their TEC added up: names are resolved once for both.
-pub struct CapacityColumns {
-    pub stations: StationColumns,
-    pub tec: TecColumns,
-}
-
 // The table judged, and its TEC added up: names are resolved once for both.
 pub struct JudgedStations {
-    pub answer: Answer,
+    pub judgement: Judgement,
     pub tec: TecColumns,
 }
 
 // The columns of the stations.
-pub fn columns(file: &[u8]) -> StationColumns
+fn columns(file: &[u8]) -> StationColumns
     ensures { λ r. ⌜ r ≡ stationsOf (readable (now (file .entry))) ⌝ }
 {
     let rows = layout::counts(file);
@@ -51,32 +45,19 @@ pub fn columns(file: &[u8]) -> StationColumns
     StationColumns { node, plant, tec }
 }
 
-// The columns of the stations, and the TEC of each node.
-pub fn capacity(file: &[u8]) -> CapacityColumns
-    ensures { λ r. ⌜ (r .stations ≡ stationsOf (readable (now (file .entry)))) × (r .tec ≡ tecOf (readable (now (file .entry)))) ⌝ }
-{
-    let rows = layout::counts(file);
-    let columns = columns(file);
-    let by_type = tec::by_type(columns, rows.nodes, rows.stations);
-    let sums = tec::by_node(by_type);
-    CapacityColumns {
-        stations: columns,
-        tec: sums,
-    }
-}
-
-// 5: the lowest station that is not sound.
+// 5: the lowest station that is not sound; and the TEC of each node.
 pub fn judge(file: &[u8]) -> JudgedStations
-    ensures { λ r. ⌜ (r .answer ≡ stationsStage (readable (now (file .entry)))) × (r .tec ≡ tecOf (readable (now (file .entry)))) ⌝ }
+    ensures { λ r. ⌜ (r .judgement ≡ stationsStage (readable (now (file .entry)))) × (r .tec ≡ tecOf (readable (now (file .entry)))) ⌝ }
 {
     let rows = layout::counts(file);
     let nodes = rows.nodes;
     let circuits = rows.circuits;
-    let capacity = capacity(file);
-    let columns = capacity.stations;
+    let count = rows.stations;
+    let columns = columns(file);
     let node = columns.node;
     let start = 64 + 24 * nodes + 44 * circuits;
-    let answer = row::stage(file, nodes, rows.stations, start, node);
-    let tec = capacity.tec;
-    JudgedStations { answer, tec }
+    let judgement = row::stage(file, nodes, count, start, node);
+    let by_type = tec::by_type(columns, nodes, count);
+    let tec = tec::by_node(by_type);
+    JudgedStations { judgement, tec }
 }

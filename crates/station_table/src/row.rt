@@ -5,7 +5,8 @@ ghost use Rattle.meaning.specs.Tables.{soundStationRow, stationsStage};
 ghost use Rattle.layout.specs.Readable.{readable};
 ghost use Rattle.meaning.specs.First.{IsFirst};
 ghost use Rattle.station_table.specs.Told.{ToldNode, ToldStations, unsoundStation};
-use meaning::Answer;
+use meaning::Judgement;
+use meaning::Refusal;
 
 // Whether the row at a place, with the node that its name has, is sound by itself.
 pub fn sound_row(file: &[u8], at: usize, nodes: usize, node: usize) -> bool
@@ -42,17 +43,17 @@ pub fn first_unsound(
 }
 
 // The stage: the lowest row that is not, or whose identifier is seen earlier.
-pub fn stage(file: &[u8], nodes: usize, count: usize, start: usize, node: [usize; 512]) -> Answer
+pub fn stage(file: &[u8], nodes: usize, count: usize, start: usize, node: [usize; 512]) -> Judgement
     requires { ⌜ ToldStations (now file) nodes count start node ⌝ }
     ensures { λ r. ⌜ r ≡ stationsStage (readable (now (file .entry))) ⌝ }
 {
     let unsound = first_unsound(file, nodes, count, start, node);
     let repeated = names::repeated(file, start as u32, 32, count as u32);
     if unsound < repeated {
-        return Answer::BadStation(unsound + 1);
+        return Judgement::Stops(Refusal::BadStation(unsound + 1));
     }
     if repeated < count {
-        return Answer::BadStation(repeated + 1);
+        return Judgement::Stops(Refusal::BadStation(repeated + 1));
     }
-    Answer::Accepted(0)
+    Judgement::Passes
 }

@@ -1,18 +1,18 @@
 -- 1 to 7: a file that is not whole, runs of another length, and the study of a whole file.
-use mathlib.Core.Path.{_≡_, refl, sym, _∙_}
+use mathlib.Core.Path.{_≡_, refl, _∙_}
 use mathlib.Core.Bool.{true, false, _&&_}
 use mathlib.Core.List.{List}
 use Prim.Native.Nat.{ℕ, _+_, _≤_}
 use native.Mathlib.Omega.{arith}
 use lib.Dec.{eqb}
-use Rattle.meaning.specs.declared.Answer.{Answer}
-use Rattle.meaning.specs.declared.Answer.the-variants.{BadFile}
-use Rattle.meaning.specs.Answers.{values, refusal, stops, passed, _orElse_, unless}
+use Rattle.meaning.specs.declared.Refusal.the-variants.{BadFile}
+use Rattle.meaning.specs.declared.Judgement.{Judgement}
+use Rattle.meaning.specs.declared.Judgement.the-variants.{Stops}
+use Rattle.meaning.specs.Answers.{_orElse_, unless}
 use Rattle.meaning.specs.File.{sectionCount, fileWhole, runsWhole, runsIn}
 use Rattle.meaning.specs.Grid.{gridOf}
 use Rattle.meaning.specs.Outcome.{fileStage, runsStage, rowsStage, gridStage, tablesStage}
 use Rattle.meaning.specs.Conditions.{InRange}
-use Rattle.meaning.proofs.Answers.{passed-passes, orElse-stops, orElse-passes}
 use Rattle.meaning.proofs.Starts as starts
 use Rattle.layout.specs.Readable.{readable}
 use Rattle.layout.proofs.FileLaws.{whole-file}
@@ -20,23 +20,19 @@ use Rattle.layout.proofs.Rows.{readable-whole, counts-are, few}
 use Rattle.tables.specs.declared.read.Read.{Read}
 use Rattle.tables.specs.Reads.{Reads}
 
-bad-stops : (b : Answer) → BadFile orElse b ≡ BadFile
-unfolding stops values refusal
-bad-stops b = orElse-stops BadFile b refl
-
 module _ (file : List ℕ) (base wider local : ℕ) where
-  pub file-stops : fileWhole file ≡ false → BadFile ≡ tablesStage file base wider local
-  unfolding tablesStage fileStage unless
-  file-stops e = rw e (sym (bad-stops _))
+  pub file-stops : fileWhole file ≡ false → Stops BadFile ≡ tablesStage file base wider local
+  unfolding tablesStage fileStage unless _orElse_
+  file-stops e = rw e refl
 
-  pub runs-stop : fileWhole file ≡ true → runsWhole file base wider local ≡ false → BadFile ≡ tablesStage file base wider local
-  unfolding tablesStage fileStage runsStage unless
-  runs-stop e f = rw (e, f) (sym (orElse-passes passed _ passed-passes ∙ bad-stops _))
+  pub runs-stop : fileWhole file ≡ true → runsWhole file base wider local ≡ false → Stops BadFile ≡ tablesStage file base wider local
+  unfolding tablesStage fileStage runsStage unless _orElse_
+  runs-stop e f = rw (e, f) refl
 
-  pub study-decides : {x : Answer} → fileWhole file ≡ true → runsWhole file base wider local ≡ true
+  pub study-decides : {x : Judgement} → fileWhole file ≡ true → runsWhole file base wider local ≡ true
       → x ≡ (rowsStage (readable file) orElse gridStage (gridOf (readable file))) → x ≡ tablesStage file base wider local
-  unfolding tablesStage fileStage runsStage unless
-  study-decides e f g = rw (readable-whole file e) at g ∙ rw (e, f) (sym (orElse-passes passed _ passed-passes ∙ orElse-passes passed _ passed-passes))
+  unfolding tablesStage fileStage runsStage unless _orElse_
+  study-decides e f g = rw (readable-whole file e) at g ∙ rw (e, f) refl
 
 module _ {file : List ℕ} {a : Read} (t : Reads file a) where
   pub few-rows : a .counts .nodes + a .counts .circuits ≤ 768

@@ -1,17 +1,17 @@
 -- 6 and 7 of a study whose rows are sound, over its columns.
-use mathlib.Core.Path.{_≡_, refl, sym, _∙_, ap, ap₂}
+use mathlib.Core.Path.{_≡_, refl, ap, ap₂}
 use mathlib.Core.List.{List}
-use Prim.Native.Nat.{ℕ, _≤_, _<_}
+use Prim.Native.Nat.{ℕ, _<_}
 use native.Mathlib.Omega.{arith}
 use lib.ListN.{length}
 use Rattle.integers.proofs.Sum.{sum-same}
 use Rattle.meaning.specs.declared.Kw.{Kw}
+use Rattle.meaning.specs.declared.Judgement.the-variants.{Passes}
 use Rattle.meaning.specs.Answers.{_orElse_}
 use Rattle.meaning.specs.Columns.{kilowatts, kwAt}
 use Rattle.meaning.specs.Grid.{gridOf, nodeDemand, nodeTec, totalsStage}
 use Rattle.meaning.specs.Network.{reachStage}
 use Rattle.meaning.specs.Outcome.{rowsStage, gridStage}
-use Rattle.meaning.proofs.Answers.{Passes}
 use Rattle.meaning.proofs.Rows.{rows-at}
 use Rattle.meaning.proofs.Tables.{Rowwise, rows-pass}
 use Rattle.totals.proofs.TotalLaws.{same-totals}
@@ -25,7 +25,7 @@ use Rattle.tables.specs.Walk.{endsNetwork}
 use Rattle.tables.proofs.ReachLaws.{ends-walk, ends-stage}
 use Rattle.tables.proofs.ReadLaws.{reference-is}
 
-module _ {file : List ℕ} {a : Read} (t : Reads file a) (p : Passes (rowsStage (readable file))) where
+module _ {file : List ℕ} {a : Read} (t : Reads file a) (p : rowsStage (readable file) ≡ Passes) where
   rowwise : Rowwise (readable file)
   rowwise = rows-pass (readable file) .0 p
 
@@ -53,7 +53,7 @@ module _ {file : List ℕ} {a : Read} (t : Reads file a) (p : Passes (rowsStage 
       let n = a .counts .nodes in
       rw (same-totals n (a .nodes .demand) (a .tec .scaling) (few file (t .counts) .nodes-low), sum-same n _ _ demands, sum-same n _ _ tecs, nodes-are) refl
 
-  pub grid-answer : (reachStage (endsNetwork (endsOf a)) orElse totalsIn a) ≡ gridStage (gridOf (readable file))
+  pub grid-judgement : (reachStage (endsNetwork (endsOf a)) orElse totalsIn a) ≡ gridStage (gridOf (readable file))
   unfolding gridStage
-  grid-answer =
+  grid-judgement =
       ap₂ _orElse_ (ends-stage t rowwise) totals-are

@@ -6,7 +6,7 @@ use mathlib.Core.Option.{Option}
 use Prim.Native.Nat.{ℕ, _<_}
 use native.Mathlib.Omega.{arith}
 use lib.ListN.{getD}
-use Rattle.meaning.specs.declared.Answer.the-variants.{Unreached}
+use Rattle.meaning.specs.declared.Refusal.the-variants.{Unreached}
 use Rattle.meaning.specs.Answers.{at}
 use Rattle.meaning.specs.Rows.{lowest}
 use Rattle.meaning.specs.Study.{circuit}

@@ -1,17 +1,16 @@
 -- What later steps know once nothing among 1 to 7 stops a file.
-use mathlib.Core.Path.{_≡_, refl, sym, _∙_, ap}
-use mathlib.Core.Bool.{true, false}
+use mathlib.Core.Path.{_≡_, refl, sym, _∙_}
+use mathlib.Core.Bool.{true}
 use mathlib.Core.List.{List}
 use Prim.Native.Nat.{ℕ, _+_, _≤_}
 use native.Mathlib.Omega.{arith}
 use lib.ListN.{length}
-use Rattle.meaning.specs.Answers.{stops, values, refusal}
-use Rattle.meaning.specs.Study.{Runs}
+use Rattle.meaning.specs.declared.Judgement.the-variants.{Passes}
 use Rattle.meaning.specs.File.{sectionCount, fileWhole, runsWhole, studyOf, runsIn}
-use Rattle.meaning.specs.Conditions.{InRange, WholeFile, SoundTables}
+use Rattle.meaning.specs.Conditions.{InRange, SoundTables}
 use Rattle.meaning.specs.Grid.{gridOf}
 use Rattle.meaning.specs.Outcome.{fileStage, runsStage, rowsStage, gridStage, tablesStage}
-use Rattle.meaning.proofs.Answers.{Passes, passes-orElse, passes-unless}
+use Rattle.meaning.proofs.Answers.{passes-orElse, passes-unless}
 use Rattle.meaning.proofs.Says.{_also_, says-eq}
 use Rattle.meaning.proofs.Starts as starts
 use Rattle.meaning.proofs.Tables.{sound-pass}
@@ -25,8 +24,8 @@ use Rattle.tables.specs.declared.Opened.{Opened}
 use Rattle.tables.specs.Opens.{Opens}
 
 -- ---- of a file and the lengths of the three runs
-module _ (file : List ℕ) (base wider local : ℕ) (p : Passes (tablesStage file base wider local)) where
-  parts : Passes (fileStage file) × Passes (runsStage file base wider local) × (Passes (rowsStage (studyOf file)) × Passes (gridStage (gridOf (studyOf file))))
+module _ (file : List ℕ) (base wider local : ℕ) (p : tablesStage file base wider local ≡ Passes) where
+  parts : (fileStage file ≡ Passes) × (runsStage file base wider local ≡ Passes) × ((rowsStage (studyOf file) ≡ Passes) × (gridStage (gridOf (studyOf file)) ≡ Passes))
   unfolding tablesStage
   parts =
       let a = passes-orElse _ _ .0 p in
@@ -34,38 +33,15 @@ module _ (file : List ℕ) (base wider local : ℕ) (p : Passes (tablesStage fil
       (a .0, b .0, passes-orElse _ _ .0 (b .1))
 
   pub passes-whole : fileWhole file ≡ true
-  unfolding fileStage stops values refusal
-  passes-whole = passes-unless _ _ refl .0 (parts .0)
+  unfolding fileStage
+  passes-whole = passes-unless _ _ .0 (parts .0)
 
   pub passes-sound : SoundTables (studyOf file)
   passes-sound = sound-pass (studyOf file) .0 (parts .2)
 
   pub passes-runs : ((base ≡ sectionCount file 4) × (wider ≡ sectionCount file 5)) × (local ≡ sectionCount file 6)
-  unfolding runsStage runsWhole stops values refusal
-  passes-runs = (says-eq also says-eq also says-eq) .0 (passes-unless _ _ refl .0 (parts .1))
-
--- ---- the conditions of 1, for three runs
-pub passes-file : (file : List ℕ) (runs : Runs) → Passes (tablesStage file (length (runs .base)) (length (runs .wider)) (length (runs .local)))
-    → WholeFile file runs
-passes-file file runs p =
-    let w = whole-file file (passes-whole file _ _ _ p) in
-    let r = passes-runs file _ _ _ p in
-    record {
-      long = w .long;
-      version = w .version;
-      fileLength = w .fileLength;
-      oneSettings = w .oneSettings;
-      nodes = w .nodes;
-      circuits = w .circuits;
-      stations = w .stations;
-      solutions = w .solutions;
-      chain = w .chain;
-      end = w .end;
-      settingsZero = w .settingsZero;
-      baseRun = r .0 .0;
-      widerRun = r .0 .1;
-      localRun = r .1;
-    }
+  unfolding runsStage runsWhole
+  passes-runs = (says-eq also says-eq also says-eq) .0 (passes-unless _ _ .0 (parts .1))
 
 -- ---- of a file that was opened: its columns are those of its study, which is sound
 pub record SoundOpened (file : List ℕ) (base wider local : ℕ) (o : Opened) : Type 0 where
@@ -86,11 +62,11 @@ pub record SoundOpened (file : List ℕ) (base wider local : ℕ) (o : Opened) :
   pub widerRun : wider ≡ o .counts .nodes + o .counts .circuits
   pub localRun : local ≡ o .counts .nodes + o .counts .circuits
 
-pub opened-sound : {file : List ℕ} {base wider local : ℕ} {o : Opened} → Opens file base wider local o → stops (o .answer) ≡ false
+pub opened-sound : {file : List ℕ} {base wider local : ℕ} {o : Opened} → Opens file base wider local o → o .judgement ≡ Passes
     → SoundOpened file base wider local o
 unfolding countsOf
 opened-sound {file} {base} {wider} {local} {o} t s =
-    let p : Passes (tablesStage file base wider local) = ap stops (sym (t .answer)) ∙ s in
+    let p : tablesStage file base wider local ≡ Passes = sym (t .judgement) ∙ s in
     let h = passes-whole file base wider local p in
     let e = readable-whole file h in
     let w = whole-file file h in

@@ -10,13 +10,13 @@ use lib.Dec.{eqb}
 use lib.ListN.{length, getD, set, replicate, length-set, length-replicate}
 use lib.Seq.{getD-set-same, getD-set-other}
 use borrow.Author.Tests.{eq-eqb, ne-eqb, eqb-true, eqb-false}
-use Rattle.meaning.specs.declared.Answer.the-variants.{Unreached}
-use Rattle.meaning.specs.Answers.{passed}
+use Rattle.meaning.specs.declared.Refusal.the-variants.{Unreached}
+use Rattle.meaning.specs.declared.Judgement.the-variants.{Passes, Stops}
 use Rattle.meaning.specs.First.{IsFirst}
 use Rattle.meaning.specs.Network.{Network, Reached, here, ahead, back, marked, reachedNodes, reachStage}
 use Rattle.meaning.proofs.First.{first-as, at-first, at-none}
 use Rattle.meaning.proofs.Walk.{Placed, reached-is}
-use Rattle.meaning.proofs.Says.{Says, says-as, says-eq, agree}
+use Rattle.meaning.proofs.Says.{says-as, says-eq, agree}
 use Rattle.meaning.proofs.Rows.{below-suc}
 use Rattle.tables.specs.Walk.{Marks, Closed, joined, joins, unmarked, Swept, Walked, unmarkedAt}
 
@@ -255,10 +255,10 @@ module _ {N : Network} (placed : Placed N) {l : List ℕ} (w : Walked N l) where
   marks-say : (v : ℕ) → eqb (getD l v 0) 1 ≡ marked (reachedNodes N) v
   marks-say v = agree _ _ (says-as says-eq (w .marks .reached v, all-marked)) (reached-is N placed v)
 
-  pub node-unreached : {r : ℕ} → IsFirst (unmarkedAt l) (N .nodes) r → r < N .nodes → Unreached (r + 1) ≡ reachStage N
+  pub node-unreached : {r : ℕ} → IsFirst (unmarkedAt l) (N .nodes) r → r < N .nodes → Stops (Unreached (r + 1)) ≡ reachStage N
   unfolding reachStage
   node-unreached f h = at-first Unreached (first-as (λ v k. ap not (marks-say v)) f) h
 
-  pub all-reached : {r : ℕ} → IsFirst (unmarkedAt l) (N .nodes) r → N .nodes ≤ r → passed ≡ reachStage N
+  pub all-reached : {r : ℕ} → IsFirst (unmarkedAt l) (N .nodes) r → N .nodes ≤ r → Passes ≡ reachStage N
   unfolding reachStage
   all-reached f h = at-none Unreached (first-as (λ v k. ap not (marks-say v)) f) h

@@ -1,4 +1,4 @@
--- What the contracts of `tables` cite beside `meaning`, `layout`, `totals`, `columns` and `rows`.
+-- What the contracts of `tables` cite beside `meaning`, `layout`, `totals` and the three tables' crates.
 pub mod Walk
 pub mod Reads
 pub mod Opens

@@ -12,7 +12,7 @@ use Rattle.tables.specs.declared.Opened.{Opened}
 
 -- of a file, and the lengths of the three runs
 pub record Opens (file : List ℕ) (base wider local : ℕ) (o : Opened) : Type 0 where
-  pub answer : o .answer ≡ tablesStage file base wider local
+  pub judgement : o .judgement ≡ tablesStage file base wider local
   pub counts : o .counts ≡ countsOf (readable file)
   pub settings : settingsIn (o .settings) ≡ readable file .settings
   pub nodes : o .nodes ≡ nodesOf (readable file)

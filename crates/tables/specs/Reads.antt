@@ -2,8 +2,8 @@
 use mathlib.Core.Path.{_≡_}
 use mathlib.Core.List.{List}
 use Prim.Native.Nat.{ℕ, _-_, _≤_}
-use Rattle.meaning.specs.declared.Answer.{Answer}
-use Rattle.meaning.specs.declared.Answer.the-variants.{BadTotal}
+use Rattle.meaning.specs.declared.Judgement.{Judgement}
+use Rattle.meaning.specs.declared.Refusal.the-variants.{BadTotal}
 use Rattle.meaning.specs.declared.Kw.{Kw}
 use Rattle.meaning.specs.Answers.{unless}
 use Rattle.meaning.specs.Grid.{soundTotals}
@@ -40,10 +40,10 @@ endsOf a =
     }
 
 -- 7, of the columns of n nodes
-abbrev pub totalsOf : (n : ℕ) (demand tec : List Kw) → Answer
+abbrev pub totalsOf : (n : ℕ) (demand tec : List Kw) → Judgement
 totalsOf n demand tec = unless (soundTotals (totalOf n demand .0) (totalOf n tec .0)) BadTotal
 
-abbrev pub totalsIn : Read → Answer
+abbrev pub totalsIn : Read → Judgement
 totalsIn a = totalsOf (a .counts .nodes) (a .nodes .demand) (a .tec .scaling)
 
 -- what 6 is told: rows that are sound

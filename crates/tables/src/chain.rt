@@ -1,10 +1,12 @@
-// The stages in 01's order: what stops first is the answer.
+// The stages in 01's order: what stops first is the judgement.
 use crate::reach;
 use crate::reach::Ends;
 use crate::read::Read;
 use crate::settings;
-use meaning::Answer;
+use answers::or_else;
+use meaning::Judgement;
 use meaning::Kw;
+use meaning::Refusal;
 ghost use mathlib.Core.Path.{_≡_};
 ghost use mathlib.Core.Bool.{_&&_};
 ghost use lib.Dec.{eqb};
@@ -16,18 +18,8 @@ ghost use Rattle.layout.specs.Readable.{readable};
 ghost use Rattle.tables.specs.Reads.{Reads, SoundRows, endsOf, totalsOf, totalsIn};
 ghost use Rattle.tables.specs.Walk.{endsNetwork};
 
-// The first answer where it is a refusal, else the second.
-pub fn or_else(first: Answer, second: Answer) -> Answer
-    ensures { λ r. ⌜ r ≡ first orElse second ⌝ }
-{
-    if answers::is_refusal(first) {
-        return first;
-    }
-    second
-}
-
 // 2 to 5.
-pub fn rows_stage(file: &[u8], all: Read) -> Answer
+pub fn rows_stage(file: &[u8], all: Read) -> Judgement
     requires { ⌜ Reads (now file) all ⌝ }
     ensures { λ r. ⌜ r ≡ rowsStage (readable (now (file .entry))) ⌝ }
 {
@@ -62,17 +54,17 @@ pub fn ends(all: Read) -> Ends
 }
 
 // 7: a total out of its range, or less TEC than demand.
-pub fn totals_stage(n: usize, demand: [Kw; 256], tec: [Kw; 256]) -> Answer
+pub fn totals_stage(n: usize, demand: [Kw; 256], tec: [Kw; 256]) -> Judgement
     ensures { λ r. ⌜ r ≡ totalsOf n demand tec ⌝ }
 {
     if totals::sound(totals::total(n, demand), totals::total(n, tec)) {
-        return Answer::Accepted(0);
+        return Judgement::Passes;
     }
-    Answer::BadTotal
+    Judgement::Stops(Refusal::BadTotal)
 }
 
 // 6 and 7.
-pub fn grid_stage(all: Read) -> Answer
+pub fn grid_stage(all: Read) -> Judgement
     requires { ⌜ SoundRows all ⌝ }
     ensures { λ r. ⌜ r ≡ (reachStage (endsNetwork (endsOf all)) orElse totalsIn all) ⌝ }
 {
@@ -88,15 +80,15 @@ pub fn grid_stage(all: Read) -> Answer
 }
 
 // 2 to 7.
-pub fn study_stage(file: &[u8], all: Read) -> Answer
+pub fn study_stage(file: &[u8], all: Read) -> Judgement
     requires { ⌜ Reads (now file) all ⌝ }
     ensures { λ r. ⌜ r ≡ (rowsStage (readable (now (file .entry))) orElse gridStage (gridOf (readable (now (file .entry))))) ⌝ }
 {
-    let unsound = rows_stage(file, all);
-    if answers::is_refusal(unsound) {
-        return unsound;
+    let rows = rows_stage(file, all);
+    match rows {
+        Judgement::Passes => grid_stage(all),
+        Judgement::Stops(cause) => Judgement::Stops(cause),
     }
-    grid_stage(all)
 }
 
 // Whether the three runs have this length.
@@ -107,7 +99,7 @@ pub fn same_lengths(base: usize, wider: usize, local: usize, count: usize) -> bo
 }
 
 // 1 to 7.
-pub fn tables_stage(file: &[u8], base: usize, wider: usize, local: usize, all: Read) -> Answer
+pub fn tables_stage(file: &[u8], base: usize, wider: usize, local: usize, all: Read) -> Judgement
     requires { ⌜ Reads (now file) all ⌝ }
     ensures { λ r. ⌜ r ≡ tablesStage (now (file .entry)) base wider local ⌝ }
 {
@@ -116,7 +108,7 @@ pub fn tables_stage(file: &[u8], base: usize, wider: usize, local: usize, all: R
         if same_lengths(base, wider, local, counts.nodes + counts.circuits) {
             return study_stage(file, all);
         }
-        return Answer::BadFile;
+        return Judgement::Stops(Refusal::BadFile);
     }
-    Answer::BadFile
+    Judgement::Stops(Refusal::BadFile)
 }

@@ -4,19 +4,17 @@ mod reach;
 mod read;
 mod settings;
 
-ghost use mathlib.Core.Path.{_≡_};
-ghost use Rattle.meaning.specs.Outcome.{tablesStage};
 ghost use Rattle.tables.specs.Opens.{Opens};
 use circuit_table::CircuitColumns;
 use layout::RowCounts;
 use layout::StudySettings;
-use meaning::Answer;
+use meaning::Judgement;
 use node_table::NodeColumns;
 use station_table::TecColumns;
 
 // A case file opened: what stops it first among 1 to 7, and its columns.
 pub struct Opened {
-    pub answer: Answer,
+    pub judgement: Judgement,
     pub counts: RowCounts,
     pub settings: StudySettings,
     pub nodes: NodeColumns,
@@ -29,25 +27,18 @@ pub fn open(file: &[u8], base: usize, wider: usize, local: usize) -> Opened
     ensures { λ r. ⌜ Opens (now (file .entry)) base wider local r ⌝ }
 {
     let all = read::tables(file);
-    let answer = chain::tables_stage(file, base, wider, local, all);
+    let judgement = chain::tables_stage(file, base, wider, local, all);
     let counts = all.counts;
     let settings = all.settings;
     let nodes = all.nodes;
     let circuits = all.circuits;
     let tec = all.tec;
     Opened {
-        answer,
+        judgement,
         counts,
         settings,
         nodes,
         circuits,
         tec,
     }
-}
-
-// What stops a file first among 1 to 7, with the lengths of the three runs.
-pub fn judge(file: &[u8], base: usize, wider: usize, local: usize) -> Answer
-    ensures { λ r. ⌜ r ≡ tablesStage (now (file .entry)) base wider local ⌝ }
-{
-    chain::tables_stage(file, base, wider, local, read::tables(file))
 }

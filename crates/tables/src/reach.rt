@@ -5,7 +5,8 @@ ghost use lib.ListN.{length};
 ghost use Rattle.meaning.specs.Network.{reachStage};
 ghost use Rattle.meaning.specs.First.{IsFirst};
 ghost use Rattle.tables.specs.Walk.{endsNetwork, Marks, joined, joins, Swept, Walked, Walks, unmarkedAt};
-use meaning::Answer;
+use meaning::Judgement;
+use meaning::Refusal;
 
 // What is walked: how many nodes and circuits, the node where the walk begins, the numbers of each circuit's end nodes.
 pub struct Ends {
@@ -71,7 +72,7 @@ pub fn first_unmarked(marks: &[u8], nodes: usize) -> usize
 }
 
 // The stage: the lowest node that no walk reaches.
-pub fn stage(ends: Ends) -> Answer
+pub fn stage(ends: Ends) -> Judgement
     requires { ⌜ Walks ends ⌝ }
     ensures { λ r. ⌜ r ≡ reachStage (endsNetwork ends) ⌝ }
 {
@@ -81,7 +82,7 @@ pub fn stage(ends: Ends) -> Answer
     spread(&mut marks, ends);
     let row = first_unmarked(&marks, ends.nodes);
     if row < ends.nodes {
-        return Answer::Unreached(row + 1);
+        return Judgement::Stops(Refusal::Unreached(row + 1));
     }
-    Answer::Accepted(0)
+    Judgement::Passes
 }

@@ -3,7 +3,7 @@ ghost use Rattle.tables.specs.Reads.{Reads};
 use circuit_table::CircuitColumns;
 use layout::RowCounts;
 use layout::StudySettings;
-use meaning::Answer;
+use meaning::Judgement;
 use node_table::NodeColumns;
 use station_table::TecColumns;
 
@@ -14,8 +14,8 @@ pub struct Read {
     pub nodes: NodeColumns,
     pub circuits: CircuitColumns,
     pub tec: TecColumns,
-    pub circuit: Answer,
-    pub station: Answer,
+    pub circuit: Judgement,
+    pub station: Judgement,
 }
 
 // All that the judgement needs of a file.
@@ -27,10 +27,10 @@ pub fn tables(file: &[u8]) -> Read
     let nodes = node_table::columns(file);
     let judged = circuit_table::judge(file);
     let circuits = judged.columns;
-    let circuit = judged.answer;
+    let circuit = judged.judgement;
     let summed = station_table::judge(file);
     let tec = summed.tec;
-    let station = summed.answer;
+    let station = summed.judgement;
     Read {
         counts,
         settings,

@@ -5,7 +5,8 @@ ghost use Rattle.meaning.specs.Rows.{_between_and_};
 ghost use Rattle.meaning.specs.Tables.{soundScales, soundSettings};
 ghost use Rattle.layout.specs.Frame.{settingsIn};
 use layout::StudySettings;
-use meaning::Answer;
+use meaning::Judgement;
+use meaning::Refusal;
 
 // Whether a number is in a range, both ends in it.
 pub fn between(x: usize, low: usize, high: usize) -> bool
@@ -42,11 +43,11 @@ pub fn sound(s: StudySettings, nodes: usize) -> bool
 }
 
 // The stage: a setting out of its range.
-pub fn stage(s: StudySettings, nodes: usize) -> Answer
-    ensures { λ r. ⌜ r ≡ unless (soundSettings nodes (settingsIn s)) Answer.BadSetting ⌝ }
+pub fn stage(s: StudySettings, nodes: usize) -> Judgement
+    ensures { λ r. ⌜ r ≡ unless (soundSettings nodes (settingsIn s)) Refusal.BadSetting ⌝ }
 {
     if sound(s, nodes) {
-        return Answer::Accepted(0);
+        return Judgement::Passes;
     }
-    Answer::BadSetting
+    Judgement::Stops(Refusal::BadSetting)
 }

@@ -1,4 +1,4 @@
--- 01, The sheet, of figures that are computed: the shape of meaning's `zoneLines` and `sheet`, from the tables of a struct.
+-- 01, The sheet, of any figures, whether or not a case has them: the shape of meaning's `zoneLines` and `sheet`, from the tables of a struct.
 use mathlib.Core.Bool.{Bool, cond, _&&_}
 use mathlib.Core.List.{List, [], _++_}
 use Prim.Native.Nat.{ℕ, suc, _+_, _*_, _≤_}
@@ -26,7 +26,7 @@ nodeTexts nodes local names = joined nodes (λ v. localText (names v) (getD loca
 unfoldable pub localTexts : Figures → (names : ℕ → List ℕ) → List ℕ
 localTexts f names = nodeTexts (f .nodes) (f .local) names
 
--- the sheet: `C`; `G` lines; `D` lines; `L` lines; `R`
+-- in the sheet's order: `C`; `G` lines; `D` lines; `L` lines; `R`
 unfoldable pub sheetText : Figures → (names : ℕ → List ℕ) → List ℕ
 sheetText f names =
     constantText (f .c)

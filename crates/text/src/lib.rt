@@ -1,36 +1,37 @@
-// The text of a sheet's figures, and the line of a refusal, written into a lent buffer: all of it, or nothing.
+// The text of figures, and the line of a refusal, written into a lent buffer: all of it, or nothing.
 mod put;
 mod sections;
 
 ghost use Rattle.text.specs.SheetText.{textOf};
 ghost use Rattle.text.specs.Writing.{Fitted};
 ghost use Rattle.text.specs.Refusing.{Refuses};
-use meaning::Answer;
 use meaning::Figures;
+use meaning::Refusal;
 
 // Writes the text of figures at the front of a buffer that holds it; a shorter one is left as it is. The length is that of the text.
-// It is written aside first, into room for any.
-pub fn write_sheet(figures: Figures, file: &[u8], out: &mut [u8]) -> usize
+// These are any figures, whether or not a case has them: that they are those of the case in the file is what `sheet::write` promises.
+// The text is made aside first, in room for any.
+pub fn write_figures(figures: Figures, file: &[u8], out: &mut [u8]) -> usize
     ensures { λ r. ⌜ Fitted (textOf figures (now (file .entry))) (now (out .entry)) (now (out .exit)) r ⌝ }
 {
     if sections::sized(figures, file) {
-        let mut sheet = [0u8; 22851];
-        let length = sections::put_sheet(&mut sheet, figures, file);
+        let mut aside = [0u8; 22851];
+        let length = sections::put_figures(&mut aside, figures, file);
         if out.len() < length {
             return length;
         }
-        return put::put_bytes(out, 0, &sheet[0..length]);
+        return put::put_bytes(out, 0, &aside[0..length]);
     }
     0
 }
 
 // Writes the line of a refusal at the front of a buffer of at least 96 bytes, which holds any; a shorter one is left as it is, and the length is then 0.
-pub fn refuse(answer: Answer, out: &mut [u8]) -> usize
-    ensures { λ r. ⌜ Refuses answer (now (out .entry)) (now (out .exit)) r ⌝ }
+pub fn refuse(cause: Refusal, out: &mut [u8]) -> usize
+    ensures { λ r. ⌜ Refuses cause (now (out .entry)) (now (out .exit)) r ⌝ }
 {
     if out.len() < 96 {
         return 0;
     }
-    let carried = answers::values(answer);
+    let carried = answers::of_refusal(cause);
     put::put_line(out, 0, lines::refused_line(carried))
 }

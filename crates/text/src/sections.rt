@@ -1,4 +1,4 @@
-// The sections of a sheet that have a line for each zone or node, and the sheet.
+// The sections of figures' text that have a line for each zone or node, and the text.
 use crate::put::put_line;
 use meaning::Figures;
 use meaning::LocalFigures;
@@ -48,8 +48,8 @@ pub fn put_nodes(
     at
 }
 
-// The sheet, at the front of the buffer; answers its length.
-pub fn put_sheet(out: &mut [u8], figures: Figures, file: &[u8]) -> usize
+// The text of figures, at the front of the buffer; answers its length.
+pub fn put_figures(out: &mut [u8], figures: Figures, file: &[u8]) -> usize
     requires { ⌜ Sized figures (now file) × (22851 ≤ length (now out)) ⌝ }
     ensures { λ r. ⌜ Put 22851 (now (out .entry)) 0 (sheetText figures (nameOf (now (file .entry)))) (now (out .exit)) r ⌝ }
 {

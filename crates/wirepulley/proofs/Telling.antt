@@ -8,7 +8,7 @@ use borrow.Author.Tests.{le-leb, lt-leb}
 use Rattle.meaning.specs.declared.Answer.{Answer}
 use Rattle.meaning.specs.declared.Values.{Values}
 use Rattle.meaning.specs.Answers.{values}
-use Rattle.wirepulley.specs.Tells.{Tells, told}
+use Rattle.meaning.specs.Calls.{Tells, told}
 
 module _ (v : Values) (buffer : List ℕ) where
   four-told : 4 ≤ length buffer → set (set (set (set buffer 0 (v .number)) 1 (v .system)) 2 (v .row)) 3 (v .length) ≡ told v buffer

@@ -1,8 +1,7 @@
 // The library as C and Rust call it: a slice is a pointer and a count there, and an answer is numbers.
-ghost use mathlib.Core.Path.{_≡_};
-ghost use Rattle.meaning.specs.Outcome.{judged, settle};
-ghost use Rattle.proposal.specs.Judges.{runsOf};
-ghost use Rattle.wirepulley.specs.Tells.{Tells};
+ghost use Rattle.meaning.specs.Study.{runsOf};
+ghost use Rattle.meaning.specs.Outcome.{answerOf};
+ghost use Rattle.meaning.specs.Calls.{Tells, ToldKept};
 use meaning::Answer;
 
 // Writes an answer's four numbers at the front of a buffer of four or more; a shorter one is left as it is. Gives the first of them.
@@ -29,14 +28,13 @@ pub extern "C" fn wirepulley_write(
     out: &mut [u8],
     numbers: &mut [u64],
 ) -> u64
-    ensures answer { λ r. ⌜ Tells (settle (now (file .entry)) (runsOf (now (base .entry)) (now (wider .entry)) (now (local .entry))) (now (out .entry)) .answer) (now (numbers .entry)) (now (numbers .exit)) r ⌝ }
-    ensures buffer { λ _. ⌜ now (out .exit) ≡ settle (now (file .entry)) (runsOf (now (base .entry)) (now (wider .entry)) (now (local .entry))) (now (out .entry)) .buffer ⌝ }
+    ensures { λ r. ⌜ ToldKept (record { file = now (file .entry); runs = runsOf (now (base .entry)) (now (wider .entry)) (now (local .entry)); before = now (out .entry); numbersBefore = now (numbers .entry); result = r; after = now (out .exit); numbersAfter = now (numbers .exit) }) ⌝ }
 {
     let answer = sheet::write(file, base, wider, local, out);
     tell(answer, numbers)
 }
 
-// Judges a case without its sheet: the first of 1 to 11 that stops it, or 0 with length 0.
+// Judges a case for a caller without a buffer: what `wirepulley_write` answers with room enough, the sheet's length included.
 #[no_mangle]
 pub extern "C" fn wirepulley_judge(
     file: &[u8],
@@ -45,8 +43,8 @@ pub extern "C" fn wirepulley_judge(
     local: &[i64],
     numbers: &mut [u64],
 ) -> u64
-    ensures { λ r. ⌜ Tells (judged (now (file .entry)) (runsOf (now (base .entry)) (now (wider .entry)) (now (local .entry)))) (now (numbers .entry)) (now (numbers .exit)) r ⌝ }
+    ensures { λ r. ⌜ Tells (answerOf (now (file .entry)) (runsOf (now (base .entry)) (now (wider .entry)) (now (local .entry)))) (now (numbers .entry)) (now (numbers .exit)) r ⌝ }
 {
-    let answer = proposal::judge(file, base, wider, local);
+    let answer = sheet::judge(file, base, wider, local);
     tell(answer, numbers)
 }

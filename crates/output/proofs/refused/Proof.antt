@@ -11,7 +11,7 @@ refuse-requires : tie.Need-refuse-requires
 refuse-requires c κs = search needs
 
 returns : tie.Need-returns
-returns c = printed-refusal (c .before .before .before .args .answer) _ _ (c .before .refuse .ensures)
+returns c = printed-refusal (c .before .before .before .args .cause) _ _ (c .before .refuse .ensures)
 
 pub refused-spec : {M : Type 1} → statement M
 refused-spec = tie.close (tie.spec slice-aggregate-refuse refuse-requires returns)

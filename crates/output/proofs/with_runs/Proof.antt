@@ -2,15 +2,19 @@
 use mathlib.Core.Path.{_≡_, subst}
 use mathlib.Core.List.{List}
 use Prim.Native.Nat.{ℕ}
-use native.Mathlib.Omega.{arith}
 use Rattle.meaning.specs.Study.{Runs}
 use Rattle.meaning.specs.File.{runsIn}
 use Rattle.meaning.specs.Outcome.{Settled, settle}
-use Rattle.output.specs.Printing.{Prints}
+use Rattle.meaning.specs.Calls.{Prints}
 use Rattle.output.proofs.Printing.{zeros, refusal-printed, sheet-printed}
 use borrow.Author.Needs.{needs}
 use Rattle.output.proofs.with_runs.Statement.{statement}
 use Rattle.output.proofs.with_runs.Tie as tie
+
+-- with the file's own runs
+settled : (w : tie.After-write)
+    → _≡_ {A = Settled} (record { answer = w .write .result; buffer = w .write .last .1 .1 .1 .1 .0 }) (settle (w .before .before .before .args .file .now) (runsIn (w .before .before .before .args .file .now)) zeros)
+settled w = subst (λ (r : Runs). _≡_ {A = Settled} (record { answer = w .write .result; buffer = w .write .last .1 .1 .1 .1 .0 }) (settle (w .before .before .before .args .file .now) r zeros)) (w .before .before .before .pre) (w .write .ensures .contract)
 
 slice-aggregate-write : tie.Need-slice-aggregate-write
 slice-aggregate-write c = search needs
@@ -18,32 +22,26 @@ slice-aggregate-write c = search needs
 write-requires : tie.Need-write-requires
 write-requires c κs = search needs
 
-values-requires : tie.Need-values-requires
-values-requires c κs = search needs
+enum-known-answer : tie.Need-enum-known-answer
+enum-known-answer c = search needs
 
 refused-requires : tie.Need-refused-requires
 refused-requires c κs = search needs
 
--- with the file's own runs
-settled : (w : tie.After-write)
-    → _≡_ {A = Settled} (record { answer = w .write .result; buffer = w .write .last .1 .1 .1 .1 .0 }) (settle (w .before .before .before .args .file .now) (runsIn (w .before .before .before .args .file .now)) zeros)
-settled w = subst (λ (r : Runs). _≡_ {A = Settled} (record { answer = w .write .result; buffer = w .write .last .1 .1 .1 .1 .0 }) (settle (w .before .before .before .args .file .now) r zeros)) (w .before .before .before .pre) (w .write .ensures)
+enum-known-answer-2 : tie.Need-enum-known-answer-2
+enum-known-answer-2 c = search needs
 
 returns : tie.Need-returns
 returns c =
-    let v = c .before .before .before in
-    let w = v .before .before in
-    let s = w .before .before .before in
+    let w = c .before .before .before .before .before in
     subst (λ (t : List ℕ). Prints t (c .refused .result))
-    (refusal-printed (s .args .file .now) (w .write .result) _ (settled w) (v .values .result) (v .values .ensures) (omega (arith, c .before .if1 .taken)))
+    (refusal-printed (w .before .before .before .args .file .now) (w .write .result) _ (settled w) (c .before .before .answer .given .1))
     (c .refused .ensures)
 
 returns-2 : tie.Need-returns-2
 returns-2 c =
-    let v = c .before .before in
-    let w = v .before .before in
-    let s = w .before .before .before in
-    sheet-printed (s .args .file .now) (w .write .result) _ (settled w) (v .values .result) (v .values .ensures) (λ h. omega (arith, h, c .if1 .left))
+    let w = c .before .before .before .before in
+    sheet-printed (w .before .before .before .args .file .now) (w .write .result) _ (settled w) (c .before .answer2 .given .1)
 
 pub with-runs-spec : {M : Type 1} → statement M
 with-runs-spec =
@@ -51,7 +49,8 @@ with-runs-spec =
     (tie.spec
     slice-aggregate-write
     write-requires
-    values-requires
+    enum-known-answer
     refused-requires
+    enum-known-answer-2
     returns
     returns-2)

@@ -1,16 +1,17 @@
+-- `proposal::open` meets its contract: the tables' judgement where they stop the case, else the proposals'.
 use mathlib.Core.List.{List}
 use Prim.Native.Nat.{ℕ}
-use Rattle.meaning.specs.Study.{Runs}
+use Rattle.meaning.specs.Study.{Runs, runsOf}
 use Rattle.tables.specs.declared.Opened.{Opened}
-use Rattle.proposal.specs.Judges.{runsOf}
 use Rattle.proposal.proofs.Opening.{tables-stop, passed-reference, passed-judgeable, proposals-decide}
+use borrow.Author.Needs.{needs}
 use Rattle.proposal.proofs.open.Statement.{statement}
 use Rattle.proposal.proofs.open.Tie as tie
 
 -- the file, the runs, and what the tables' judge gave of them
-module _ (c : tie.After-is-refusal) where
+module _ (c : tie.After-open) where
   abbrev s : tie.Start
-  s = c .before .before .before
+  s = c .before .before
 
   abbrev bytes : List ℕ
   bytes = s .args .file .now
@@ -19,48 +20,52 @@ module _ (c : tie.After-is-refusal) where
   runs = runsOf (s .args .base .now) (s .args .wider .now) (s .args .local .now)
 
   abbrev read : Opened
-  read = c .before .«open» .result
+  read = c .«open» .result
 
 open-requires : tie.Need-open-requires
-open-requires c κs = tt
+open-requires c κs = search needs
 
-is-refusal-requires : tie.Need-is-refusal-requires
-is-refusal-requires c κs = tt
+enum-told : tie.Need-enum-told
+enum-told c = search needs
 
-returns : tie.Need-returns
-returns c =
-    let a = c .before in
-    tables-stop (bytes a) (runs a) (read a) (a .before .«open» .ensures) _ (a .is-refusal .ensures) (c .if1 .taken)
+enum-told-2 : tie.Need-enum-told-2
+enum-told-2 c = search needs
 
 case-of-requires : tie.Need-case-of-requires
 case-of-requires c κs =
-    let a = c .before in
-    passed-reference (bytes a) (runs a) (read a) (a .before .«open» .ensures) _ (a .is-refusal .ensures) (c .if1 .left)
+    let a = c .before .before in
+    passed-reference (bytes a) (runs a) (read a) (a .«open» .ensures) (c .enum-told2 .given .1)
 
 proposals-requires : tie.Need-proposals-requires
 proposals-requires c κs =
     let d = c .before in
-    let a = d .before in
-    passed-judgeable (bytes a) (runs a) (read a) (a .before .«open» .ensures) _ (a .is-refusal .ensures) (d .if1 .left) _ (c .case-of .ensures)
+    let a = d .before .before in
+    passed-judgeable (bytes a) (runs a) (read a) (a .«open» .ensures) (d .enum-told2 .given .1) _ (c .case-of .ensures)
 
-with-answer-requires : tie.Need-with-answer-requires
-with-answer-requires c κs = tt
+with-judgement-requires : tie.Need-with-judgement-requires
+with-judgement-requires c κs = search needs
+
+returns : tie.Need-returns
+returns c =
+    let a = c .before .before in
+    tables-stop (bytes a) (runs a) (read a) (a .«open» .ensures) (c .enum-told .given .1)
 
 returns-2 : tie.Need-returns-2
 returns-2 c =
     let p = c .before in
     let d = p .before .before in
-    let a = d .before in
-    proposals-decide (bytes a) (runs a) (read a) (a .before .«open» .ensures) _ (a .is-refusal .ensures) (d .if1 .left) _ (p .before .case-of .ensures) _ (p .proposals .ensures) _ (c .with-answer .ensures)
+    let a = d .before .before in
+    proposals-decide (bytes a) (runs a) (read a) (a .«open» .ensures) (d .enum-told2 .given .1) _ (p .before .case-of .ensures) _ (p .proposals .ensures) _ (c .with-judgement .ensures)
 
 pub open-spec : {M : Type 1} → statement M
 open-spec =
     tie.close
     (tie.spec
     open-requires
-    is-refusal-requires
-    returns
+    enum-told
+    enum-told-2
     case-of-requires
     proposals-requires
-    with-answer-requires
+    with-judgement-requires
+    returns
     returns-2)

@@ -50,7 +50,7 @@ part-write-all-start : tie.Need-part-write-all-start
 part-write-all-start c = search needs
 
 part-write-all-end : tie.Need-part-write-all-end
-part-write-all-end c = printed-inside _ _ (c .before .before .before .print .ensures)
+part-write-all-end c = printed-inside _ _ (c .before .before .print .ensures)
 
 write-all-requires : tie.Need-write-all-requires
 write-all-requires c κs = search needs

@@ -1,14 +1,9 @@
--- `sheet::write` meets its contract: a refusal, a short buffer, or the sheet written at the front of the buffer.
-use mathlib.Core.Path.{_≡_, sym, _∙_}
-use mathlib.Core.Bool.{false}
+-- `sheet::write` meets its contract: a refusal, or what the text of its figures settles.
 use mathlib.Core.List.{List}
 use Prim.Native.Nat.{ℕ}
-use native.Mathlib.Omega.{arith}
+use Rattle.meaning.specs.Study.{Runs, runsOf}
+use Rattle.sheet.proofs.Settles.{refusal-settled, sheet-settled}
 use borrow.Author.Needs.{needs}
-use Rattle.meaning.specs.Study.{Runs}
-use Rattle.meaning.specs.Answers.{stops}
-use Rattle.proposal.specs.Judges.{runsOf}
-use Rattle.sheet.proofs.Settles.{figures-refused, figures-written, figures-short}
 use Rattle.sheet.proofs.write.Statement.{statement}
 use Rattle.sheet.proofs.write.Tie as tie
 
@@ -28,50 +23,38 @@ module _ (p : tie.After-charge) where
 charge-requires : tie.Need-charge-requires
 charge-requires c κs = search needs
 
-is-refusal-requires : tie.Need-is-refusal-requires
-is-refusal-requires c κs = search needs
+enum-known-judgement : tie.Need-enum-known-judgement
+enum-known-judgement c = search needs
+
+enum-told : tie.Need-enum-told
+enum-told c = search needs
+
+written-requires : tie.Need-written-requires
+written-requires c κs = search needs
 
 returns : tie.Need-returns
 returns c =
-    let p = c .before .before in
-    figures-refused (file p) (runs p) (p .charge .result) (p .charge .ensures) (out p) (sym (c .before .is-refusal .ensures) ∙ c .if1 .taken)
-
--- nothing stops the case
-passes : (e : tie.Else1) → stops (e .before .before .charge .result .answer) ≡ false
-passes e = sym (e .before .is-refusal .ensures) ∙ e .if1 .left
-
-write-sheet-requires : tie.Need-write-sheet-requires
-write-sheet-requires c κs = search needs
+    let p = c .before .before .before in
+    record { contract = refusal-settled (file p) (runs p) (p .charge .result) (p .charge .ensures) (c .before .judgement .given .1) (out p) }
 
 same-length : tie.Need-same-length
 same-length c = search needs
 
 returns-2 : tie.Need-returns-2
 returns-2 c =
-    let w = c .before .before .before in
+    let w = c .before .before in
     let e = w .before .before in
     let p = e .before .before in
-    figures-short (file p) (runs p) (p .charge .result) (p .charge .ensures) (passes e) (out p) _ _ (w .write-sheet .ensures) (omega (arith, c .if2 .taken, w .write-sheet .kept))
-
-same-length-2 : tie.Need-same-length-2
-same-length-2 c = search needs
-
-returns-3 : tie.Need-returns-3
-returns-3 c =
-    let w = c .before .before .before in
-    let e = w .before .before in
-    let p = e .before .before in
-    figures-written (file p) (runs p) (p .charge .result) (p .charge .ensures) (passes e) (out p) _ _ (w .write-sheet .ensures) (omega (arith, c .if2 .left, w .write-sheet .kept))
+    record { contract = sheet-settled (file p) (runs p) (p .charge .result) (p .charge .ensures) (e .enum-told .given .1) (out p) _ (w .written .ensures) }
 
 pub write-spec : {M : Type 1} → statement M
 write-spec =
     tie.close
     (tie.spec
     charge-requires
-    is-refusal-requires
+    enum-known-judgement
+    enum-told
+    written-requires
     returns
-    write-sheet-requires
     same-length
-    returns-2
-    same-length-2
-    returns-3)
+    returns-2)

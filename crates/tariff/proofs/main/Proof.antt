@@ -13,12 +13,6 @@ slice-aggregate-read-full c = search needs
 read-full-requires : tie.Need-read-full-requires
 read-full-requires c κs = search needs
 
-array-share-prefix-input : tie.Need-array-share-prefix-input
-array-share-prefix-input c = search needs
-
-slice-aggregate-print : tie.Need-slice-aggregate-print
-slice-aggregate-print c = search needs
-
 print-requires : tie.Need-print-requires
 print-requires c κs = search needs
 
@@ -44,8 +38,6 @@ main-spec =
     large-buffer-requires
     slice-aggregate-read-full
     read-full-requires
-    array-share-prefix-input
-    slice-aggregate-print
     print-requires
     sub-write-all
     part-write-all-start

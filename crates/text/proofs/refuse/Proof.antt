@@ -11,8 +11,8 @@ use Rattle.text.proofs.refuse.Tie as tie
 returns : tie.Need-returns
 returns c = record { long = λ h. absurd (omega (arith, h, c .if1 .taken)); short = λ h. (refl, refl) }
 
-values-requires : tie.Need-values-requires
-values-requires c κs = search needs
+of-refusal-requires : tie.Need-of-refusal-requires
+of-refusal-requires c κs = search needs
 
 refused-line-requires : tie.Need-refused-line-requires
 refused-line-requires c κs = search needs
@@ -31,7 +31,7 @@ returns-2 c =
     let s = v .before .before .before in
     let line = copied (l .refused-line .result) (l .refused-line .ensures) (omega arith) (p .put-line .ensures) in
     record {
-      long = λ h. refused-written (s .args .answer) (v .values .result) (s .args .out .now) _ _ (v .values .ensures) (written line (omega (arith, h)));
+      long = λ h. refused-written (s .args .cause) (v .of-refusal .result) (s .args .out .now) _ _ (v .of-refusal .ensures) (written line (omega (arith, h)));
       short = λ h. absurd (omega (arith, h, v .before .if1 .left));
     }
 
@@ -40,7 +40,7 @@ refuse-spec =
     tie.close
     (tie.spec
     returns
-    values-requires
+    of-refusal-requires
     refused-line-requires
     put-line-requires
     same-length

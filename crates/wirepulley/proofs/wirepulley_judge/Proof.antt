@@ -1,4 +1,4 @@
--- `wirepulley::wirepulley_judge` meets its contract: the judgement, told.
+-- `wirepulley::wirepulley_judge` meets its contract: the answer with room enough, told.
 use Rattle.wirepulley.proofs.Telling.{tells-same}
 use borrow.Author.Needs.{needs}
 use Rattle.wirepulley.proofs.wirepulley_judge.Statement.{statement}

@@ -21,8 +21,8 @@ same-length-2 c = search needs
 returns : tie.Need-returns
 returns c =
     let t = c .before .before in
-    let e = t .before .before .before .before .write .ensures in
-    (tells-same _ _ (ap (λ (s : Settled). s .answer) e) (t .tell .ensures), ap (λ (s : Settled). s .buffer) e)
+    let e = t .before .before .before .before .write .ensures .contract in
+    record { answer = tells-same _ _ (ap (λ (s : Settled). s .answer) e) (t .tell .ensures); buffer = ap (λ (s : Settled). s .buffer) e }
 
 pub wirepulley-write-spec : {M : Type 1} → statement M
 wirepulley-write-spec =

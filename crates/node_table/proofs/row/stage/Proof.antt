@@ -20,8 +20,8 @@ add-t9 c = search needs
 returns : tie.Need-returns
 returns c = let p = c .before .before in node-unsound (p .before .before .pre .0) (p .first-unsound .ensures) (first-lowest (c .before .repeated .ensures)) (omega arith)
 
-add-t10 : tie.Need-add-t10
-add-t10 c = search needs
+add-t11 : tie.Need-add-t11
+add-t11 c = search needs
 
 returns-2 : tie.Need-returns-2
 returns-2 c = let p = c .before .before .before in node-repeated (p .before .before .pre .0) (p .first-unsound .ensures) (first-lowest (c .before .before .repeated .ensures)) (omega arith) (omega arith)
@@ -38,6 +38,6 @@ stage-spec =
     repeated-requires
     add-t9
     returns
-    add-t10
+    add-t11
     returns-2
     returns-3)

@@ -84,8 +84,8 @@ net-flows-requires c κs = tt
 first-apart-requires : tie.Need-first-apart-requires
 first-apart-requires c κs = search needs
 
-add-t14 : tie.Need-add-t14
-add-t14 c = search needs
+add-t15 : tie.Need-add-t15
+add-t15 c = search needs
 
 returns-2 : tie.Need-returns-2
 returns-2 c =
@@ -115,7 +115,7 @@ judge-system-spec =
     returns
     net-flows-requires
     first-apart-requires
-    add-t14
+    add-t15
     returns-2
     misses-low-requires
     returns-3

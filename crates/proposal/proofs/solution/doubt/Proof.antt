@@ -2,7 +2,7 @@ use mathlib.Core.Bool.{Bool}
 use Prim.Native.Nat.{ℕ, _≤_}
 use native.Mathlib.Omega.{arith}
 use lib.ListN.{length}
-use Rattle.meaning.specs.declared.Answer.the-variants.{DirectionInDoubt}
+use Rattle.meaning.specs.declared.Refusal.the-variants.{DirectionInDoubt}
 use Rattle.numbers.proofs.Found.{row-below, row-beyond, row-stops, row-passes}
 use Rattle.numbers.specs.Numbers.{clearBy}
 use Rattle.flows.specs.Flows.{circuitsIn}

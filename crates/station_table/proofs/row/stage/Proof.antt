@@ -23,8 +23,8 @@ add-t11 c = search needs
 returns : tie.Need-returns
 returns c = let p = c .before .before in station-unsound (p .before .before .pre) (p .first-unsound .ensures) (first-lowest (c .before .repeated .ensures)) (omega arith)
 
-add-t12 : tie.Need-add-t12
-add-t12 c = search needs
+add-t13 : tie.Need-add-t13
+add-t13 c = search needs
 
 returns-2 : tie.Need-returns-2
 returns-2 c = let p = c .before .before .before in station-repeated (p .before .before .pre) (p .first-unsound .ensures) (first-lowest (c .before .before .repeated .ensures)) (omega arith) (omega arith)
@@ -42,6 +42,6 @@ stage-spec =
     repeated-requires
     add-t11
     returns
-    add-t12
+    add-t13
     returns-2
     returns-3)

@@ -1,0 +1,165 @@
+-- Refusals 8 to 10 judge whether a proposal solves its system, and 11 whether a direction is in doubt.
+use mathlib.Core.Path.{_≡_, refl, sym, ap}
+use mathlib.Core.Logic.{_⊎_, inl, inr, _↔_, _≢_}
+use mathlib.Core.List.{List, [], _∷_, _++_}
+use mathlib.Core.Bool.{Bool, true, false, not, cond, _&&_, _||_, true≢false}
+use Prim.Native.Nat.{ℕ, suc, _+_, _-_, _≤_, _<_}
+use native.Mathlib.Omega.{arith}
+use native.Mathlib.Decide.{decLt}
+use lib.Dec.{ltb, eqb, leb}
+use lib.IntN.{ℤ, pos, natAbs, _-ℤ_}
+use lib.ListN.{length, getD}
+use Rattle.integers.proofs.Core.{Z}
+use Rattle.meaning.specs.Study.{Runs, circuit}
+use Rattle.meaning.specs.declared.System.{System}
+use Rattle.meaning.specs.declared.System.the-variants.{Base, Wider, Local}
+use Rattle.meaning.specs.declared.Direction.{Direction}
+use Rattle.meaning.specs.declared.Direction.the-variants.{Idle, Forward, Backward, InDoubt}
+use Rattle.meaning.specs.declared.Refusal.the-variants.{BadNumber, Unbalanced, MissesTooHigh, DirectionInDoubt}
+use Rattle.meaning.specs.Grid.{Grid}
+use Rattle.meaning.specs.Network.{Network, networkOf}
+use Rattle.meaning.specs.Direction.{direction, inDoubt, hasLength}
+use Rattle.meaning.specs.Proposal.{flow, same, flowOut, flowIn, numberInRange, balanced, Proposed, rangeStage, balanceStage, missStage, systemStage}
+use Rattle.meaning.specs.Systems.{baseFlow, proposed, solutionStage, directionClear, directionStage, proposalsStage}
+use Rattle.meaning.specs.Conditions.{SolvesSystem, NoDoubt}
+use Rattle.meaning.specs.Refusals.{SoundNumber, Balanced, MissesLow, whole, eachRow, AllMet, systemOrder, directionOrder, proposalsOrder}
+use Rattle.meaning.proofs.Says.{Says, says-as, _also_, _either_, says-not, says-le, says-eq}
+use Rattle.meaning.proofs.Order.{Judges, _before_, judges-whole, judges-rows}
+
+-- two numbers that differ by 0 are equal
+pub not-apart : (y z : ℤ) → natAbs (y -ℤ z) ≡ 0 → y ≡ z
+not-apart y z h = let k : natAbs (y -ℤ z) ≤ 0 = omega arith in simp Z (omega (arith, simp Z at k))
+
+pub zero-apart : (z : ℤ) → natAbs (z -ℤ z) ≡ 0
+zero-apart z = let k : natAbs (z -ℤ z) ≤ 0 = simp Z (omega arith) in omega arith
+
+says-same : {y z : ℤ} → Says (same y z) (y ≡ z)
+says-same {y} {z} = says-as says-eq (not-apart y z, λ e. rw e (zero-apart z))
+
+-- a test of a premise and of what follows from it
+says-if : {a b : Bool} {P Q : Type 0} → Says a P → Says b Q → Says (not a || b) (P → Q)
+says-if {a} {b} {P} {Q} s t = says-as (says-not s either t) (there, back a s)
+  where
+    there : (P → ⊥) ⊎ Q → P → Q
+    there (inl f) p = absurd (f p)
+    there (inr q) p = q
+
+    back : (a : Bool) → Says a P → (P → Q) → (P → ⊥) ⊎ Q
+    back true s f = inr (f (s .0 refl))
+    back false s f = inl (λ p. true≢false (sym (s .1 p)))
+
+-- ---- 8, 9 and 10 of one system
+module _ (N : Network) (ref : N .reference < N .nodes) (P : Proposed) where
+  says-number : (i : ℕ) → Says (numberInRange N (P .limit) (P .run) i) (SoundNumber N P i)
+  unfolding numberInRange
+  says-number i = go (ltb i (N .nodes)) (says-le {m = suc i} {n = N .nodes})
+    where
+      z : ℤ
+      z = getD (P .run) i (pos 0)
+
+      go : (b : Bool) → Says b (i < N .nodes)
+          → Says (cond b (leb (natAbs z) (P .limit) && (not (eqb i (N .reference)) || same z (pos 0))) (leb (natAbs z) 100000000000000)) (SoundNumber N P i)
+      go true s =
+          says-as (says-le also says-if says-eq says-same) (
+            λ t. record { potential = λ h. t .0; flow = λ h. absurd (omega (arith, s .0 refl)); ground = t .1 },
+            λ n. (n .potential (s .0 refl), n .ground),
+          )
+      go false s =
+          says-as says-le (
+            λ t. record { potential = λ h. absurd (true≢false (sym (s .1 h))); flow = λ h. t; ground = λ e. absurd (omega (arith, past (decLt i (N .nodes)))) },
+            λ n. n .flow (past (decLt i (N .nodes))),
+          )
+        where
+          past : Dec (i < N .nodes) → N .nodes ≤ i
+          past (yes h) = absurd (true≢false (sym (s .1 h)))
+          past (no h) = omega arith
+
+  judge-system : Judges (systemStage N P)
+      (eachRow (N .nodes + N .circuits) (SoundNumber N P) (BadNumber (P .system))
+      ∷ eachRow (N .nodes) (Balanced N P) (Unbalanced (P .system))
+      ∷ whole (MissesLow N P) (MissesTooHigh (P .system))
+      ∷ [])
+  unfolding systemStage rangeStage balanceStage missStage balanced
+  judge-system =
+      judges-rows (N .nodes + N .circuits) (BadNumber (P .system)) says-number
+      before λ _. judges-rows (N .nodes) (Unbalanced (P .system)) (λ v. says-same)
+      before λ _. judges-whole (MissesTooHigh (P .system)) says-le
+
+  -- every number sound, each node balanced, misses low: the system is solved
+  pub system-met : ((i : ℕ) → i < N .nodes + N .circuits → SoundNumber N P i) × ((v : ℕ) → v < N .nodes → Balanced N P v) × MissesLow N P
+      ↔ SolvesSystem N P
+  system-met = (
+    λ t. record {
+      potentials = λ v h. t .0 v (omega arith) .potential h;
+      flows = λ c h. t .0 (N .nodes + c) (omega arith) .flow (omega arith);
+      solves = record { ground = t .0 (N .reference) (omega arith) .ground refl; balanced = t .1; close = t .2 };
+    },
+    λ s. (
+      λ i h. record {
+        potential = s .potentials i;
+        flow = λ k. rw (index i k) at (s .flows (i - N .nodes) (omega arith));
+        ground = λ e. rw e (s .solves .ground);
+      },
+      s .solves .balanced,
+      s .solves .close,
+    ),
+  )
+    where
+      index : (i : ℕ) → N .nodes ≤ i → N .nodes + (i - N .nodes) ≡ i
+      index i k = omega arith
+
+-- ---- 11
+says-doubt : (d : Direction) → Says (inDoubt d) (d ≡ InDoubt)
+unfolding inDoubt
+says-doubt Idle = (λ e. absurd (true≢false (sym e)), λ e. ap inDoubt e)
+says-doubt Forward = (λ e. absurd (true≢false (sym e)), λ e. ap inDoubt e)
+says-doubt Backward = (λ e. absurd (true≢false (sym e)), λ e. ap inDoubt e)
+says-doubt InDoubt = (λ e. refl, λ e. refl)
+
+module _ (G : Grid) (runs : Runs) where
+  judge-direction : Judges (directionStage G runs) (directionOrder G runs)
+  unfolding directionStage directionClear hasLength
+  judge-direction = judges-rows (length (G .circuits)) DirectionInDoubt (λ c. says-if says-le (says-not (says-doubt (direction (baseFlow G runs c)))))
+
+  -- ---- 8 to 11: the three systems, and no doubt
+  pub record Solved : Type 0 where
+    pub each : (system : System) → SolvesSystem (networkOf G) (proposed G runs system)
+    pub clear : NoDoubt G runs
+
+  module _ (ref : networkOf G .reference < networkOf G .nodes) where
+    judge-solution : (system : System) → Judges (solutionStage G runs system) (systemOrder G runs system)
+    unfolding networkOf proposed
+    judge-solution system = judge-system (networkOf G) ref (proposed G runs system)
+
+    pub judge-proposals : Judges (proposalsStage G runs) (proposalsOrder G runs)
+    unfolding proposalsStage
+    judge-proposals =
+        judge-solution Base before λ _. judge-direction before λ _. judge-solution Wider before λ _. judge-solution Local
+
+    pub solved-met : AllMet (proposalsOrder G runs) ↔ Solved
+    unfolding networkOf
+    solved-met = (
+      λ m.
+          let w = m .1 .1 .1 .1 in
+          let l = w .1 .1 .1 in
+          record { each = three (of Base .0 (m .0, m .1 .0, m .1 .1 .0)) (of Wider .0 (w .0, w .1 .0, w .1 .1 .0)) (of Local .0 (l .0, l .1 .0, l .1 .1 .0)); clear = record { clear = m .1 .1 .1 .0 } },
+      λ s.
+          let b = of Base .1 (s .each Base) in
+          let w = of Wider .1 (s .each Wider) in
+          let l = of Local .1 (s .each Local) in
+          (b .0, (b .1, (b .2, (s .clear .clear, (w .0, (w .1, (w .2, (l .0, (l .1, (l .2, tt)))))))))),
+    )
+      where
+        Of : System → Type 0
+        Of system = SolvesSystem (networkOf G) (proposed G runs system)
+
+        of : (system : System) → ((i : ℕ) → i < networkOf G .nodes + networkOf G .circuits → SoundNumber (networkOf G) (proposed G runs system) i)
+            × ((v : ℕ) → v < networkOf G .nodes → Balanced (networkOf G) (proposed G runs system) v)
+            × MissesLow (networkOf G) (proposed G runs system)
+            ↔ Of system
+        of system = system-met (networkOf G) ref (proposed G runs system)
+
+        three : Of Base → Of Wider → Of Local → (system : System) → Of system
+        three b w l Base = b
+        three b w l Wider = w
+        three b w l Local = l

@@ -1,0 +1,69 @@
+-- The two stages of refusal 1 judge whether the file is whole.
+use mathlib.Core.Path.{_≡_}
+use mathlib.Core.List.{List, [], _∷_}
+use mathlib.Core.Bool.{Bool, true, _&&_}
+use Prim.Native.Nat.{ℕ, _+_, _-_, _≤_}
+use native.Mathlib.Omega.{arith}
+use lib.ListN.{length}
+use Rattle.meaning.specs.Study.{Runs}
+use Rattle.meaning.specs.File.{counted, chained, fileWhole, runsWhole}
+use Rattle.meaning.specs.declared.Refusal.the-variants.{BadFile}
+use Rattle.meaning.specs.Answers.{_orElse_}
+use Rattle.meaning.specs.Outcome.{fileStage, runsStage}
+use Rattle.meaning.specs.Conditions.{WholeFile}
+use Rattle.meaning.specs.Refusals.{whole}
+use Rattle.meaning.proofs.Says.{Says, says-as, _also_, says-le, says-eq, says-between, says-all}
+use Rattle.meaning.proofs.Answers.{unless-both}
+use Rattle.meaning.proofs.Order.{Judges, judges-whole}
+
+-- both tests of 1 together
+abbrev wholeTest : List ℕ → Runs → Bool
+wholeTest file runs = fileWhole file && runsWhole file (length (runs .base)) (length (runs .wider)) (length (runs .local))
+
+says-whole : (file : List ℕ) (runs : Runs) → Says (wholeTest file runs) (WholeFile file runs)
+unfolding fileWhole runsWhole counted chained
+says-whole file runs =
+    says-as
+    (says-le also says-eq also says-eq
+    also (says-eq also says-between also says-le also says-le also says-all 3 (λ k. says-eq))
+    also (says-all 7 (λ k. says-eq) also says-eq)
+    also says-eq
+    also (says-eq also says-eq also says-eq)) (
+      λ t. record {
+        long = t .0 .0 .0 .0 .0 .0;
+        version = t .0 .0 .0 .0 .0 .1;
+        fileLength = t .0 .0 .0 .0 .1;
+        oneSettings = t .0 .0 .0 .1 .0 .0 .0 .0;
+        nodes = t .0 .0 .0 .1 .0 .0 .0 .1;
+        circuits = t .0 .0 .0 .1 .0 .0 .1;
+        stations = t .0 .0 .0 .1 .0 .1;
+        solutions = λ s r. rw (four s (r .least)) at (t .0 .0 .0 .1 .1 (s - 4) (omega (arith, r .least, r .most)));
+        chain = λ s h. t .0 .0 .1 .0 s (omega arith);
+        end = t .0 .0 .1 .1;
+        settingsZero = t .0 .1;
+        baseRun = t .1 .0 .0;
+        widerRun = t .1 .0 .1;
+        localRun = t .1 .1;
+      },
+      λ w. (
+        (
+          (
+            (
+              ((w .long, w .version), w .fileLength),
+              ((((w .oneSettings, w .nodes), w .circuits), w .stations), λ k h. w .solutions (4 + k) (record { least = omega arith; most = omega arith })),
+            ),
+            (λ k h. w .chain k (omega arith), w .end),
+          ),
+          w .settingsZero,
+        ),
+        ((w .baseRun, w .widerRun), w .localRun),
+      ),
+    )
+  where
+    four : (s : ℕ) → 4 ≤ s → 4 + (s - 4) ≡ s
+    four s h = omega arith
+
+pub judge-file : (file : List ℕ) (runs : Runs)
+    → Judges (fileStage file orElse runsStage file (length (runs .base)) (length (runs .wider)) (length (runs .local))) (whole (WholeFile file runs) BadFile ∷ [])
+unfolding fileStage runsStage
+judge-file file runs = rw (unless-both (fileWhole file) (runsWhole file (length (runs .base)) (length (runs .wider)) (length (runs .local))) BadFile) (judges-whole BadFile (says-whole file runs))

@@ -1,0 +1,185 @@
+-- The demands hold of every call of the exported entry: its numbers tell the answer of 01's table.
+use mathlib.Core.Path.{_≡_, refl, sym, _∙_, ap, ap₂, subst}
+use mathlib.Core.Logic.{_↔_, _⊎_, inl, inr, _≢_}
+use mathlib.Core.List.{List, _++_}
+use Prim.Native.Nat.{ℕ, _≤_, _<_}
+use borrow.Author.Tests.{le-leb, lt-leb}
+use lib.ListN.{length, getD, take, drop}
+use lib.Seq.{take-at}
+use Rattle.meaning.specs.declared.Refusal.{Refusal}
+use Rattle.meaning.specs.declared.Values.{Values}
+use Rattle.meaning.specs.declared.Answer.{Answer}
+use Rattle.meaning.specs.declared.Answer.the-variants.{Accepted, Refused}
+use Rattle.meaning.specs.Answers.{values}
+use Rattle.meaning.specs.File.{studyOf}
+use Rattle.meaning.specs.Grid.{gridOf}
+use Rattle.meaning.specs.Outcome.{sheetOf, Settled, settle, written, refused}
+use Rattle.meaning.specs.Refusals.{Stopped}
+use Rattle.meaning.specs.Demands.{Accepting, Recovered, SameButStations, Agree, PassesToFive}
+use Rattle.meaning.specs.Calls.{Call, Kept, told, ToldCall, ToldKept}
+use Rattle.meaning.proofs.Table.{values-tell, number-positive}
+use Rattle.claims.proofs.Listed.{stopped-listed}
+use Rattle.claims.proofs.Theorems.{accepted-exactly-when, refused-exactly-when, one-answer}
+use Rattle.promises.specs.Calls.{IsAccepted, sheetIn, Promised, BothPromised}
+use Rattle.promises.specs.Exported.{four, sheetAt, IsRefusal, ToldPromised, EveryToldPromised, EveryTwoTold}
+use Rattle.promises.proofs.Calls.{every-call-promised, every-two-promised}
+
+-- ---- four numbers, told in a buffer with room for them
+four-told : (v : Values) (numbers : List ℕ) → 4 ≤ length numbers → take 4 (told v numbers) ≡ four v
+unfolding told
+four-told v numbers h = rw (le-leb 4 (length numbers) h) refl
+
+behind-four : (v : Values) (numbers : List ℕ) → 4 ≤ length numbers → drop 4 (told v numbers) ≡ drop 4 numbers
+unfolding told
+behind-four v numbers h = rw (le-leb 4 (length numbers) h) refl
+
+none-told : (v : Values) (numbers : List ℕ) → length numbers < 4 → told v numbers ≡ numbers
+unfolding told
+none-told v numbers h = rw (lt-leb 4 (length numbers) h) refl
+
+-- equal fours are of equal numbers
+nth : (k : ℕ) {v w : Values} → four v ≡ four w → getD (four v) k 0 ≡ getD (four w) k 0
+nth k e = ap (λ (l : List ℕ). getD l k 0) e
+
+module _ (c : ToldCall) (kept : ToldKept c) where
+  -- the call as `sheet::write` has it: its answer is the one that is told
+  abbrev inner : Call
+  inner =
+      record {
+        file = c .file;
+        runs = c .runs;
+        before = c .before;
+        answer = settle (c .file) (c .runs) (c .before) .answer;
+        after = c .after;
+      }
+
+  inner-kept : Kept inner
+  inner-kept = record { contract = ap (λ (b : List ℕ). record { answer = settle (c .file) (c .runs) (c .before) .answer; buffer = b }) (kept .buffer) }
+
+  whole : Promised inner
+  whole = every-call-promised inner inner-kept
+
+  abbrev n : ℕ
+  n = length (sheetOf (c .file) (c .runs))
+
+  told-is : (a : Answer) → inner .answer ≡ a → (c .result ≡ values a .number) × (c .numbersAfter ≡ told (values a) (c .numbersBefore))
+  told-is a e = (kept .answer .number ∙ ap (λ (x : Answer). values x .number) e, kept .answer .numbers ∙ ap (λ (x : Answer). told (values x) (c .numbersBefore)) e)
+
+  -- accepted
+  accepting-answer : Accepting (c .file) (c .runs) (c .before) → inner .answer ≡ Accepted n
+  unfolding written
+  accepting-answer t = ap (λ (s : Settled). s .answer) (accepted-exactly-when (c .file) (c .runs) (c .before) .accepted .1 t)
+
+  zero-told : Accepting (c .file) (c .runs) (c .before) → c .result ≡ 0
+  unfolding values
+  zero-told t = told-is (Accepted n) (accepting-answer t) .0
+
+  -- refused
+  refused-number : (r : Refusal) → Stopped (c .file) (c .runs) (c .before) r → c .result ≡ values (Refused r) .number
+  refused-number r f = told-is (Refused r) (whole .refused r .1 f) .0
+
+  stopped-untouched : (r : Refusal) → Stopped (c .file) (c .runs) (c .before) r → c .after ≡ c .before
+  unfolding refused
+  stopped-untouched r f = kept .buffer ∙ ap (λ (s : Settled). s .buffer) (refused-exactly-when (c .file) (c .runs) (c .before) r .untouched f)
+
+  accepting : c .result ≡ 0 → Accepting (c .file) (c .runs) (c .before)
+  accepting e = go (one-answer (c .file) (c .runs) (c .before) .either)
+    where
+      go : Accepting (c .file) (c .runs) (c .before) ⊎ ((r : Refusal) × Stopped (c .file) (c .runs) (c .before) r) → Accepting (c .file) (c .runs) (c .before)
+      go (inl t) = t
+      go (inr (r, f)) = absurd (number-positive r (sym (refused-number r f) ∙ e))
+
+  is-refusal : c .result ≢ 0 → IsRefusal c
+  is-refusal h = go (one-answer (c .file) (c .runs) (c .before) .either)
+    where
+      go : Accepting (c .file) (c .runs) (c .before) ⊎ ((r : Refusal) × Stopped (c .file) (c .runs) (c .before) r) → IsRefusal c
+      go (inl t) = absurd (h (zero-told t))
+      go (inr (r, f)) =
+          record {
+            cause = r;
+            stopped = f;
+            listed = stopped-listed (c .file) (c .runs) (c .before) r f;
+            number = refused-number r f;
+            untouched = stopped-untouched r f;
+          }
+
+  accepted-buffer : c .result ≡ 0 → c .after ≡ sheetOf (c .file) (c .runs) ++ drop n (c .before)
+  unfolding written
+  accepted-buffer e = kept .buffer ∙ ap (λ (s : Settled). s .buffer) (accepted-exactly-when (c .file) (c .runs) (c .before) .accepted .1 (accepting e))
+
+  sheet-found : c .result ≡ 0 → sheetAt c n ≡ sheetOf (c .file) (c .runs)
+  sheet-found e = ap (take n) (accepted-buffer e) ∙ take-at (sheetOf (c .file) (c .runs)) _ _ refl
+
+  -- ---- with room for four
+  module _ (room : 4 ≤ length (c .numbersBefore)) where
+    told-four : (a : Answer) → inner .answer ≡ a → take 4 (c .numbersAfter) ≡ four (values a)
+    told-four a e = ap (take 4) (told-is a e .1) ∙ four-told (values a) (c .numbersBefore) room
+
+    length-told : (take 4 (c .numbersAfter) ≡ four (values (Accepted n))) ↔ Accepting (c .file) (c .runs) (c .before)
+    unfolding values
+    length-told = (λ e. go e (one-answer (c .file) (c .runs) (c .before) .either), λ t. told-four (Accepted n) (accepting-answer t))
+      where
+        go : take 4 (c .numbersAfter) ≡ four (values (Accepted n))
+            → Accepting (c .file) (c .runs) (c .before) ⊎ ((r : Refusal) × Stopped (c .file) (c .runs) (c .before) r) → Accepting (c .file) (c .runs) (c .before)
+        go e (inl t) = t
+        go e (inr (r, f)) = absurd (number-positive r (nth 0 (sym (told-four (Refused r) (whole .refused r .1 f)) ∙ e)))
+
+    refusal-told : (r : Refusal) → (take 4 (c .numbersAfter) ≡ four (values (Refused r))) ↔ Stopped (c .file) (c .runs) (c .before) r
+    unfolding values
+    refusal-told r = (λ e. go e (one-answer (c .file) (c .runs) (c .before) .either), λ f. told-four (Refused r) (whole .refused r .1 f))
+      where
+        go : take 4 (c .numbersAfter) ≡ four (values (Refused r))
+            → Accepting (c .file) (c .runs) (c .before) ⊎ ((q : Refusal) × Stopped (c .file) (c .runs) (c .before) q) → Stopped (c .file) (c .runs) (c .before) r
+        go e (inl t) = absurd (number-positive r (nth 0 (sym e ∙ told-four (Accepted n) (accepting-answer t))))
+        go e (inr (q, f)) =
+            let same = sym (told-four (Refused q) (whole .refused q .1 f)) ∙ e in
+            subst (Stopped (c .file) (c .runs) (c .before)) (values-tell q r (nth 0 same) (nth 1 same) (nth 2 same)) f
+
+    rest-kept : drop 4 (c .numbersAfter) ≡ drop 4 (c .numbersBefore)
+    rest-kept = ap (drop 4) (kept .answer .numbers) ∙ behind-four _ (c .numbersBefore) room
+
+  -- ---- the promises of the call that it makes, read from the numbers
+  is-accepted : c .result ≡ 0 → IsAccepted inner
+  is-accepted e = accepting-answer (accepting e)
+
+  sheet-in : c .result ≡ 0 → sheetIn inner ≡ sheetAt c n
+  unfolding values
+  sheet-in e = ap (λ (a : Answer). take (values a .length) (c .after)) (accepting-answer (accepting e))
+
+  promised : ToldPromised c
+  promised = record {
+    accepted = (accepting, zero-told);
+    sheet = sheet-found;
+    behind = accepted-buffer;
+    otherwise = is-refusal;
+    lengthTold = length-told;
+    refusalTold = refusal-told;
+    behindFour = rest-kept;
+    noRoom = λ h. kept .answer .numbers ∙ none-told _ (c .numbersBefore) h;
+    revenue = λ e. subst (Recovered (gridOf (studyOf (c .file)))) (sheet-in e) (whole .revenue (is-accepted e));
+  }
+
+pub every-told-promised : EveryToldPromised
+every-told-promised = promised
+
+pub every-two-told : EveryTwoTold
+every-two-told c d keptC keptD = record { agree = agree; hidden = hidden }
+  where
+    two : BothPromised (inner c keptC) (inner d keptD)
+    two = every-two-promised (inner c keptC) (inner d keptD) (inner-kept c keptC) (inner-kept d keptD)
+
+    agree : c .result ≡ 0 → d .result ≡ 0 → SameButStations (studyOf (c .file)) (studyOf (d .file))
+        → Agree (studyOf (c .file)) (c .runs) (d .runs) (sheetAt c (n c keptC)) (sheetAt d (n d keptD))
+    agree e f same =
+        subst (λ (l : List ℕ). Agree (studyOf (c .file)) (c .runs) (d .runs) l (sheetAt d (n d keptD))) (sheet-in c keptC e)
+        (subst (Agree (studyOf (c .file)) (c .runs) (d .runs) (sheetIn (inner c keptC))) (sheet-in d keptD f)
+        (two .agree (is-accepted c keptC e) (is-accepted d keptD f) same))
+
+    hidden : c .runs ≡ d .runs → PassesToFive (c .file) (c .runs) → PassesToFive (d .file) (d .runs)
+        → SameButStations (studyOf (c .file)) (studyOf (d .file)) → length (c .before) ≡ length (d .before) → c .numbersBefore ≡ d .numbersBefore
+        → (c .result ≡ d .result) × (c .numbersAfter ≡ d .numbersAfter)
+    hidden runs p q same e numbers =
+        let a = two .hidden runs p q same e in (
+          keptC .answer .number ∙ ap (λ (x : Answer). values x .number) a ∙ sym (keptD .answer .number),
+          keptC .answer .numbers ∙ ap₂ (λ (x : Answer) (l : List ℕ). told (values x) l) a numbers ∙ sym (keptD .answer .numbers),
+        )

@@ -1,0 +1,65 @@
+-- The demands, said of calls of the exported `wirepulley_write`, whose contract is `ToldKept` (meaning/specs/Calls.antt): answers are numbers.
+use mathlib.Core.Path.{_≡_}
+use mathlib.Core.Logic.{_↔_, _≢_}
+use mathlib.Core.List.{List, [], _∷_, _++_}
+use Prim.Native.Nat.{ℕ, _≤_, _<_}
+use lib.ListN.{length, take, drop}
+use Rattle.meaning.specs.declared.Refusal.{Refusal}
+use Rattle.meaning.specs.declared.Values.{Values}
+use Rattle.meaning.specs.declared.Answer.the-variants.{Accepted, Refused}
+use Rattle.meaning.specs.Answers.{values}
+use Rattle.meaning.specs.File.{studyOf}
+use Rattle.meaning.specs.Grid.{gridOf}
+use Rattle.meaning.specs.Outcome.{sheetOf}
+use Rattle.meaning.specs.Refusals.{Stopped}
+use Rattle.meaning.specs.Demands.{ListedFor, Accepting, Recovered, SameButStations, Agree, PassesToFive}
+use Rattle.meaning.specs.Calls.{ToldCall, ToldKept}
+
+-- number, system, row and length in this order
+abbrev pub four : Values → List ℕ
+four v = v .number ∷ v .system ∷ v .row ∷ v .length ∷ []
+
+-- the sheet that a caller finds at the buffer's front: its length is the fourth number
+abbrev pub sheetAt : ToldCall → (length : ℕ) → List ℕ
+sheetAt c n = take n (c .after)
+
+-- a refusal of 01's table: its number, and the sheet's buffer as it was
+pub record IsRefusal (c : ToldCall) : Type 0 where
+  pub cause : Refusal
+  pub stopped : Stopped (c .file) (c .runs) (c .before) cause
+  pub listed : ListedFor (studyOf (c .file)) cause
+  pub number : c .result ≡ values (Refused cause) .number
+  pub untouched : c .after ≡ c .before
+
+-- ---- demands 1 and 2, of one call
+pub record ToldPromised (c : ToldCall) : Type 0 where
+  -- the result is 0 exactly when; then the buffer holds the sheet, and bytes behind it are untouched. Else it is a refusal's number
+  pub accepted : (c .result ≡ 0) ↔ Accepting (c .file) (c .runs) (c .before)
+  pub sheet : c .result ≡ 0 → sheetAt c (length (sheetOf (c .file) (c .runs))) ≡ sheetOf (c .file) (c .runs)
+  pub behind : c .result ≡ 0 → c .after ≡ sheetOf (c .file) (c .runs) ++ drop (length (sheetOf (c .file) (c .runs))) (c .before)
+  pub otherwise : c .result ≢ 0 → IsRefusal c
+  -- with room for four numbers they are accepted's with the sheet's length, or this refusal's, exactly when; those behind the fourth are as they were
+  pub lengthTold : 4 ≤ length (c .numbersBefore)
+      → (take 4 (c .numbersAfter) ≡ four (values (Accepted (length (sheetOf (c .file) (c .runs)))))) ↔ Accepting (c .file) (c .runs) (c .before)
+  pub refusalTold : 4 ≤ length (c .numbersBefore) → (r : Refusal)
+      → (take 4 (c .numbersAfter) ≡ four (values (Refused r))) ↔ Stopped (c .file) (c .runs) (c .before) r
+  pub behindFour : 4 ≤ length (c .numbersBefore) → drop 4 (c .numbersAfter) ≡ drop 4 (c .numbersBefore)
+  -- with less, none of them is written
+  pub noRoom : length (c .numbersBefore) < 4 → c .numbersAfter ≡ c .numbersBefore
+  -- the revenue, from the bytes that the caller got
+  pub revenue : c .result ≡ 0 → Recovered (gridOf (studyOf (c .file))) (sheetAt c (length (sheetOf (c .file) (c .runs))))
+
+abbrev pub EveryToldPromised : Type 0
+EveryToldPromised = (c : ToldCall) → ToldKept c → ToldPromised c
+
+-- ---- demand 3, of two calls
+pub record BothTold (c d : ToldCall) : Type 0 where
+  pub agree : c .result ≡ 0 → d .result ≡ 0 → SameButStations (studyOf (c .file)) (studyOf (d .file))
+      → Agree (studyOf (c .file)) (c .runs) (d .runs) (sheetAt c (length (sheetOf (c .file) (c .runs)))) (sheetAt d (length (sheetOf (d .file) (d .runs))))
+  -- and a refusal tells no more of the stations
+  pub hidden : c .runs ≡ d .runs → PassesToFive (c .file) (c .runs) → PassesToFive (d .file) (d .runs)
+      → SameButStations (studyOf (c .file)) (studyOf (d .file)) → length (c .before) ≡ length (d .before) → c .numbersBefore ≡ d .numbersBefore
+      → (c .result ≡ d .result) × (c .numbersAfter ≡ d .numbersAfter)
+
+abbrev pub EveryTwoTold : Type 0
+EveryTwoTold = (c d : ToldCall) → ToldKept c → ToldKept d → BothTold c d

@@ -1,0 +1,60 @@
+-- The demands, said of the program: what it prints of the bytes that it read, in its buffer of 16,384. The runs are the file's own.
+use mathlib.Core.Path.{_≡_}
+use mathlib.Core.Logic.{_↔_, _≢_}
+use mathlib.Core.List.{List}
+use Prim.Native.Nat.{ℕ}
+use lib.ListN.{length, take}
+use Rattle.meaning.specs.declared.Refusal.{Refusal}
+use Rattle.meaning.specs.declared.Answer.the-variants.{Refused}
+use Rattle.meaning.specs.declared.Printed.{Printed}
+use Rattle.meaning.specs.Answers.{values}
+use Rattle.meaning.specs.File.{studyOf, runsIn}
+use Rattle.meaning.specs.Grid.{gridOf}
+use Rattle.meaning.specs.Outcome.{sheetOf, refusedLine, prints}
+use Rattle.meaning.specs.Conditions.{Acceptable}
+use Rattle.meaning.specs.Refusals.{FirstUnmet, caseOrder}
+use Rattle.meaning.specs.Demands.{ListedFor, Recovered, SameButStations, Agree, PassesToFive}
+use Rattle.meaning.specs.Calls.{Prints}
+
+-- the bytes that the program writes
+abbrev pub shown : Printed → List ℕ
+shown r = take (r .length) (r .bytes)
+
+-- the line of a listed refusal, never 12
+pub record RefusalPrinted (file text : List ℕ) : Type 0 where
+  pub cause : Refusal
+  pub stopped : FirstUnmet (caseOrder file (runsIn file)) cause
+  pub listed : ListedFor (studyOf file) cause
+  pub number : values (Refused cause) .number ≢ 12
+  pub line : text ≡ refusedLine cause
+
+-- ---- demands 1 and 2, of a file and the text printed for it
+pub record PrintPromised (file text : List ℕ) : Type 0 where
+  -- the sheet exactly when the case is acceptable; a refusal's line exactly when 01's order stops the case there; one of the two
+  pub sheet : (text ≡ sheetOf file (runsIn file)) ↔ Acceptable file (runsIn file)
+  pub refused : (r : Refusal) → (text ≡ refusedLine r) ↔ FirstUnmet (caseOrder file (runsIn file)) r
+  pub otherwise : (Acceptable file (runsIn file) → ⊥) → RefusalPrinted file text
+  -- the revenue, from the bytes that were printed
+  pub revenue : Acceptable file (runsIn file) → Recovered (gridOf (studyOf file)) text
+
+abbrev pub EveryPrintPromised : Type 0
+EveryPrintPromised = (file : List ℕ) (r : Printed) → Prints (prints file) r → PrintPromised file (shown r)
+
+-- ---- demand 3, of two files: other stations in another order, other solvers' runs
+pub record BothPrinted (file file′ text text′ : List ℕ) : Type 0 where
+  pub agree : Acceptable file (runsIn file) → Acceptable file′ (runsIn file′) → SameButStations (studyOf file) (studyOf file′)
+      → Agree (studyOf file) (runsIn file) (runsIn file′) text text′
+  -- and a refusal tells no more of the stations
+  pub hidden : runsIn file ≡ runsIn file′ → PassesToFive file (runsIn file) → PassesToFive file′ (runsIn file′)
+      → SameButStations (studyOf file) (studyOf file′) → text ≡ text′
+
+abbrev pub EveryTwoPrinted : Type 0
+EveryTwoPrinted = (file file′ : List ℕ) (r r′ : Printed) → Prints (prints file) r → Prints (prints file′) r′ → BothPrinted file file′ (shown r) (shown r′)
+
+-- ---- what was read: the front of the buffer is the input, or as much of it as the buffer holds
+pub record Filled (input buffer : List ℕ) (count : ℕ) : Type 0 where
+  pub front : take count buffer ≡ take (length buffer) input
+
+-- a buffer of 65,536 bytes, the one that `output::print` takes, is enough: what is printed of it is what the whole input prints
+abbrev pub WholeInputPrinted : Type 0
+WholeInputPrinted = (input buffer : List ℕ) (count : ℕ) → length buffer ≡ 65536 → Filled input buffer count → prints (take count buffer) ≡ prints input

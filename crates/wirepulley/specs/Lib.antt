@@ -1,2 +1,0 @@
--- What the contracts of `wirepulley` cite beside `meaning`.
-pub mod Tells
