@@ -12,7 +12,7 @@
  * An answer is four numbers. Rows count from 1.
  *
  *   number                          system     row                           length
- *   0  accepted                     0          0                             bytes of the sheet (wirepulley_judge: 0)
+ *   0  accepted                     0          0                             bytes of the sheet
  *   1  the file is not whole        0          0                             0
  *      (length, trailer, version, counts, chain of sections, the settings' zero), or a run has another length than nodes plus circuits
  *   2  a setting out of its range   0          0                             0
@@ -70,8 +70,10 @@ uint64_t wirepulley_write(const uint8_t *file, size_t file_len, const int64_t *b
                           size_t wider_len, const int64_t *local, size_t local_len, uint8_t *sheet, size_t sheet_len,
                           uint64_t *answer, size_t answer_len);
 
-/* Judges a case without its sheet: the same answer as wirepulley_write gives with room enough, but that length is always 0.
- * The arguments are those of wirepulley_write. Returns the answer's number, 0 to 11. */
+/* Judges a case and writes no sheet: the same answer as wirepulley_write gives with room enough for the sheet. So where the case is
+ * accepted, length is the length that a buffer for the sheet needs. The arguments are those of wirepulley_write.
+ *
+ * Returns the answer's number, 0 to 11. */
 uint64_t wirepulley_judge(const uint8_t *file, size_t file_len, const int64_t *base, size_t base_len, const int64_t *wider,
                           size_t wider_len, const int64_t *local, size_t local_len, uint64_t *answer, size_t answer_len);
 

@@ -25,7 +25,7 @@ pub struct Input {
 /// What a call leaves behind.
 #[derive(Clone, PartialEq, Eq)]
 pub struct Outcome {
-    /// Of the entry that judges only, and of the one that writes: the result, and the lent answer afterwards.
+    /// Of the entry that judges and writes no sheet, and of the one that writes: the result, and the lent answer afterwards.
     pub judged: (u64, Vec<u64>),
     pub written: (u64, Vec<u64>),
     pub sheet: Vec<u8>,
@@ -65,16 +65,18 @@ impl Input {
     pub fn expected(&self) -> (Outcome, Numbers) {
         let mut sheet = self.sheet_before();
         let written = numbers(judge_into(&self.file, self.lent(), &mut sheet));
-        // Judged without a sheet: what stops it, but for a short buffer.
-        let judged = match written[0] {
-            0 => [0; 4],
-            12 => {
-                judge_case(&self.file, self.lent()).map_or_else(|refusal| numbers(Answer::Refused(refusal)), |_| [0; 4])
-            }
-            _ => written,
-        };
+        // Judged with no buffer: the same answer, and what it is with room enough where the buffer is too short.
+        let judged = if written[0] == 12 { numbers(self.with_room()) } else { written };
         let after = |numbers: Numbers| (numbers[0], self.answer_after(numbers));
         (Outcome { judged: after(judged), written: after(written), sheet }, written)
+    }
+
+    /// What the reference answers with room enough for the sheet.
+    fn with_room(&self) -> Answer {
+        match judge_case(&self.file, self.lent()) {
+            Ok(sheet) => Answer::Accepted(sheet.len()),
+            Err(refusal) => Answer::Refused(refusal),
+        }
     }
 
     /// The input as a text: the case maker's words, and what they don't tell as comments.

@@ -117,12 +117,12 @@ impl Case<'_> {
         Answer::of(answer)
     }
 
-    /// Judges the case without its sheet: what stops it first among 1 to 11.
-    pub fn judge(&self) -> Result<(), Refusal> {
-        self.judgement().result().map(|_| ())
+    /// Judges the case and writes no sheet: the length that a buffer for its sheet needs, or what stops it first among 1 to 11.
+    pub fn judge(&self) -> Result<usize, Refusal> {
+        self.judgement().result()
     }
 
-    /// The same with the answer as numbers; its length is 0.
+    /// The same with the answer as numbers: those of `answer` with room enough for the sheet.
     pub fn judgement(&self) -> Answer {
         let Case { file, base, wider, local } = self;
         let mut answer = [0; 4];

@@ -36,7 +36,7 @@ pub enum Refusal {
     Misses { system: System },
     /// 11: the direction of a circuit in doubt.
     Direction { row: usize },
-    /// 12: the buffer shorter than the sheet.
+    /// 12: the buffer shorter than the sheet. `Case::judge` never says so.
     Buffer,
 }
 

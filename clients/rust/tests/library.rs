@@ -12,19 +12,27 @@ fn kiln_is_accepted() {
     assert_eq!(solutions.with(KILN).write(&mut sheet), Ok(SHEET.len()));
     assert_eq!(&sheet[..SHEET.len()], SHEET);
     assert!(sheet[SHEET.len()..].iter().all(|byte| *byte == 7));
-    assert_eq!(solutions.with(KILN).judge(), Ok(()));
-    assert_eq!(solutions.with(KILN).judgement(), Answer { number: 0, system: 0, row: 0, length: 0 });
+    assert_eq!(solutions.with(KILN).answer(&mut sheet), Answer { number: 0, system: 0, row: 0, length: 117 });
+}
+
+#[test]
+fn kiln_is_judged_without_a_buffer() {
+    let solutions = Solutions::of_file(KILN);
+    assert_eq!(solutions.with(KILN).judge(), Ok(SHEET.len()));
+    assert_eq!(solutions.with(KILN).judgement(), Answer { number: 0, system: 0, row: 0, length: 117 });
 }
 
 #[test]
 fn an_exact_buffer_is_enough_and_one_byte_less_is_left_alone() {
     let solutions = Solutions::of_file(KILN);
-    let mut exact = vec![7; SHEET.len()];
-    assert_eq!(solutions.with(KILN).write(&mut exact), Ok(SHEET.len()));
+    let case = solutions.with(KILN);
+    let needed = case.judge().unwrap();
+    let mut exact = vec![7; needed];
+    assert_eq!(case.write(&mut exact), Ok(needed));
     assert_eq!(exact, SHEET);
-    for length in [0, 1, SHEET.len() - 1] {
+    for length in [0, 1, needed - 1] {
         let mut short = vec![7; length];
-        assert_eq!(solutions.with(KILN).write(&mut short), Err(Refusal::Buffer));
+        assert_eq!(case.write(&mut short), Err(Refusal::Buffer));
         assert!(short.iter().all(|byte| *byte == 7));
     }
 }

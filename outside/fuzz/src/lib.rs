@@ -2,7 +2,7 @@
 
 use reference::file::whole_case;
 use reference::solver::solved;
-use reference::{judge_into, Answer};
+use reference::{judge_case, judge_into, Answer};
 use std::slice::{from_raw_parts, from_raw_parts_mut};
 
 /// What `wirepulley_write` has to answer and to leave in the buffer.
@@ -19,9 +19,37 @@ pub unsafe extern "C" fn reference_write(
     sheet_len: usize,
     answer: *mut u64,
 ) {
-    let run = |system: usize| from_raw_parts(*runs.add(system), *run_lens.add(system));
     let buffer = from_raw_parts_mut(sheet, sheet_len);
-    let numbers = match judge_into(from_raw_parts(file, file_len), [run(0), run(1), run(2)], buffer) {
+    tell(judge_into(from_raw_parts(file, file_len), lent(runs, run_lens), buffer), answer);
+}
+
+/// What `wirepulley_judge` has to answer: the answer with room enough for the sheet.
+///
+/// # Safety
+/// Each pointer leads to as many elements as its count says, four for `answer`.
+#[no_mangle]
+pub unsafe extern "C" fn reference_judge(
+    file: *const u8,
+    file_len: usize,
+    runs: *const *const i64,
+    run_lens: *const usize,
+    answer: *mut u64,
+) {
+    let judged = match judge_case(from_raw_parts(file, file_len), lent(runs, run_lens)) {
+        Ok(sheet) => Answer::Accepted(sheet.len()),
+        Err(refusal) => Answer::Refused(refusal),
+    };
+    tell(judged, answer);
+}
+
+/// The three lent runs.
+unsafe fn lent<'a>(runs: *const *const i64, run_lens: *const usize) -> [&'a [i64]; 3] {
+    [0, 1, 2].map(|system| from_raw_parts(*runs.add(system), *run_lens.add(system)))
+}
+
+/// An answer's four numbers.
+unsafe fn tell(told: Answer, answer: *mut u64) {
+    let numbers = match told {
         Answer::Accepted(length) => [0, 0, 0, length as u64],
         Answer::Refused(refusal) => [refusal.number as u64, refusal.system as u64, refusal.row as u64, 0],
     };
