@@ -2,13 +2,14 @@
 //!
 //! Written from the words of 01 for clarity, not for speed: `i128` for every sum, one function for each
 //! sentence, and each function names its place. `judge_case` is the library entry, `program_output` what the
-//! program prints. `text` writes and reads cases as plain text, `solver` proposes solutions, `largest` builds
-//! the case of the greatest counts.
+//! program prints. `text` writes and reads cases as plain text, `solver` proposes solutions, `largest` and
+//! `longest` build cases of the greatest counts.
 
 pub mod charges;
 pub mod file;
 pub mod judge;
 pub mod largest;
+pub mod longest;
 pub mod quantities;
 pub mod random;
 pub mod replay;

@@ -202,3 +202,13 @@ fn largest_is_accepted() {
     assert_eq!(sheet.lines().filter(|line| line.starts_with("D ") && !line.ends_with('-')).count(), 32);
     assert!(judged(&case).is_ok());
 }
+
+#[test]
+fn longest_is_stored_with_its_sheet() {
+    let file = reference::longest::longest().bytes();
+    assert_eq!(file.len(), 63_616);
+    assert_eq!(file, folder_file("LONGEST.case"));
+    let sheet = program_output(&file);
+    assert_eq!(sheet.len(), 13_195);
+    assert_eq!(sheet, folder_file("LONGEST.sheet"));
+}

@@ -1,7 +1,7 @@
 //! Makes, shows and solves case files. Standard input to standard output; faults to standard error.
 
 use reference::file::{whole_case, Case};
-use reference::{largest, random, solver, standard, text};
+use reference::{largest, longest, random, solver, standard, text};
 use std::process::ExitCode;
 
 const USE: &str = "\
@@ -10,6 +10,7 @@ case show     < file > text   a text that describes a file, damaged ones too
 case solve    < text > text   the same text with solutions in place of its own
 case solve    < file > file   the same for a file
 case largest         > file   256 nodes, 512 circuits, 512 stations
+case longest         > file   the same counts, and a sheet nearly as long as one can be
 case random SEED [MOST_NODES] > file   a case by chance, solved
 case spoil SEED < file > file   a whole file with one thing changed by chance";
 
@@ -21,6 +22,7 @@ fn main() -> ExitCode {
         ["show"] => standard::input().map(|file| text::show(&file).into_bytes()),
         ["solve"] => standard::input().and_then(|input| solve(&input)),
         ["largest"] => Ok(largest::largest().bytes()),
+        ["longest"] => Ok(longest::longest().bytes()),
         ["random", seed] => by_chance(seed, "12"),
         ["random", seed, nodes] => by_chance(seed, nodes),
         ["spoil", seed] => standard::input().and_then(|file| spoil(&file, seed)),

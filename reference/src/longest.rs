@@ -1,0 +1,55 @@
+//! The longest file, with a sheet nearly as long as one can be: what a program's buffers have to hold.
+
+use crate::file::{padded, Case, CircuitRow, NodeRow, Settings, StationRow};
+use crate::solver::solved;
+
+/// Nodes at the end of a circuit each.
+const LEAVES: u32 = 253;
+
+/// LONGEST: 256 nodes with names of twelve letters, all with TEC, nearly all 10^7 m below the reference, wider and local; 512
+/// circuits, no two nodes joined by one alone; 512 stations; 32 and 32 zones. 63,616 bytes.
+pub fn longest() -> Case {
+    let leaves = || (0..LEAVES).map(|place| padded(format!("LEAF_____{place:03}").as_bytes()));
+    let [far, hub, middle] = ["FAR_________", "HUB_________", "MIDDLE______"].map(|text| padded(text.as_bytes()));
+    let nodes: Vec<NodeRow> = [far, hub, middle]
+        .into_iter()
+        .map(|name| node(name, 1, 0))
+        .chain(leaves().zip(0..).map(|(name, place)| node(name, place % 32 + 1, 1_000)))
+        .collect();
+    let mut circuits = [vec![circuit(far, hub, 0); 3], vec![circuit(hub, middle, 0); 3]].concat();
+    circuits.extend(leaves().flat_map(|leaf| vec![circuit(middle, leaf, 1); 2]));
+    let tec = |turn: u32| [300_000, 0][turn.min(1) as usize] + turn % 2;
+    let stations = (0..512).map(|turn| station(turn, nodes[turn as usize / 2].name, tec(turn))).collect();
+    solved(&Case { settings: settings(), nodes, circuits, stations, runs: Default::default() }).0
+}
+
+/// The greatest constant, security factors and revenue, and a factor that takes 500 km to 10^7 m.
+fn settings() -> Settings {
+    Settings {
+        generation_zones: 32,
+        demand_zones: 32,
+        p: 900,
+        constant: 10_000,
+        wider_factor: 5_000,
+        local_factor: 5_000,
+        factors: [1_000, 1_000, 20_000, 1_000, 1_000, 1_000],
+        reference: 2,
+        zero: 0,
+        revenue: 10_000_000_000,
+    }
+}
+
+/// A node of one zone on both sides.
+fn node(name: [u8; 12], zone: u32, demand: u32) -> NodeRow {
+    NodeRow { name, generation_zone: zone, demand_zone: zone, demand }
+}
+
+/// A circuit of 10^7 expanded metres.
+fn circuit(first: [u8; 12], second: [u8; 12], mark: u32) -> CircuitRow {
+    CircuitRow { first, second, voltage: 275, x: 1, overhead: 500_000, cable: 0, mark }
+}
+
+/// Two stations a node, the second of them with a kilowatt.
+fn station(turn: u32, node: [u8; 12], tec: u32) -> StationRow {
+    StationRow { identifier: padded(format!("STATION_{turn:04}").as_bytes()), node, plant: turn % 7 + 1, tec }
+}
