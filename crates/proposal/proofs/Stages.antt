@@ -1,4 +1,4 @@
--- 8, then 9, then 10: what the chain answers, by what each part found.
+-- 8, then 9, then 10: what the chain says, by what each part found.
 use mathlib.Core.Path.{_≡_, refl, sym, _∙_, ap, ap₂}
 use mathlib.Core.Bool.{Bool, true, false, not}
 use mathlib.Core.List.{List}

@@ -1,4 +1,4 @@
--- `proposal::order::proposals` meets its contract: the first stage that stops is the answer, and where one passes what is left decides.
+-- `proposal::order::proposals` meets its contract: the first stage that stops decides, and where one passes what is left does.
 use mathlib.Core.Path.{_≡_}
 use Rattle.meaning.specs.declared.Judgement.{Judgement}
 use Rattle.meaning.specs.declared.System.the-variants.{Base, Wider, Local}
