@@ -19,6 +19,17 @@ fn each_text_gives_its_sheet() {
     }
 }
 
+/// Texts whose solutions are another solver's, or chosen at the ends of their ranges.
+const CHOSEN: [&str; 3] = ["DALE", "HIGH", "LOW"];
+
+#[test]
+fn each_chosen_text_gives_its_sheet() {
+    for name in CHOSEN {
+        let file = text::make(&folder_file(&format!("{name}.txt"))).unwrap();
+        assert_eq!(program_output(&file), folder_file(&format!("{name}.sheet")), "{name}");
+    }
+}
+
 #[test]
 fn each_text_is_made_shown_and_made_again() {
     for name in NAMES {
