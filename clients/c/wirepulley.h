@@ -1,7 +1,7 @@
 /* Wirepulley: one study case for GB transmission charges in, a tariff sheet or a refusal out.
  *
  * Link with target/staticlib/libwirepulley.a, which `./do library` makes (x86-64 Linux). It needs memcpy and memset and nothing else:
- * no heap, no files, no locks, no state, so any number of threads may call it. A call takes 220,000 bytes of stack: give a thread that
+ * no heap, no files, no locks, no state, so any number of threads may call it. A call takes at most 220,000 bytes of stack: give a thread that
  * calls it 512 KiB or more.
  *
  * Every call has one answer, whatever the bytes and numbers are. What the checker cannot see is kept by the caller:

@@ -1,5 +1,5 @@
 //! One study case for GB transmission charges in, a tariff sheet or a refusal out: safe Rust over the proved library.
-//! It keeps no state and takes no heap. A call takes 220,000 bytes of stack, so give a thread that calls it 512 KiB or more.
+//! It keeps no state and takes no heap. A call takes at most 220,000 bytes of stack, so give a thread that calls it 512 KiB or more.
 //!
 //! ```no_run
 //! let file = std::fs::read("my.case").unwrap();

@@ -1,4 +1,4 @@
--- What stops a case is a row of 01's table, with its row in range.
+-- What stops a case carries its own row of 01's table, with its row in range.
 use mathlib.Core.Path.{_≡_, refl, sym, _∙_, subst}
 use mathlib.Core.Logic.{_⊎_, inl, inr, _≢_}
 use mathlib.Core.List.{List, [], _∷_}
@@ -21,17 +21,17 @@ use Rattle.meaning.proofs.Order.{first-of-two}
 use Rattle.meaning.specs.Grid.{gridOf}
 use Rattle.meaning.specs.Conditions.{InRange}
 use Rattle.meaning.specs.Refusals.{Condition, whole, eachRow, Unmet, AllMet, FirstUnmet, caseOrder, Stopped}
-use Rattle.meaning.specs.Demands.{badFile, badSetting, badNode, badCircuit, badStation, unreached, badTotal, badNumber, unbalanced, missesTooHigh, inDoubt, shortBuffer, ListedFor}
+use Rattle.meaning.specs.Demands.{SystemListed, base, wider, local, badFile, badSetting, badNode, badCircuit, badStation, unreached, badTotal, badNumber, unbalanced, missesTooHigh, inDoubt, shortBuffer, ListedFor}
 
 -- row i is printed as row i + 1
 in-rows : {i n : ℕ} → i < n → InRange (suc i) 1 n
 in-rows h = record { least = omega arith; most = omega arith }
 
-of-three : (system : System) → InRange (systemNumber system) 1 3
+numbered : (s : System) → SystemListed s (systemNumber s)
 unfolding systemNumber
-of-three Base = record { least = omega arith; most = omega arith }
-of-three Wider = record { least = omega arith; most = omega arith }
-of-three Local = record { least = omega arith; most = omega arith }
+numbered Base = base
+numbered Wider = wider
+numbered Local = local
 
 -- what holds of each refusal that a list of conditions gives holds of the one that stops a case
 module _ (P : Refusal → Type 0) where
@@ -60,15 +60,15 @@ module _ (file : List ℕ) (runs : Runs) where
 
   number : (s : System) (i : ℕ) → i < length (studyOf file .nodes) + length (studyOf file .circuits) → Row (BadNumber s (suc i))
   unfolding values refusal
-  number s i h = (badNumber _ (suc i) (of-three s) (in-rows h), refl)
+  number s i h = (badNumber s _ (suc i) (numbered s) (in-rows h), refl)
 
   balance : (s : System) (i : ℕ) → i < length (studyOf file .nodes) → Row (Unbalanced s (suc i))
   unfolding values refusal
-  balance s i h = (unbalanced _ (suc i) (of-three s) (in-rows h), refl)
+  balance s i h = (unbalanced s _ (suc i) (numbered s) (in-rows h), refl)
 
   misses : (s : System) → Row (MissesTooHigh s)
   unfolding values refusal
-  misses s = (missesTooHigh _ (of-three s), refl)
+  misses s = (missesTooHigh s _ (numbered s), refl)
 
   case-row : (r : Refusal) → FirstUnmet (caseOrder file runs) r → Row r
   unfolding gridOf values refusal

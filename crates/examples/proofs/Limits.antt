@@ -1,4 +1,4 @@
--- Accepted cases whose numbers stand exactly at their limits: HIGH from above, LOW from below. All of 100,000,000 kW goes from A over B to C and the four
+-- Accepted cases with a potential of each system and the base flows exactly at their limits: HIGH from above, LOW from below. All of 100,000,000 kW goes from A over B to C and the four
 -- nodes behind it. One more, in any run, is refused as 8.
 use mathlib.Core.Path.{_≡_, refl}
 use mathlib.Core.List.{List, [], _∷_, _++_}

@@ -49,8 +49,8 @@ abbrev small : List Station
 small = stationOf "GEN_1" "NODA" 100000 ∷ stationOf "GEN_2" "NODB" 49999 ∷ []
 
 -- of a run: potential 1 at the reference; a flow that breaks two balances; a potential that misses by twice 200,000,000
-abbrev missing : List ℤ → (first : ℕ) → List ℤ
-missing run first = set run 0 (pos first)
+abbrev missingBy : List ℤ → (first : ℕ) → List ℤ
+missingBy run first = set run 0 (pos first)
 
 abbrev leaking : List ℤ → (flow : ℕ) → List ℤ
 leaking run flow = set run 3 (pos flow)
@@ -60,7 +60,7 @@ lifted run = set run 2 (pos 1)
 
 -- three states of each run, by what is still wrong with it: 10; 9 and 10; 8, 9 and 10
 abbrev base₁₀ : List ℤ
-base₁₀ = missing kilnBase 11000200000000
+base₁₀ = missingBy kilnBase 11000200000000
 
 abbrev base₉ : List ℤ
 base₉ = leaking base₁₀ 45010000000
@@ -69,7 +69,7 @@ abbrev base₈ : List ℤ
 base₈ = lifted base₉
 
 abbrev wider₁₀ : List ℤ
-wider₁₀ = missing kilnWider 32000200000000
+wider₁₀ = missingBy kilnWider 32000200000000
 
 abbrev wider₉ : List ℤ
 wider₉ = leaking wider₁₀ 10010000000
@@ -78,7 +78,7 @@ abbrev wider₈ : List ℤ
 wider₈ = lifted wider₉
 
 abbrev local₁₀ : List ℤ
-local₁₀ = missing kilnLocal 200000000
+local₁₀ = missingBy kilnLocal 200000000
 
 abbrev local₉ : List ℤ
 local₉ = leaking local₁₀ 1
@@ -92,8 +92,8 @@ answer settings nodes circuits stations b w l =
     let runs : Runs = record { base = b; wider = w; local = l } in
     settle (fileOf (record { settings = settings; nodes = nodes; circuits = circuits; stations = stations }) runs) runs (replicate 5 7) .answer
 
-abbrev answerOf : (b w l : List ℤ) → Answer
-answerOf b w l = answer kilnSettings kilnNodes kilnCircuits kilnStations b w l
+abbrev inFive : (b w l : List ℤ) → Answer
+inFive b w l = answer kilnSettings kilnNodes kilnCircuits kilnStations b w l
 
 -- the same with version 2 (byte 532)
 version : (let runs : Runs = record { base = base₈; wider = wider₈; local = local₈ } in
@@ -115,17 +115,17 @@ unfolding opened
 tables = refl
 
 -- 8, 9, 10 of base, wider and local; then 12
-proposals : answerOf base₈ wider₈ local₈ ∷ answerOf base₉ wider₈ local₈ ∷ answerOf base₁₀ wider₈ local₈ ∷ []
+proposals : inFive base₈ wider₈ local₈ ∷ inFive base₉ wider₈ local₈ ∷ inFive base₁₀ wider₈ local₈ ∷ []
     ≡ Refused (BadNumber Base 3) ∷ Refused (Unbalanced Base 1) ∷ Refused (MissesTooHigh Base) ∷ []
 unfolding opened
 proposals = refl
 
-wider : answerOf kilnBase wider₈ local₈ ∷ answerOf kilnBase wider₉ local₈ ∷ answerOf kilnBase wider₁₀ local₈ ∷ []
+wider : inFive kilnBase wider₈ local₈ ∷ inFive kilnBase wider₉ local₈ ∷ inFive kilnBase wider₁₀ local₈ ∷ []
     ≡ Refused (BadNumber Wider 3) ∷ Refused (Unbalanced Wider 1) ∷ Refused (MissesTooHigh Wider) ∷ []
 unfolding opened
 wider = refl
 
-local : answerOf kilnBase kilnWider local₈ ∷ answerOf kilnBase kilnWider local₉ ∷ answerOf kilnBase kilnWider local₁₀ ∷ answerOf kilnBase kilnWider kilnLocal ∷ []
+local : inFive kilnBase kilnWider local₈ ∷ inFive kilnBase kilnWider local₉ ∷ inFive kilnBase kilnWider local₁₀ ∷ inFive kilnBase kilnWider kilnLocal ∷ []
     ≡ Refused (BadNumber Local 3) ∷ Refused (Unbalanced Local 1) ∷ Refused (MissesTooHigh Local) ∷ Refused ShortBuffer ∷ []
 unfolding opened
 local = refl

@@ -1,21 +1,23 @@
 -- Two small cases on the edges of 01's bands, sums, lengths and ranges: PAIR, two nodes and a circuit, and ALONE, one node.
 use mathlib.Core.Path.{_≡_, refl}
-use mathlib.Core.List.{List, [], _∷_}
-use Prim.Native.Nat.{ℕ, _+_, _*_}
+use mathlib.Core.List.{List, [], _∷_, _++_}
+use mathlib.Core.Bool.{true}
+use Prim.Native.Nat.{ℕ, suc, _+_, _*_}
 use Prim.Native.String.{String}
 use lib.IntN.{ℤ, pos, negℤ}
 use lib.ListN.{replicate}
+use Rattle.meaning.specs.Rows.{rows}
 use Rattle.meaning.specs.Text.{text}
 use Rattle.meaning.specs.Study.{Circuit, Study, Runs}
 use Rattle.meaning.specs.declared.System.{System}
 use Rattle.meaning.specs.declared.System.the-variants.{Base, Wider, Local}
-use Rattle.meaning.specs.declared.Refusal.the-variants.{BadNumber, MissesTooHigh, DirectionInDoubt}
+use Rattle.meaning.specs.declared.Refusal.the-variants.{BadNumber, Unbalanced, MissesTooHigh, DirectionInDoubt}
 use Rattle.meaning.specs.declared.Judgement.{Judgement}
 use Rattle.meaning.specs.declared.Judgement.the-variants.{Passes, Stops}
-use Rattle.meaning.specs.Grid.{gridOf}
+use Rattle.meaning.specs.Grid.{plantOf, scales, pays, gridOf}
 use Rattle.meaning.specs.Network.{networkOf}
 use Rattle.meaning.specs.Proposal.{rangeStage}
-use Rattle.meaning.specs.Systems.{lengthOf, proposed}
+use Rattle.meaning.specs.Systems.{lengthOf, proposed, proposalsStage}
 use Rattle.meaning.specs.Outcome.{Settled, settle, written, refused}
 use Rattle.meaning.proofs.Write.{name, fileOf}
 use Rattle.meaning.proofs.Opened.{opened}
@@ -92,6 +94,31 @@ doubt-first : pair 201 0 (pos 10000000000000001) ≡ refused (DirectionInDoubt 1
 unfolding opened
 doubt-first = refl
 
+-- 8 and 9 of the base before 11; 11 before 9 and 10 of the wider system, and before 8, 9 and 10 of the local one. The base flow of 201 kW is in doubt throughout
+abbrev doubted : (base wider local : List ℤ) → Judgement
+doubted b w l = proposalsStage (gridOf (pairStudy 201 0)) (record { base = b; wider = w; local = l })
+
+abbrev ofBase : (base : List ℤ) → Judgement
+ofBase b = doubted b (pos 0 ∷ pos 0 ∷ pos 0 ∷ []) (pos 0 ∷ pos 0 ∷ pos 0 ∷ [])
+
+abbrev base₂₀₁ : List ℤ
+base₂₀₁ = pos 201000000 ∷ pos 0 ∷ pos 201000000 ∷ []
+
+beside-eleven : ofBase (pos 201000000 ∷ pos 1 ∷ pos 201000000 ∷ []) ∷ ofBase (pos 300000000 ∷ pos 0 ∷ pos 300000000 ∷ []) ∷ ofBase base₂₀₁ ∷ []
+    ≡ Stops (BadNumber Base 2) ∷ Stops (Unbalanced Base 1) ∷ Stops (DirectionInDoubt 1) ∷ []
+unfolding opened
+beside-eleven = refl
+
+eleven-first : doubted base₂₀₁ (pos 0 ∷ pos 0 ∷ pos 1 ∷ []) (pos 0 ∷ pos 0 ∷ pos 0 ∷ [])
+    ∷ doubted base₂₀₁ (pos 200000000 ∷ pos 0 ∷ pos 0 ∷ []) (pos 0 ∷ pos 0 ∷ pos 0 ∷ [])
+    ∷ doubted base₂₀₁ (pos 0 ∷ pos 0 ∷ pos 0 ∷ []) (pos 0 ∷ pos 1 ∷ pos 0 ∷ [])
+    ∷ doubted base₂₀₁ (pos 0 ∷ pos 0 ∷ pos 0 ∷ []) (pos 0 ∷ pos 0 ∷ pos 1 ∷ [])
+    ∷ doubted base₂₀₁ (pos 0 ∷ pos 0 ∷ pos 0 ∷ []) (pos 200000000 ∷ pos 0 ∷ pos 0 ∷ [])
+    ∷ []
+    ≡ replicate 5 (Stops (DirectionInDoubt 1))
+unfolding opened
+eleven-first = refl
+
 directed : pair 401 0 (pos 10000000000) ≡ written (text "C -3\nG 1 10 7 127 1693 1820\nG 2 -\nD 1 0 3 54 619 673\nL A 0 0\nR 180 127\n") before
 unfolding opened
 directed = refl
@@ -131,7 +158,7 @@ numbers system potential flow =
 
 at-limits : numbers Base (pos 2000000000000000000) (negℤ (pos 100000000000000))
     ∷ numbers Wider (negℤ (pos 10000000000000000)) (pos 100000000000000)
-    ∷ numbers Local (pos 10000000000000000) (pos 0)
+    ∷ numbers Local (pos 10000000000000000) (negℤ (pos 100000000000000))
     ∷ []
     ≡ Passes ∷ Passes ∷ Passes ∷ []
 unfolding opened
@@ -141,6 +168,11 @@ past-limits : numbers Base (negℤ (pos 2000000000000000001)) (pos 0) ∷ number
     ≡ Stops (BadNumber Base 1) ∷ Stops (BadNumber Wider 1) ∷ Stops (BadNumber Local 3) ∷ []
 unfolding opened
 past-limits = refl
+
+-- plant types 1 to 7: all of them scale and weigh, and all of them pay
+plants : rows 7 (λ t. scales (plantOf (suc t))) ++ rows 7 (λ t. pays (plantOf (suc t))) ≡ replicate 14 true
+unfolding opened
+plants = refl
 
 -- ---- ALONE: "One node and no circuits may pass."
 abbrev aloneStudy : Study

@@ -1,7 +1,7 @@
 -- 01, What each entry settles: the contracts of the entries, which their code cites. A call is what a caller lent, what it got, and its buffers afterwards.
 use mathlib.Core.Path.{_≡_}
 use mathlib.Core.Bool.{cond}
-use mathlib.Core.List.{List, _∷_, _++_}
+use mathlib.Core.List.{List, [], _∷_, _++_}
 use Prim.Native.Nat.{ℕ, _-_}
 use lib.Dec.{leb}
 use lib.ListN.{length, drop, replicate}
@@ -30,9 +30,13 @@ pub record Prints (text : List ℕ) (r : Printed) : Type 0 where
   pub bytes : r .bytes ≡ text ++ replicate (16384 - length text) 0
 
 -- ---- the exported entries, which answer in numbers
--- an answer's number, system, row and length at the front of a lent buffer; one with no room for four is left as it is
+-- number, system, row and length, in this order
+abbrev pub four : Values → List ℕ
+four v = v .number ∷ v .system ∷ v .row ∷ v .length ∷ []
+
+-- these four at the front of a lent buffer; one with no room for them is left as it is
 unfoldable pub told : Values → (numbers : List ℕ) → List ℕ
-told v numbers = cond (leb 4 (length numbers)) (v .number ∷ v .system ∷ v .row ∷ v .length ∷ drop 4 numbers) numbers
+told v numbers = cond (leb 4 (length numbers)) (four v ++ drop 4 numbers) numbers
 
 -- a result, and the lent numbers before and after, tell an answer
 pub record Tells (a : Answer) (before after : List ℕ) (result : ℕ) : Type 0 where

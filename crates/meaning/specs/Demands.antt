@@ -12,8 +12,10 @@ use Rattle.meaning.specs.File.{studyOf}
 use Rattle.meaning.specs.declared.Side.{Side}
 use Rattle.meaning.specs.declared.Side.the-variants.{Generation, Demand}
 use Rattle.meaning.specs.declared.System.{System}
+use Rattle.meaning.specs.declared.System.the-variants.{Base, Wider, Local}
 use Rattle.meaning.specs.declared.Values.{Values}
 use Rattle.meaning.specs.declared.Refusal.{Refusal}
+use Rattle.meaning.specs.declared.Refusal.the-variants.{BadFile, BadSetting, BadNode, BadCircuit, BadStation, Unreached, BadTotal, BadNumber, Unbalanced, MissesTooHigh, DirectionInDoubt, ShortBuffer}
 use Rattle.meaning.specs.declared.Answer.the-variants.{Refused}
 use Rattle.meaning.specs.Answers.{values, refusal}
 use Rattle.meaning.specs.Grid.{Grid, gridOf, capacityOf}
@@ -28,29 +30,35 @@ use Rattle.meaning.specs.Conditions.{Acceptable, InRange, HasLength, Who
 use Rattle.meaning.specs.Refusals.{AllMet, rowsOrder, Stopped}
 
 -- ---- demand 1
--- 01's table of what stops a case, for a study of n nodes, m circuits and k stations
-pub data Listed (n m k : ℕ) : Values → Type 0 where
-  badFile : Listed n m k (refusal 1 0 0)
-  badSetting : Listed n m k (refusal 2 0 0)
-  badNode : (row : ℕ) → InRange row 1 n → Listed n m k (refusal 3 0 row)
-  badCircuit : (row : ℕ) → InRange row 1 m → Listed n m k (refusal 4 0 row)
-  badStation : (row : ℕ) → InRange row 1 k → Listed n m k (refusal 5 0 row)
-  unreached : (row : ℕ) → InRange row 1 n → Listed n m k (refusal 6 0 row)
-  badTotal : Listed n m k (refusal 7 0 0)
-  badNumber : (system row : ℕ) → InRange system 1 3 → InRange row 1 (n + m) → Listed n m k (refusal 8 system row)
-  unbalanced : (system row : ℕ) → InRange system 1 3 → InRange row 1 n → Listed n m k (refusal 9 system row)
-  missesTooHigh : (system : ℕ) → InRange system 1 3 → Listed n m k (refusal 10 system 0)
-  inDoubt : (row : ℕ) → InRange row 1 m → Listed n m k (refusal 11 1 row)
-  shortBuffer : Listed n m k (refusal 12 0 0)
+-- "system 1 (base)", "system 2 (wider)", "3 (local)"
+pub data SystemListed : System → ℕ → Type 0 where
+  base : SystemListed Base 1
+  wider : SystemListed Wider 2
+  local : SystemListed Local 3
+
+-- 01's table of what stops a case, for a study of n nodes, m circuits and k stations: what each refusal carries
+pub data Listed (n m k : ℕ) : Refusal → Values → Type 0 where
+  badFile : Listed n m k BadFile (refusal 1 0 0)
+  badSetting : Listed n m k BadSetting (refusal 2 0 0)
+  badNode : (row : ℕ) → InRange row 1 n → Listed n m k (BadNode row) (refusal 3 0 row)
+  badCircuit : (row : ℕ) → InRange row 1 m → Listed n m k (BadCircuit row) (refusal 4 0 row)
+  badStation : (row : ℕ) → InRange row 1 k → Listed n m k (BadStation row) (refusal 5 0 row)
+  unreached : (row : ℕ) → InRange row 1 n → Listed n m k (Unreached row) (refusal 6 0 row)
+  badTotal : Listed n m k BadTotal (refusal 7 0 0)
+  badNumber : (s : System) (system row : ℕ) → SystemListed s system → InRange row 1 (n + m) → Listed n m k (BadNumber s row) (refusal 8 system row)
+  unbalanced : (s : System) (system row : ℕ) → SystemListed s system → InRange row 1 n → Listed n m k (Unbalanced s row) (refusal 9 system row)
+  missesTooHigh : (s : System) (system : ℕ) → SystemListed s system → Listed n m k (MissesTooHigh s) (refusal 10 system 0)
+  inDoubt : (row : ℕ) → InRange row 1 m → Listed n m k (DirectionInDoubt row) (refusal 11 1 row)
+  shortBuffer : Listed n m k ShortBuffer (refusal 12 0 0)
 
 abbrev pub ListedFor : Study → Refusal → Type 0
-ListedFor S r = Listed (length (S .nodes)) (length (S .circuits)) (length (S .stations)) (values (Refused r))
+ListedFor S r = Listed (length (S .nodes)) (length (S .circuits)) (length (S .stations)) r (values (Refused r))
 
 -- accepted: the answer is the sheet's length, and the buffer starts with the sheet; bytes behind it are untouched
 abbrev pub IsWritten : List ℕ → Runs → List ℕ → Type 0
 IsWritten file runs buffer = settle file runs buffer ≡ written (sheetOf file runs) buffer
 
--- refused: number, system and row are a row of the table, the length is 0, and the buffer is as it was
+-- refused: number, system and row are this refusal's row of the table, the length is 0, and the buffer is as it was
 pub record IsRefused (file : List ℕ) (runs : Runs) (before : List ℕ) : Type 0 where
   pub cause : Refusal
   pub listed : ListedFor (studyOf file) cause

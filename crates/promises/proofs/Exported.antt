@@ -16,12 +16,12 @@ use Rattle.meaning.specs.Grid.{gridOf}
 use Rattle.meaning.specs.Outcome.{sheetOf, Settled, settle, written, refused}
 use Rattle.meaning.specs.Refusals.{Stopped}
 use Rattle.meaning.specs.Demands.{Accepting, Recovered, SameButStations, Agree, PassesToFive}
-use Rattle.meaning.specs.Calls.{Call, Kept, told, ToldCall, ToldKept}
+use Rattle.meaning.specs.Calls.{Call, Kept, four, told, ToldCall, ToldKept}
 use Rattle.meaning.proofs.Table.{values-tell, number-positive}
 use Rattle.claims.proofs.Listed.{stopped-listed}
 use Rattle.claims.proofs.Theorems.{accepted-exactly-when, refused-exactly-when, one-answer}
 use Rattle.promises.specs.Calls.{IsAccepted, sheetIn, Promised, BothPromised}
-use Rattle.promises.specs.Exported.{four, sheetAt, IsRefusal, ToldPromised, EveryToldPromised, EveryTwoTold}
+use Rattle.promises.specs.Exported.{sheetAt, RefusalTold, ToldPromised, EveryToldPromised, EveryTwoTold}
 use Rattle.promises.proofs.Calls.{every-call-promised, every-two-promised}
 
 -- ---- four numbers, told in a buffer with room for them
@@ -89,10 +89,10 @@ module _ (c : ToldCall) (kept : ToldKept c) where
       go (inl t) = t
       go (inr (r, f)) = absurd (number-positive r (sym (refused-number r f) ∙ e))
 
-  is-refusal : c .result ≢ 0 → IsRefusal c
+  is-refusal : c .result ≢ 0 → RefusalTold c
   is-refusal h = go (one-answer (c .file) (c .runs) (c .before) .either)
     where
-      go : Accepting (c .file) (c .runs) (c .before) ⊎ ((r : Refusal) × Stopped (c .file) (c .runs) (c .before) r) → IsRefusal c
+      go : Accepting (c .file) (c .runs) (c .before) ⊎ ((r : Refusal) × Stopped (c .file) (c .runs) (c .before) r) → RefusalTold c
       go (inl t) = absurd (h (zero-told t))
       go (inr (r, f)) =
           record {

@@ -21,7 +21,7 @@ use Rattle.claims.proofs.Listed.{case-listed, case-number}
 use Rattle.claims.proofs.Hidden.{judged-alike}
 use Rattle.claims.proofs.Same.{same-grid}
 use Rattle.claims.proofs.Theorems.{judge-is-write}
-use Rattle.promises.specs.Judging.{IsRefusal, EveryJudgePromised, JudgesHideStations}
+use Rattle.promises.specs.Judging.{RefusalJudged, EveryJudgePromised, JudgesHideStations}
 
 -- ---- what is answered by a judgement: accepted exactly when it passes, a refusal exactly when it stops so
 module _ (sheet : List ℕ) where
@@ -50,10 +50,10 @@ module _ (file : List ℕ) (runs : Runs) where
       let s = judge-case file runs .stops r in
       (λ e. s .0 (a .0 e), λ f. a .1 (s .1 f))
 
-  otherwise : (Acceptable file runs → ⊥) → IsRefusal file (answerOf file runs)
+  otherwise : (Acceptable file runs → ⊥) → RefusalJudged file (answerOf file runs)
   otherwise h = go (judged file runs) refl
     where
-      go : (j : Judgement) → judged file runs ≡ j → IsRefusal file (answerOf file runs)
+      go : (j : Judgement) → judged file runs ≡ j → RefusalJudged file (answerOf file runs)
       go Passes e = absurd (h (judged-pass file runs .0 e))
       go (Stops r) e =
           let f = judge-case file runs .stops r .0 e in

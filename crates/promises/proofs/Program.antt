@@ -26,7 +26,7 @@ use Rattle.claims.proofs.Same.{same-grid}
 use Rattle.claims.proofs.Theorems.{revenue-recovered, solvers-agree}
 use Rattle.output.proofs.Cut.{input-cut}
 use Rattle.meaning.specs.Calls.{Prints}
-use Rattle.promises.specs.Program.{shown, RefusalPrinted, PrintPromised, EveryPrintPromised, BothPrinted, EveryTwoPrinted, WholeInputPrinted}
+use Rattle.promises.specs.Program.{shown, RefusalPrinted, PrintPromised, EveryPrintPromised, BothPrinted, EveryTwoPrinted, Filled, EveryReadPromised}
 
 -- a sheet starts with `C`, and a refusal's line with `r`
 sheet-starts : (G : Grid) (runs : Runs) → getD (sheet G runs) 0 0 ≡ 67
@@ -126,6 +126,12 @@ every-two-printed file file′ r r′ p p′ =
     (subst (λ (l : List ℕ). BothPrinted file file′ (prints file) l) (shown-is (prints file′) r′ p′) (both file file′))
 
 -- a buffer of 65,536 bytes holds every whole file, so what does not fit it is refused as 1 either way
-pub whole-input-printed : WholeInputPrinted
-whole-input-printed input buffer count long filled =
+same-print : (input buffer : List ℕ) (count : ℕ) → length buffer ≡ 65536 → Filled input buffer count → prints (take count buffer) ≡ prints input
+same-print input buffer count long filled =
     ap prints (filled .front) ∙ ap (λ (n : ℕ). prints (take n input)) long ∙ input-cut input
+
+pub every-read-promised : EveryReadPromised
+every-read-promised buffer count r long p = record {
+  read = every-print-promised (take count buffer) r p;
+  whole = λ input filled. every-print-promised input r (subst (λ (l : List ℕ). Prints l r) (same-print input buffer count long filled) p);
+}

@@ -13,18 +13,14 @@ use Rattle.meaning.specs.Grid.{gridOf}
 use Rattle.meaning.specs.Outcome.{sheetOf}
 use Rattle.meaning.specs.Refusals.{Stopped}
 use Rattle.meaning.specs.Demands.{ListedFor, Accepting, Recovered, SameButStations, Agree, PassesToFive}
-use Rattle.meaning.specs.Calls.{ToldCall, ToldKept}
-
--- number, system, row and length in this order
-abbrev pub four : Values → List ℕ
-four v = v .number ∷ v .system ∷ v .row ∷ v .length ∷ []
+use Rattle.meaning.specs.Calls.{four, ToldCall, ToldKept}
 
 -- the sheet that a caller finds at the buffer's front: its length is the fourth number
 abbrev pub sheetAt : ToldCall → (length : ℕ) → List ℕ
 sheetAt c n = take n (c .after)
 
 -- a refusal of 01's table: its number, and the sheet's buffer as it was
-pub record IsRefusal (c : ToldCall) : Type 0 where
+pub record RefusalTold (c : ToldCall) : Type 0 where
   pub cause : Refusal
   pub stopped : Stopped (c .file) (c .runs) (c .before) cause
   pub listed : ListedFor (studyOf (c .file)) cause
@@ -37,7 +33,7 @@ pub record ToldPromised (c : ToldCall) : Type 0 where
   pub accepted : (c .result ≡ 0) ↔ Accepting (c .file) (c .runs) (c .before)
   pub sheet : c .result ≡ 0 → sheetAt c (length (sheetOf (c .file) (c .runs))) ≡ sheetOf (c .file) (c .runs)
   pub behind : c .result ≡ 0 → c .after ≡ sheetOf (c .file) (c .runs) ++ drop (length (sheetOf (c .file) (c .runs))) (c .before)
-  pub otherwise : c .result ≢ 0 → IsRefusal c
+  pub otherwise : c .result ≢ 0 → RefusalTold c
   -- with room for four numbers they are accepted's with the sheet's length, or this refusal's, exactly when; those behind the fourth are as they were
   pub lengthTold : 4 ≤ length (c .numbersBefore)
       → (take 4 (c .numbersAfter) ≡ four (values (Accepted (length (sheetOf (c .file) (c .runs)))))) ↔ Accepting (c .file) (c .runs) (c .before)

@@ -17,7 +17,7 @@ use Rattle.meaning.specs.Demands.{ListedFor, SameButStations, PassesToFive}
 use Rattle.meaning.specs.Calls.{Tells}
 
 -- a refusal of 01's table, never 12
-pub record IsRefusal (file : List ℕ) (answer : Answer) : Type 0 where
+pub record RefusalJudged (file : List ℕ) (answer : Answer) : Type 0 where
   pub cause : Refusal
   pub answered : answer ≡ Refused cause
   pub listed : ListedFor (studyOf file) cause
@@ -28,7 +28,7 @@ pub record JudgePromised (file : List ℕ) (runs : Runs) (answer : Answer) : Typ
   -- accepted with the sheet's length exactly when the case is acceptable; a refusal exactly when 01's order stops the case there; one of the two
   pub accepted : (answer ≡ Accepted (length (sheetOf file runs))) ↔ Acceptable file runs
   pub refused : (r : Refusal) → (answer ≡ Refused r) ↔ FirstUnmet (caseOrder file runs) r
-  pub otherwise : (Acceptable file runs → ⊥) → IsRefusal file answer
+  pub otherwise : (Acceptable file runs → ⊥) → RefusalJudged file answer
   -- the entry that writes says the same with room enough
   pub withRoom : (buffer : List ℕ) → length (sheetOf file runs) ≤ length buffer → settle file runs buffer .answer ≡ answer
 

@@ -55,6 +55,11 @@ EveryTwoPrinted = (file file′ : List ℕ) (r r′ : Printed) → Prints (print
 pub record Filled (input buffer : List ℕ) (count : ℕ) : Type 0 where
   pub front : take count buffer ≡ take (length buffer) input
 
--- a buffer of 65,536 bytes, the one that `output::print` takes, is enough: what is printed of it is what the whole input prints
-abbrev pub WholeInputPrinted : Type 0
-WholeInputPrinted = (input buffer : List ℕ) (count : ℕ) → length buffer ≡ 65536 → Filled input buffer count → prints (take count buffer) ≡ prints input
+-- the promises of the bytes that were read, and of the whole input, whatever of it the buffer could not hold
+pub record ReadPromised (buffer : List ℕ) (count : ℕ) (text : List ℕ) : Type 0 where
+  pub read : PrintPromised (take count buffer) text
+  pub whole : (input : List ℕ) → Filled input buffer count → PrintPromised input text
+
+-- 65,536 bytes are enough for that
+abbrev pub EveryReadPromised : Type 0
+EveryReadPromised = (buffer : List ℕ) (count : ℕ) (r : Printed) → length buffer ≡ 65536 → Prints (prints (take count buffer)) r → ReadPromised buffer count (shown r)

@@ -1,4 +1,4 @@
--- What an entry does that writes a text into a lent buffer.
+-- What a function does that writes a text into a lent buffer.
 use Prim.Native.Nat.{ℕ}
 use mathlib.Core.Path.{_≡_}
 use mathlib.Core.Bool.{cond}

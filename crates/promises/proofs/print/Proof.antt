@@ -1,5 +1,5 @@
--- `promises::print`: the demands of what is printed follow from the contract of `output::print`.
-use Rattle.promises.proofs.Program.{every-print-promised}
+-- `promises::print`: the demands of what is printed follow from the contract of `output::print`, and from the length of the buffer that it takes.
+use Rattle.promises.proofs.Program.{every-read-promised}
 use borrow.Author.Needs.{needs}
 use Rattle.promises.proofs.print.Statement.{statement}
 use Rattle.promises.proofs.print.Tie as tie
@@ -8,7 +8,7 @@ print-requires : tie.Need-print-requires
 print-requires c κs = search needs
 
 returns : tie.Need-returns
-returns c = every-print-promised _ _ (c .print .ensures)
+returns c = every-read-promised _ _ _ (search needs) (c .print .ensures)
 
 pub print-spec : {M : Type 1} → statement M
 print-spec = tie.close (tie.spec print-requires returns)
