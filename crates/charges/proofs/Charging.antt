@@ -2,11 +2,20 @@
 use mathlib.Core.Path.{_≡_, refl, sym, _∙_}
 use mathlib.Core.List.{List}
 use Prim.Native.Nat.{ℕ}
+use lib.ListN.{length}
 use Rattle.meaning.specs.Study.{Runs}
 use Rattle.meaning.specs.declared.Figures.{Figures}
 use Rattle.meaning.specs.declared.Refusal.{Refusal}
+use Rattle.meaning.specs.declared.Judgement.{Judgement}
 use Rattle.meaning.specs.declared.Judgement.the-variants.{Passes, Stops}
+use Rattle.meaning.specs.File.{studyOf}
+use Rattle.meaning.specs.Grid.{gridOf}
+use Rattle.meaning.specs.Systems.{proposalsStage}
+use Rattle.meaning.specs.Outcome.{judged}
+use Rattle.meaning.proofs.Answers.{orElse-stops}
 use Rattle.tables.specs.declared.Opened.{Opened}
+use Rattle.tables.specs.Order.{frameStage}
+use Rattle.tables.proofs.OrderLaws.{frame-stops}
 use Rattle.proposal.specs.Judges.{Judges}
 use Rattle.steps.specs.Nothing.{noFigures}
 use Rattle.tariffs.specs.Case.{figuresOver}
@@ -25,3 +34,11 @@ module _ (file : List ℕ) (runs : Runs) (o : Opened) (j : Judges file runs o) w
       → _≡_ {A = Charged} (record { judgement = o .judgement; figures = f }) (chargedOf file runs)
   unfolding chargedOf figuresBy
   charged h ef = rw (ef, figures-of-file file runs (sym (j .judgement) ∙ h) o j, sym (j .judgement), h) refl
+
+-- a case that its frame stops
+pub frame-stopped : (file : List ℕ) (runs : Runs) {r : Refusal} {j : Judgement} {f : Figures} → j ≡ frameStage file (length (runs .base)) (length (runs .wider)) (length (runs .local)) → j ≡ Stops r → f ≡ noFigures
+    → _≡_ {A = Charged} (record { judgement = j; figures = f }) (chargedOf file runs)
+unfolding chargedOf figuresBy judged
+frame-stopped file runs e h ef =
+    let t = frame-stops file _ _ _ (sym e ∙ h) in
+    rw (orElse-stops (proposalsStage (gridOf (studyOf file)) runs) t, t, h, ef) refl

@@ -26,13 +26,11 @@ use Rattle.meaning.proofs.Judged.{judged-pass}
 use Rattle.layout.specs.declared.RowCounts.{RowCounts}
 use Rattle.node_table.specs.declared.NodeColumns.{NodeColumns}
 use Rattle.station_table.specs.declared.TecColumns.{TecColumns}
-use Rattle.layout.specs.Readable.{readable}
 use Rattle.layout.specs.Frame.{countsOf}
 use Rattle.node_table.specs.Columns.{nodesOf}
 use Rattle.station_table.specs.Tec.{tecOf}
-use Rattle.layout.proofs.Rows.{readable-whole}
 use Rattle.tables.specs.declared.Opened.{Opened}
-use Rattle.tables.proofs.Sound.{passes-whole}
+use Rattle.tables.proofs.Sound.{StudyColumns, study-columns}
 use Rattle.proposal.specs.Judges.{Judges}
 use Rattle.meaning.specs.Columns.{kilowatts, numberAt, kwAt}
 use Rattle.tariffs.specs.Case.{figuresOver}
@@ -113,9 +111,6 @@ module _ (file : List ℕ) (runs : Runs) (p : judged file runs ≡ Passes) where
   unfolding judged
   tables-pass = passes-orElse _ _ .0 p .0
 
-  read : readable file ≡ studyOf file
-  read = readable-whole file (passes-whole file _ _ _ tables-pass)
-
   few-nodes : length (studyOf file .nodes) ≤ 256
   few-nodes = omega (arith, starts.counts file runs (accepted .whole) .0, accepted .whole .nodes .most)
 
@@ -132,19 +127,20 @@ module _ (file : List ℕ) (runs : Runs) (p : judged file runs ≡ Passes) where
 
   -- opened by the judge
   module _ (o : Opened) (j : Judges file runs o) where
+    columns : StudyColumns (studyOf file) o
+    columns = study-columns (j .columns) tables-pass
+
     node-count : o .counts .nodes ≡ length (studyOf file .nodes)
     unfolding countsOf
-    node-count = ap (λ (c : RowCounts). c .nodes) (rw read at (j .counts))
+    node-count = ap (λ (c : RowCounts). c .nodes) (columns .counts)
 
     pub figures-of-file : figuresOver (o .counts .nodes) (o .settings) (o .nodes .«generation_zone») (o .tec .scaling) (o .tec .paying) (o .nodes .«demand_zone») (o .nodes .demand) (runs .wider) (runs .local)
         ≡ figuresOf (gridOf (studyOf file)) runs
     unfolding gridOf
     figures-of-file =
         let S = studyOf file in
-        let es = rw read at (j .settings) in
-        let en = rw read at (j .nodes) in
-        let et = rw read at (j .tec) in
+        let c = columns in
         case-is (gridOf S) runs fits (o .counts .nodes) (o .nodes .«generation_zone») (o .tec .scaling) (o .tec .paying) (o .nodes .«demand_zone») (o .nodes .demand)
-        (generation-of S few-nodes o node-count en et)
-        (demand-of S few-nodes o node-count en et)
-        (o .settings) es
+        (generation-of S few-nodes o node-count (c .nodes) (c .tec))
+        (demand-of S few-nodes o node-count (c .nodes) (c .tec))
+        (o .settings) (c .settings)

@@ -12,7 +12,7 @@ pub struct Charged {
 }
 
 // Judges a case once, and makes its figures of the columns that were judged.
-pub fn charge(file: &[u8], base: &[i64], wider: &[i64], local: &[i64]) -> Charged
+fn of_columns(file: &[u8], base: &[i64], wider: &[i64], local: &[i64]) -> Charged
     ensures { λ r. ⌜ r ≡ chargedOf (now (file .entry)) (runsOf (now (base .entry)) (now (wider .entry)) (now (local .entry))) ⌝ }
 {
     let opened = proposal::open(file, base, wider, local);
@@ -43,5 +43,19 @@ pub fn charge(file: &[u8], base: &[i64], wider: &[i64], local: &[i64]) -> Charge
                 ),
             }
         }
+    }
+}
+
+// What 1 to 11 make of a case, and its figures. A file that is not whole, or a bad setting, is answered before any table is read.
+pub fn charge(file: &[u8], base: &[i64], wider: &[i64], local: &[i64]) -> Charged
+    ensures { λ r. ⌜ r ≡ chargedOf (now (file .entry)) (runsOf (now (base .entry)) (now (wider .entry)) (now (local .entry))) ⌝ }
+{
+    let frame = tables::frame(file, base.len(), wider.len(), local.len());
+    match frame {
+        Judgement::Stops(_) => Charged {
+            judgement: frame,
+            figures: steps::no_figures(),
+        },
+        Judgement::Passes => of_columns(file, base, wider, local),
     }
 }

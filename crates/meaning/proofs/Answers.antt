@@ -39,6 +39,12 @@ pub orElse-stops : {a : Judgement} {r : Refusal} (b : Judgement) → a ≡ Stops
 unfolding _orElse_
 orElse-stops b e = rw e refl
 
+-- what comes after a stage matters only where it passes
+pub orElse-same : (a : Judgement) {b c : Judgement} → (a ≡ Passes → b ≡ c) → a orElse b ≡ a orElse c
+unfolding _orElse_
+orElse-same Passes h = h refl
+orElse-same (Stops r) h = refl
+
 -- the same of what code made of the first stage: where it stops that is the chain's, where it passes what is left decides
 pub stops-first : {a x : Judgement} {r : Refusal} (b : Judgement) → x ≡ a → x ≡ Stops r → Stops r ≡ a orElse b
 stops-first b e s = sym s ∙ e ∙ sym (orElse-stops b (sym e ∙ s))

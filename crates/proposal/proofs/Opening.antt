@@ -32,7 +32,9 @@ use Rattle.proposal.proofs.CaseOf.{reference-least, case-told}
 module _ (file : List ℕ) (runs : Runs) (o : Opened) (t : Opens file (length (runs .base)) (length (runs .wider)) (length (runs .local)) o) where
   -- the columns stay as they are
   with-judgement : (r : Judgement) → r ≡ judged file runs → Judges file runs (withJudgement o r)
-  with-judgement r a = record { judgement = a; counts = t .counts; settings = t .settings; nodes = t .nodes; circuits = t .circuits; tec = t .tec }
+  with-judgement r a =
+      let c = t .columns in
+      record { judgement = a; columns = record { counts = c .counts; settings = c .settings; nodes = c .nodes; circuits = c .circuits; tec = c .tec } }
 
   pub tables-stop : {r : Refusal} → o .judgement ≡ Stops r → Judges file runs o
   unfolding judged
@@ -54,14 +56,16 @@ module _ (file : List ℕ) (runs : Runs) (o : Opened) (t : Opens file (length (r
     pub passed-reference : 1 ≤ o .settings .reference
     unfolding tecOf
     passed-reference =
-        reference-least S (s .tables) few fewer o (s .counts) (s .settings) (s .nodes) (s .circuits)
-        (ap (λ (c : TecColumns). c .scaling) (s .tec))
+        let c = s .columns in
+        reference-least S (s .tables) few fewer o (c .counts) (c .settings) (c .nodes) (c .circuits)
+        (ap (λ (t : TecColumns). t .scaling) (c .tec))
 
     told-case : Told (gridOf S) (caseOf o)
     unfolding tecOf
     told-case =
-        case-told S (s .tables) few fewer o (s .counts) (s .settings) (s .nodes) (s .circuits)
-        (ap (λ (c : TecColumns). c .scaling) (s .tec)) runs
+        let c = s .columns in
+        case-told S (s .tables) few fewer o (c .counts) (c .settings) (c .nodes) (c .circuits)
+        (ap (λ (t : TecColumns). t .scaling) (c .tec)) runs
 
     of-length : {m : ℕ} → m ≡ o .counts .nodes + o .counts .circuits → m ≡ length (S .nodes) + length (S .circuits)
     of-length l = omega (arith, s .nodeCount, s .circuitCount)

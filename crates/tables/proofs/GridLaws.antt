@@ -1,17 +1,19 @@
 -- 6 and 7 of a study whose rows are sound, over its columns.
-use mathlib.Core.Path.{_≡_, refl, ap, ap₂}
+use mathlib.Core.Path.{_≡_, refl, sym, _∙_, ap, ap₂}
 use mathlib.Core.List.{List}
 use Prim.Native.Nat.{ℕ, _<_}
 use native.Mathlib.Omega.{arith}
 use lib.ListN.{length}
 use Rattle.integers.proofs.Sum.{sum-same}
 use Rattle.meaning.specs.declared.Kw.{Kw}
+use Rattle.meaning.specs.declared.Judgement.{Judgement}
 use Rattle.meaning.specs.declared.Judgement.the-variants.{Passes}
 use Rattle.meaning.specs.Answers.{_orElse_}
 use Rattle.meaning.specs.Columns.{kilowatts, kwAt}
 use Rattle.meaning.specs.Grid.{gridOf, nodeDemand, nodeTec, totalsStage}
 use Rattle.meaning.specs.Network.{reachStage}
-use Rattle.meaning.specs.Outcome.{rowsStage, gridStage}
+use Rattle.meaning.specs.Outcome.{rowsStage, gridStage, tablesStage}
+use Rattle.meaning.proofs.Answers.{orElse-same}
 use Rattle.meaning.proofs.Rows.{rows-at}
 use Rattle.meaning.proofs.Tables.{Rowwise, rows-pass}
 use Rattle.totals.proofs.TotalLaws.{same-totals}
@@ -20,12 +22,14 @@ use Rattle.layout.proofs.Rows.{counts-are, few}
 use Rattle.node_table.specs.Columns.{nodesOf}
 use Rattle.station_table.specs.Tec.{tecOf}
 use Rattle.tables.specs.declared.read.Read.{Read}
+use Rattle.tables.specs.Order.{frameStage}
 use Rattle.tables.specs.Reads.{Reads, SoundRows, endsOf, totalsIn}
 use Rattle.tables.specs.Walk.{endsNetwork}
 use Rattle.tables.proofs.ReachLaws.{ends-walk, ends-stage}
-use Rattle.tables.proofs.ReadLaws.{reference-is}
+use Rattle.tables.proofs.ReadLaws.{AllRead, all-read, reference-is}
+use Rattle.tables.proofs.OrderLaws.{rows-judged, chain-is}
 
-module _ {file : List ℕ} {a : Read} (t : Reads file a) (p : rowsStage (readable file) ≡ Passes) where
+module _ {file : List ℕ} {a : Read} (t : AllRead file a) (p : rowsStage (readable file) ≡ Passes) where
   rowwise : Rowwise (readable file)
   rowwise = rows-pass (readable file) .0 p
 
@@ -57,3 +61,16 @@ module _ {file : List ℕ} {a : Read} (t : Reads file a) (p : rowsStage (readabl
   unfolding gridStage
   grid-judgement =
       ap₂ _orElse_ (ends-stage t rowwise) totals-are
+
+-- ---- of what was read
+module _ {file : List ℕ} (base wider local : ℕ) {a : Read} (t : Reads (frameStage file base wider local) file a) where
+  rows-pass-all : a .rows ≡ Passes → rowsStage (readable file) ≡ Passes
+  rows-pass-all p = rows-judged file base wider local (sym (t .rows) ∙ p)
+
+  pub rows-sound : a .rows ≡ Passes → SoundRows a
+  rows-sound p = sound-rows (all-read t p) (rows-pass-all p)
+
+  pub tables-judged : {x : Judgement} → x ≡ (a .rows orElse reachStage (endsNetwork (endsOf a)) orElse totalsIn a) → x ≡ tablesStage file base wider local
+  tables-judged e =
+      e ∙ orElse-same (a .rows) (λ p. grid-judgement (all-read t p) (rows-pass-all p)) ∙ ap (λ (r : Judgement). r orElse gridStage (gridOf (readable file))) (t .rows)
+      ∙ chain-is file base wider local

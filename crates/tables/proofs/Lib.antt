@@ -1,6 +1,7 @@
 pub mod WalkLaws
+pub mod OrderLaws
 pub mod ReadLaws
 pub mod ReachLaws
 pub mod GridLaws
-pub mod ChainLaws
+pub mod FrameLaws
 pub mod Sound

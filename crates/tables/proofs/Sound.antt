@@ -6,6 +6,7 @@ use Prim.Native.Nat.{ℕ, _+_, _≤_}
 use native.Mathlib.Omega.{arith}
 use lib.ListN.{length}
 use Rattle.meaning.specs.declared.Judgement.the-variants.{Passes}
+use Rattle.meaning.specs.Study.{Study}
 use Rattle.meaning.specs.File.{sectionCount, fileWhole, runsWhole, studyOf, runsIn}
 use Rattle.meaning.specs.Conditions.{InRange, SoundTables}
 use Rattle.meaning.specs.Grid.{gridOf}
@@ -21,7 +22,9 @@ use Rattle.station_table.specs.Tec.{tecOf}
 use Rattle.layout.proofs.FileLaws.{whole-file}
 use Rattle.layout.proofs.Rows.{readable-whole}
 use Rattle.tables.specs.declared.Opened.{Opened}
-use Rattle.tables.specs.Opens.{Opens}
+use Rattle.tables.specs.Order.{frameStage}
+use Rattle.tables.specs.Opens.{Columns, Opens}
+use Rattle.tables.proofs.OrderLaws.{shown-all, rows-passed, chain-is}
 
 -- ---- of a file and the lengths of the three runs
 module _ (file : List ℕ) (base wider local : ℕ) (p : tablesStage file base wider local ≡ Passes) where
@@ -44,14 +47,31 @@ module _ (file : List ℕ) (base wider local : ℕ) (p : tablesStage file base w
   passes-runs = (says-eq also says-eq also says-eq) .0 (passes-unless _ _ .0 (parts .1))
 
 -- ---- of a file that was opened: its columns are those of its study, which is sound
+pub record StudyColumns (S : Study) (o : Opened) : Type 0 where
+  pub counts : o .counts ≡ countsOf S
+  pub settings : settingsIn (o .settings) ≡ S .settings
+  pub nodes : o .nodes ≡ nodesOf S
+  pub circuits : o .circuits ≡ circuitsOf S
+  pub tec : o .tec ≡ tecOf S
+
+pub study-columns : {file : List ℕ} {base wider local : ℕ} {o : Opened} → Columns file base wider local o → tablesStage file base wider local ≡ Passes
+    → StudyColumns (studyOf file) o
+study-columns {file} {base} {wider} {local} t p =
+    let r = rows-passed (frameStage file base wider local) file (passes-orElse _ _ .0 (chain-is file base wider local ∙ p) .0) in
+    let n = shown-all (r .toNodes) file in
+    let e = readable-whole file (passes-whole file base wider local p) in
+    record {
+      counts = rw e at (t .counts);
+      settings = rw e at (t .settings);
+      nodes = rw (n, e) at (t .nodes);
+      circuits = rw (n, e) at (t .circuits);
+      tec = rw (shown-all (r .toCircuits) file, e) at (t .tec);
+    }
+
 pub record SoundOpened (file : List ℕ) (base wider local : ℕ) (o : Opened) : Type 0 where
   pub whole : fileWhole file ≡ true
   pub tables : SoundTables (studyOf file)
-  pub counts : o .counts ≡ countsOf (studyOf file)
-  pub settings : settingsIn (o .settings) ≡ studyOf file .settings
-  pub nodes : o .nodes ≡ nodesOf (studyOf file)
-  pub circuits : o .circuits ≡ circuitsOf (studyOf file)
-  pub tec : o .tec ≡ tecOf (studyOf file)
+  pub columns : StudyColumns (studyOf file) o
   pub nodeCount : o .counts .nodes ≡ length (studyOf file .nodes)
   pub circuitCount : o .counts .circuits ≡ length (studyOf file .circuits)
   pub stationCount : o .counts .stations ≡ length (studyOf file .stations)
@@ -65,25 +85,21 @@ pub record SoundOpened (file : List ℕ) (base wider local : ℕ) (o : Opened) :
 pub opened-sound : {file : List ℕ} {base wider local : ℕ} {o : Opened} → Opens file base wider local o → o .judgement ≡ Passes
     → SoundOpened file base wider local o
 unfolding countsOf
-opened-sound {file} {base} {wider} {local} {o} t s =
-    let p : tablesStage file base wider local ≡ Passes = sym (t .judgement) ∙ s in
+opened-sound {file} {base} {wider} {local} {o} t q =
+    let p : tablesStage file base wider local ≡ Passes = sym (t .judgement) ∙ q in
     let h = passes-whole file base wider local p in
-    let e = readable-whole file h in
     let w = whole-file file h in
     let l = starts.counts file (runsIn file) w in
     let r = passes-runs file base wider local p in
-    let c : o .counts ≡ countsOf (studyOf file) = rw e at (t .counts) in
+    let s = study-columns (t .columns) p in
+    let c = s .counts in
     let n : o .counts .nodes ≡ length (studyOf file .nodes) = rw c refl in
     let m : o .counts .circuits ≡ length (studyOf file .circuits) = rw c refl in
     let k : o .counts .stations ≡ length (studyOf file .stations) = rw c refl in
     record {
       whole = h;
       tables = passes-sound file base wider local p;
-      counts = c;
-      settings = rw e at (t .settings);
-      nodes = rw e at (t .nodes);
-      circuits = rw e at (t .circuits);
-      tec = rw e at (t .tec);
+      columns = s;
       nodeCount = n;
       circuitCount = m;
       stationCount = k;

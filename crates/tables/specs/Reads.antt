@@ -7,7 +7,6 @@ use Rattle.meaning.specs.declared.Refusal.the-variants.{BadTotal}
 use Rattle.meaning.specs.declared.Kw.{Kw}
 use Rattle.meaning.specs.Answers.{unless}
 use Rattle.meaning.specs.Grid.{soundTotals}
-use Rattle.meaning.specs.Tables.{circuitsStage, stationsStage}
 use Rattle.layout.specs.Readable.{readable}
 use Rattle.layout.specs.Frame.{countsOf, settingsIn}
 use Rattle.totals.specs.Totals.{totalOf}
@@ -17,16 +16,16 @@ use Rattle.station_table.specs.Tec.{tecOf}
 use Rattle.tables.specs.declared.read.Read.{Read}
 use Rattle.tables.specs.declared.reach.Ends.{Ends}
 use Rattle.tables.specs.Walk.{Walks}
+use Rattle.tables.specs.Order.{readAfter, thenNodes, thenCircuits, thenStations}
 
--- the columns of a file, and what stops its circuits and its stations
-pub record Reads (file : List ℕ) (a : Read) : Type 0 where
+-- what is read where the frame was judged so: each table's columns where nothing before stops the file, and what stops it first among 1 to 5
+pub record Reads (frame : Judgement) (file : List ℕ) (a : Read) : Type 0 where
+  pub rows : a .rows ≡ thenStations frame file
   pub counts : a .counts ≡ countsOf (readable file)
   pub settings : settingsIn (a .settings) ≡ readable file .settings
-  pub nodes : a .nodes ≡ nodesOf (readable file)
-  pub circuits : a .circuits ≡ circuitsOf (readable file)
-  pub tec : a .tec ≡ tecOf (readable file)
-  pub circuit : a .circuit ≡ circuitsStage (readable file)
-  pub station : a .station ≡ stationsStage (readable file)
+  pub nodes : a .nodes ≡ nodesOf (readAfter (thenNodes frame file) file)
+  pub circuits : a .circuits ≡ circuitsOf (readAfter (thenNodes frame file) file)
+  pub tec : a .tec ≡ tecOf (readAfter (thenCircuits frame file) file)
 
 -- the circuits' ends, for the walk from the reference
 abbrev pub endsOf : Read → Ends

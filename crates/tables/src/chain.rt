@@ -2,7 +2,6 @@
 use crate::reach;
 use crate::reach::Ends;
 use crate::read::Read;
-use crate::settings;
 use answers::or_else;
 use meaning::Judgement;
 use meaning::Kw;
@@ -10,28 +9,17 @@ use meaning::Refusal;
 ghost use mathlib.Core.Path.{_≡_};
 ghost use mathlib.Core.Bool.{_&&_};
 ghost use lib.Dec.{eqb};
+ghost use Rattle.meaning.specs.declared.Judgement.the-variants.{Passes};
 ghost use Rattle.meaning.specs.Answers.{_orElse_};
-ghost use Rattle.meaning.specs.Grid.{gridOf};
 ghost use Rattle.meaning.specs.Network.{reachStage};
-ghost use Rattle.meaning.specs.Outcome.{rowsStage, gridStage, tablesStage};
-ghost use Rattle.layout.specs.Readable.{readable};
-ghost use Rattle.tables.specs.Reads.{Reads, SoundRows, endsOf, totalsOf, totalsIn};
+ghost use Rattle.tables.specs.Reads.{SoundRows, endsOf, totalsOf, totalsIn};
 ghost use Rattle.tables.specs.Walk.{endsNetwork};
 
-// 2 to 5.
-pub fn rows_stage(file: &[u8], all: Read) -> Judgement
-    requires { ⌜ Reads (now file) all ⌝ }
-    ensures { λ r. ⌜ r ≡ rowsStage (readable (now (file .entry))) ⌝ }
+// Whether the three runs have this length.
+pub fn same_lengths(base: usize, wider: usize, local: usize, count: usize) -> bool
+    ensures { λ r. ⌜ r ≡ (eqb base count && eqb wider count && eqb local count) ⌝ }
 {
-    let counts = all.counts;
-    let read = all.settings;
-    let circuit = all.circuit;
-    let station = all.station;
-    let setting = settings::stage(read, counts.nodes);
-    or_else(
-        setting,
-        or_else(node_table::judge(file), or_else(circuit, station)),
-    )
+    (base == count) & (wider == count) & (local == count)
 }
 
 // The circuits' ends, for the walk.
@@ -73,42 +61,19 @@ pub fn grid_stage(all: Read) -> Judgement
     let tec = all.tec;
     let demand = nodes.demand;
     let scaling = tec.scaling;
-    or_else(
-        reach::stage(ends(all)),
-        totals_stage(counts.nodes, demand, scaling),
-    )
+    let reached = reach::stage(ends(all));
+    let totalled = totals_stage(counts.nodes, demand, scaling);
+    or_else(reached, totalled)
 }
 
-// 2 to 7.
-pub fn study_stage(file: &[u8], all: Read) -> Judgement
-    requires { ⌜ Reads (now file) all ⌝ }
-    ensures { λ r. ⌜ r ≡ (rowsStage (readable (now (file .entry))) orElse gridStage (gridOf (readable (now (file .entry))))) ⌝ }
+// 1 to 7: what stops the rows that were read, else 6 and 7.
+pub fn judgement(all: Read) -> Judgement
+    requires { ⌜ (all .rows ≡ Passes → SoundRows all) ⌝ }
+    ensures { λ r. ⌜ r ≡ (all .rows orElse reachStage (endsNetwork (endsOf all)) orElse totalsIn all) ⌝ }
 {
-    let rows = rows_stage(file, all);
+    let rows = all.rows;
     match rows {
-        Judgement::Passes => grid_stage(all),
         Judgement::Stops(cause) => Judgement::Stops(cause),
+        Judgement::Passes => grid_stage(all),
     }
-}
-
-// Whether the three runs have this length.
-pub fn same_lengths(base: usize, wider: usize, local: usize, count: usize) -> bool
-    ensures { λ r. ⌜ r ≡ (eqb base count && eqb wider count && eqb local count) ⌝ }
-{
-    (base == count) & (wider == count) & (local == count)
-}
-
-// 1 to 7.
-pub fn tables_stage(file: &[u8], base: usize, wider: usize, local: usize, all: Read) -> Judgement
-    requires { ⌜ Reads (now file) all ⌝ }
-    ensures { λ r. ⌜ r ≡ tablesStage (now (file .entry)) base wider local ⌝ }
-{
-    if layout::whole(file) {
-        let counts = all.counts;
-        if same_lengths(base, wider, local, counts.nodes + counts.circuits) {
-            return study_stage(file, all);
-        }
-        return Judgement::Stops(Refusal::BadFile);
-    }
-    Judgement::Stops(Refusal::BadFile)
 }

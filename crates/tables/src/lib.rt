@@ -4,11 +4,14 @@ mod reach;
 mod read;
 mod settings;
 
+ghost use mathlib.Core.Path.{_≡_};
+ghost use Rattle.tables.specs.Order.{frameStage};
 ghost use Rattle.tables.specs.Opens.{Opens};
 use circuit_table::CircuitColumns;
 use layout::RowCounts;
 use layout::StudySettings;
 use meaning::Judgement;
+use meaning::Refusal;
 use node_table::NodeColumns;
 use station_table::TecColumns;
 
@@ -22,12 +25,26 @@ pub struct Opened {
     pub tec: TecColumns,
 }
 
-// The columns of a file, its names resolved once, and the judgement of it with the lengths of the three runs.
+// 1 and 2, before any table is read: a file that is not whole, a run of another length, a setting out of its range.
+pub fn frame(file: &[u8], base: usize, wider: usize, local: usize) -> Judgement
+    ensures { λ r. ⌜ r ≡ frameStage (now (file .entry)) base wider local ⌝ }
+{
+    if layout::whole(file) {
+        let counts = layout::counts(file);
+        if chain::same_lengths(base, wider, local, counts.nodes + counts.circuits) {
+            return settings::stage(layout::settings(file), counts.nodes);
+        }
+        return Judgement::Stops(Refusal::BadFile);
+    }
+    Judgement::Stops(Refusal::BadFile)
+}
+
+// The judgement of a file with the lengths of the three runs, its tables read in their order and its names resolved once; and its columns.
 pub fn open(file: &[u8], base: usize, wider: usize, local: usize) -> Opened
     ensures { λ r. ⌜ Opens (now (file .entry)) base wider local r ⌝ }
 {
-    let all = read::tables(file);
-    let judgement = chain::tables_stage(file, base, wider, local, all);
+    let all = read::tables(frame(file, base, wider, local), file);
+    let judgement = chain::judgement(all);
     let counts = all.counts;
     let settings = all.settings;
     let nodes = all.nodes;

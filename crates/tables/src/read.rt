@@ -1,43 +1,57 @@
-// A file's tables read once, each judged row by row as it is read.
-ghost use Rattle.tables.specs.Reads.{Reads};
+// A file's tables, read and judged in their order: each once, and only where nothing before it stops the file.
+use answers::or_else;
 use circuit_table::CircuitColumns;
 use layout::RowCounts;
 use layout::StudySettings;
 use meaning::Judgement;
 use node_table::NodeColumns;
 use station_table::TecColumns;
+ghost use mathlib.Core.Path.{_≡_};
+ghost use Rattle.tables.specs.Order.{shown};
+ghost use Rattle.tables.specs.Reads.{Reads};
 
-// The columns of a file, and what stops its circuits and its stations.
+// What stops a file first among 1 to 5, and the columns that were read on the way.
 pub struct Read {
+    pub rows: Judgement,
     pub counts: RowCounts,
     pub settings: StudySettings,
     pub nodes: NodeColumns,
     pub circuits: CircuitColumns,
     pub tec: TecColumns,
-    pub circuit: Judgement,
-    pub station: Judgement,
 }
 
-// All that the judgement needs of a file.
-pub fn tables(file: &[u8]) -> Read
-    ensures { λ r. ⌜ Reads (now (file .entry)) r ⌝ }
+// What is read of a file once the stages before have judged it: all, or nothing where they stop it.
+pub fn shown(before: Judgement, file: &[u8]) -> &[u8]
+    ensures { λ r. ⌜ now r ≡ shown before (now (file .entry)) ⌝ }
+{
+    match before {
+        Judgement::Passes => file,
+        Judgement::Stops(_) => &file[0..0],
+    }
+}
+
+// All that 6 and 7 and the steps need of a file whose frame was judged. A table that is not shown has no rows, and so stops nothing.
+pub fn tables(frame: Judgement, file: &[u8]) -> Read
+    ensures { λ r. ⌜ Reads frame (now (file .entry)) r ⌝ }
 {
     let counts = layout::counts(file);
     let settings = layout::settings(file);
-    let nodes = node_table::columns(file);
-    let judged = circuit_table::judge(file);
+    let after_nodes = or_else(frame, node_table::judge(shown(frame, file)));
+    let network = shown(after_nodes, file);
+    let nodes = node_table::columns(network);
+    let judged = circuit_table::judge(network);
     let circuits = judged.columns;
     let circuit = judged.judgement;
-    let summed = station_table::judge(file);
+    let after_circuits = or_else(after_nodes, circuit);
+    let summed = station_table::judge(shown(after_circuits, file));
     let tec = summed.tec;
     let station = summed.judgement;
     Read {
+        rows: or_else(after_circuits, station),
         counts,
         settings,
         nodes,
         circuits,
         tec,
-        circuit,
-        station,
     }
 }

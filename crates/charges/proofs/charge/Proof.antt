@@ -1,29 +1,11 @@
 -- `charges::charge` meets its contract.
-use mathlib.Core.List.{List}
-use Prim.Native.Nat.{ℕ}
-use Rattle.meaning.specs.Study.{Runs, runsOf}
-use Rattle.tables.specs.declared.Opened.{Opened}
-use Rattle.charges.proofs.Charging.{stopped, charged}
+use Rattle.charges.proofs.Charging.{frame-stopped}
 use borrow.Author.Needs.{needs}
 use Rattle.charges.proofs.charge.Statement.{statement}
 use Rattle.charges.proofs.charge.Tie as tie
 
--- the file, the runs, and what the judge gave of them
-module _ (c : tie.After-open) where
-  abbrev s : tie.Start
-  s = c .before .before
-
-  abbrev bytes : List ℕ
-  bytes = s .args .file .now
-
-  abbrev runs : Runs
-  runs = runsOf (s .args .base .now) (s .args .wider .now) (s .args .local .now)
-
-  abbrev read : Opened
-  read = c .«open» .result
-
-open-requires : tie.Need-open-requires
-open-requires c κs = search needs
+frame-requires : tie.Need-frame-requires
+frame-requires c κs = search needs
 
 enum-told : tie.Need-enum-told
 enum-told c = search needs
@@ -34,29 +16,23 @@ no-figures-requires c κs = search needs
 enum-told-2 : tie.Need-enum-told-2
 enum-told-2 c = search needs
 
-figures-requires : tie.Need-figures-requires
-figures-requires c κs = search needs
+of-columns-requires : tie.Need-of-columns-requires
+of-columns-requires c κs = search needs
 
 returns : tie.Need-returns
-returns c =
-    let d = c .before in
-    let a = d .before .before in
-    stopped (bytes a) (runs a) (read a) (a .«open» .ensures) (d .enum-told .given .1) (c .no-figures .ensures)
+returns c = let d = c .before in frame-stopped _ _ (d .before .before .frame .ensures) (d .enum-told .given .1) (c .no-figures .ensures)
 
 returns-2 : tie.Need-returns-2
-returns-2 c =
-    let d = c .before .before .before .before .before .before in
-    let a = d .before .before in
-    charged (bytes a) (runs a) (read a) (a .«open» .ensures) (d .enum-told2 .given .1) (c .figures .ensures)
+returns-2 c = search needs
 
 pub charge-spec : {M : Type 1} → statement M
 charge-spec =
     tie.close
     (tie.spec
-    open-requires
+    frame-requires
     enum-told
     no-figures-requires
     enum-told-2
-    figures-requires
+    of-columns-requires
     returns
     returns-2)

@@ -1,0 +1,62 @@
+-- `charges::of_columns` meets its contract.
+use mathlib.Core.List.{List}
+use Prim.Native.Nat.{ℕ}
+use Rattle.meaning.specs.Study.{Runs, runsOf}
+use Rattle.tables.specs.declared.Opened.{Opened}
+use Rattle.charges.proofs.Charging.{stopped, charged}
+use borrow.Author.Needs.{needs}
+use Rattle.charges.proofs.of_columns.Statement.{statement}
+use Rattle.charges.proofs.of_columns.Tie as tie
+
+-- the file, the runs, and what the judge gave of them
+module _ (c : tie.After-open) where
+  abbrev s : tie.Start
+  s = c .before .before
+
+  abbrev bytes : List ℕ
+  bytes = s .args .file .now
+
+  abbrev runs : Runs
+  runs = runsOf (s .args .base .now) (s .args .wider .now) (s .args .local .now)
+
+  abbrev read : Opened
+  read = c .«open» .result
+
+open-requires : tie.Need-open-requires
+open-requires c κs = search needs
+
+enum-told : tie.Need-enum-told
+enum-told c = search needs
+
+no-figures-requires : tie.Need-no-figures-requires
+no-figures-requires c κs = search needs
+
+enum-told-2 : tie.Need-enum-told-2
+enum-told-2 c = search needs
+
+figures-requires : tie.Need-figures-requires
+figures-requires c κs = search needs
+
+returns : tie.Need-returns
+returns c =
+    let d = c .before in
+    let a = d .before .before in
+    stopped (bytes a) (runs a) (read a) (a .«open» .ensures) (d .enum-told .given .1) (c .no-figures .ensures)
+
+returns-2 : tie.Need-returns-2
+returns-2 c =
+    let d = c .before .before .before .before .before .before in
+    let a = d .before .before in
+    charged (bytes a) (runs a) (read a) (a .«open» .ensures) (d .enum-told2 .given .1) (c .figures .ensures)
+
+pub of-columns-spec : {M : Type 1} → statement M
+of-columns-spec =
+    tie.close
+    (tie.spec
+    open-requires
+    enum-told
+    no-figures-requires
+    enum-told-2
+    figures-requires
+    returns
+    returns-2)
