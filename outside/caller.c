@@ -1,11 +1,12 @@
 /* Calls the library for another program, one request after another, each in memory where nothing beside what is lent can be touched.
  *
- * A request: eight u32 (where the blocks stand; what the buffers are filled from; the counts of file, base, wider, local, sheet and
- * answer), the file's bytes, the three runs. What comes back: the result of wirepulley_judge and its numbers, the result of
+ * A request: seven u32 (where the blocks stand; what the buffers are filled from; the counts of file, base, wider, local and sheet),
+ * the file's bytes, the three runs. What comes back: the result of wirepulley_judge and its numbers, the result of
  * wirepulley_write and its numbers, and the sheet's buffer whole. All little-endian.
  *
  * Each block ends where a page begins that may not be touched (where = 0), or starts where one ends (where = 1). What is only read is
- * lent through a view that may not be written. A call that touches more ends this program by a signal. */
+ * lent through a view that may not be written, and what is empty by NULL (where = 1). A call that touches more ends this program by a
+ * signal. */
 #define _GNU_SOURCE
 #include <stdio.h>
 #include <stdlib.h>
@@ -16,7 +17,7 @@
 #include "../clients/c/wirepulley.h"
 
 enum { PAGE = 4096 };
-enum { CASE, BASE, WIDER, LOCAL, SHEET, ANSWER, BLOCKS };
+enum { CASE, BASE, WIDER, LOCAL, SHEET, COUNTED, ANSWER = COUNTED, BLOCKS };
 
 /* A block's memory: what the library is lent, and where this program writes to it and reads from it. */
 struct block {
@@ -62,22 +63,25 @@ static void give(const void *from, size_t size) {
 }
 
 static size_t offset(const struct block *block, uint32_t where) { return where == 0 ? block->most - block->size : 0; }
-static uint8_t *lent(unsigned k, uint32_t where) { return blocks[k].lent + offset(&blocks[k], where); }
+static uint8_t *lent(unsigned k, uint32_t where) {
+    return where == 1 && blocks[k].size == 0 ? NULL : blocks[k].lent + offset(&blocks[k], where);
+}
 static uint8_t *ours(unsigned k, uint32_t where) { return blocks[k].ours + offset(&blocks[k], where); }
 
 /* What stands in the lent buffers before a call: byte i of the sheet is fill + i, number i of the answer is fill + i. */
-static void fill_buffers(uint32_t where, uint32_t fill, size_t numbers) {
+static void fill_buffers(uint32_t where, uint32_t fill) {
     uint8_t *sheet = ours(SHEET, where);
     for (size_t i = 0; i < blocks[SHEET].size; i++)
         sheet[i] = (uint8_t)(fill + i);
     uint64_t *answer = (uint64_t *)ours(ANSWER, where);
-    for (size_t i = 0; i < numbers; i++)
+    for (size_t i = 0; i < WIREPULLEY_ANSWER; i++)
         answer[i] = fill + i;
 }
 
 /* Reads what is lent; false where a count is too great or the request is cut short. */
 static int take_blocks(const uint32_t *count, uint32_t where) {
-    for (unsigned k = 0; k < BLOCKS; k++) {
+    blocks[ANSWER].size = WIDTH[ANSWER] * WIREPULLEY_ANSWER;
+    for (unsigned k = 0; k < COUNTED; k++) {
         blocks[k].size = WIDTH[k] * count[k];
         if (blocks[k].size > MOST[k] || (k < SHEET && blocks[k].size > 0 && !take(ours(k, where), blocks[k].size)))
             return 0;
@@ -90,12 +94,12 @@ static void call(const uint32_t *n, uint32_t where, uint32_t fill) {
     const uint8_t *file = lent(CASE, where);
     const int64_t *base = (int64_t *)lent(BASE, where), *wider = (int64_t *)lent(WIDER, where), *local = (int64_t *)lent(LOCAL, where);
     uint64_t *answer = (uint64_t *)lent(ANSWER, where);
-    fill_buffers(where, fill, n[ANSWER]);
-    uint64_t result = wirepulley_judge(file, n[CASE], base, n[BASE], wider, n[WIDER], local, n[LOCAL], answer, n[ANSWER]);
+    fill_buffers(where, fill);
+    uint64_t result = wirepulley_judge(file, n[CASE], base, n[BASE], wider, n[WIDER], local, n[LOCAL], answer);
     give(&result, sizeof result);
     give(ours(ANSWER, where), blocks[ANSWER].size);
-    fill_buffers(where, fill, n[ANSWER]);
-    result = wirepulley_write(file, n[CASE], base, n[BASE], wider, n[WIDER], local, n[LOCAL], lent(SHEET, where), n[SHEET], answer, n[ANSWER]);
+    fill_buffers(where, fill);
+    result = wirepulley_write(file, n[CASE], base, n[BASE], wider, n[WIDER], local, n[LOCAL], lent(SHEET, where), n[SHEET], answer);
     give(&result, sizeof result);
     give(ours(ANSWER, where), blocks[ANSWER].size);
     give(ours(SHEET, where), blocks[SHEET].size);
@@ -105,7 +109,7 @@ static void call(const uint32_t *n, uint32_t where, uint32_t fill) {
 int main(void) {
     for (unsigned k = 0; k < BLOCKS; k++)
         make(&blocks[k], MOST[k], k >= SHEET ? PROT_READ | PROT_WRITE : PROT_READ);
-    uint32_t head[2 + BLOCKS];
+    uint32_t head[2 + COUNTED];
     while (take(head, sizeof head)) {
         if (!take_blocks(head + 2, head[0])) {
             fputs("caller: a request is too long or cut short\n", stderr);

@@ -3,61 +3,11 @@
  *   cc -o example example.c ../../target/staticlib/libwirepulley.a
  *   ./example my.case
  *
- * Exit status: 0 a sheet, 1 a refusal, 2 no answer (usage, or the file cannot be read). */
+ * Exit status: 0 a sheet, 1 a refusal, 2 no answer (usage, or the file cannot be read, or the answer not written). */
 #include <errno.h>
-#include <inttypes.h>
-#include <stdio.h>
 #include <stdlib.h>
-#include <string.h>
 
-#include "wirepulley.h"
-
-enum { TRAILER = 64, LONGEST_FILE = 63616, LONGEST_RUN = 256 + 512 };
-
-/* A solution copied out of the file. */
-struct run {
-    int64_t numbers[LONGEST_RUN];
-    size_t count;
-};
-
-static const char *const REASONS[] = {
-    "accepted",
-    "the file is not whole",
-    "a setting is out of its range",
-    "a node row is malformed, out of range, or its name was seen earlier",
-    "a circuit row is malformed, out of range, or an end of it is unknown, or its ends are equal",
-    "a station row is malformed, out of range, its node unknown, or its identifier was seen earlier",
-    "a node cannot be reached from the reference",
-    "a total is out of its range, or total TEC is below total demand",
-    "a proposed number is out of range, or the reference's potential is not 0",
-    "the balance is broken at a node",
-    "the misses sum up too high",
-    "a circuit's direction is in doubt",
-    "the buffer is shorter than the sheet",
-};
-
-static uint64_t little_endian(const uint8_t *bytes, size_t size) {
-    uint64_t number = 0;
-    for (size_t i = size; i > 0; i--)
-        number = number << 8 | bytes[i - 1];
-    return number;
-}
-
-/* Copies solution 0, 1 or 2 from where the trailer says that it stands. Where nothing can stand there the run is empty: the library
- * refuses such a file as 1, as it does every file whose trailer is wrong. */
-static void copy_run(const uint8_t *file, size_t length, unsigned solution, struct run *run) {
-    run->count = 0;
-    if (length < TRAILER)
-        return;
-    const uint8_t *entry = file + length - TRAILER + 8 * (4 + solution);
-    uint64_t offset = little_endian(entry, 4), count = little_endian(entry + 4, 4);
-    if (count > LONGEST_RUN || offset + 8 * count > length)
-        return;
-    for (; run->count < count; run->count++) {
-        uint64_t bits = little_endian(file + offset + 8 * run->count, 8);
-        memcpy(&run->numbers[run->count], &bits, sizeof bits);
-    }
-}
+#include "example.h"
 
 /* The bytes of a file. One byte more than the longest case is enough to see that it is no case. */
 static size_t read_file(const char *name, uint8_t *bytes, size_t most) {
@@ -89,12 +39,14 @@ int main(int argc, char **argv) {
     copy_run(file, length, 1, &wider);
     copy_run(file, length, 2, &local);
     uint64_t number = wirepulley_write(file, length, base.numbers, base.count, wider.numbers, wider.count, local.numbers, local.count,
-                                       sheet, sizeof sheet, answer, WIREPULLEY_ANSWER);
-    if (number == 0) {
+                                       sheet, sizeof sheet, answer);
+    if (number == 0)
         fwrite(sheet, 1, answer[3], stdout);
-        return 0;
+    else
+        print_refusal(answer, stdout, stderr);
+    if (fflush(stdout) != 0 || ferror(stdout)) {
+        fprintf(stderr, "example: cannot write: %s\n", strerror(errno));
+        return 2;
     }
-    printf("refused %" PRIu64 " %" PRIu64 " %" PRIu64 "\n", answer[0], answer[1], answer[2]);
-    fprintf(stderr, "example: %s\n", REASONS[number]);
-    return 1;
+    return number == 0 ? 0 : 1;
 }

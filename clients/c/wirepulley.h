@@ -1,15 +1,17 @@
 /* Wirepulley: one study case for GB transmission charges in, a tariff sheet or a refusal out.
  *
  * Link with target/staticlib/libwirepulley.a, which `./do library` makes (x86-64 Linux). It needs memcpy and memset and nothing else:
- * no heap, no files, no locks, no state, so any number of threads may call it. A call takes at most 220,000 bytes of stack: give a thread that
- * calls it 512 KiB or more.
+ * no heap, no files, no locks, no state, so any number of threads may call it. A call takes at most WIREPULLEY_STACK bytes of stack;
+ * a stack that is too small ends the program by a signal, since frames are taken page by page.
  *
  * Every call has one answer, whatever the bytes and numbers are. What the checker cannot see is kept by the caller:
- *   - each pointer leads to as many elements as its count says; where a count is 0, nothing is read, but the pointer is not NULL;
- *   - int64_t and uint64_t are aligned as C aligns them;
+ *   - each pointer leads to as many elements as its count says; where the count is 0 the pointer is not used and may be NULL;
+ *   - `answer` leads to four numbers and is never NULL;
+ *   - runs (int64_t) and `answer` (uint64_t) are aligned for their type, as in any C call; bytes may stand anywhere;
  *   - `sheet` and `answer` overlap neither each other nor anything else that the call is given.
  *
- * An answer is four numbers. Rows count from 1.
+ * An answer is four numbers. Rows count from 1. A newer library may have refusals above 12, so look a number up in a table of your own
+ * only where the table has it.
  *
  *   number                          system     row                           length
  *   0  accepted                     0          0                             bytes of the sheet
@@ -51,6 +53,9 @@ extern "C" {
 /* No sheet is longer: a buffer of this many bytes is never refused as 12. */
 #define WIREPULLEY_LONGEST_SHEET 14240
 
+/* No call takes more bytes of stack than this, whatever it is given: leave a thread that calls the library so much beside its own. */
+#define WIREPULLEY_STACK 160000
+
 /* How many numbers an answer has. */
 #define WIREPULLEY_ANSWER 4
 
@@ -62,20 +67,19 @@ extern "C" {
  *   local, local_len          local solution, the same
  *   sheet, sheet_len          accepted: the sheet is at the front, and the bytes behind it are as they were.
  *                             Refused: every byte is as it was.
- *   answer, answer_len        number, system, row and length, where answer_len is 4 or more; numbers behind the fourth are as they
- *                             were. Where it is less, all of them are as they were.
+ *   answer                    gets number, system, row and length, whatever they are
  *
  * Returns the answer's number. */
 uint64_t wirepulley_write(const uint8_t *file, size_t file_len, const int64_t *base, size_t base_len, const int64_t *wider,
                           size_t wider_len, const int64_t *local, size_t local_len, uint8_t *sheet, size_t sheet_len,
-                          uint64_t *answer, size_t answer_len);
+                          uint64_t answer[WIREPULLEY_ANSWER]);
 
 /* Judges a case and writes no sheet: the same answer as wirepulley_write gives with room enough for the sheet. So where the case is
  * accepted, length is the length that a buffer for the sheet needs. The arguments are those of wirepulley_write.
  *
- * Returns the answer's number, 0 to 11. */
+ * Returns the answer's number, never 12. */
 uint64_t wirepulley_judge(const uint8_t *file, size_t file_len, const int64_t *base, size_t base_len, const int64_t *wider,
-                          size_t wider_len, const int64_t *local, size_t local_len, uint64_t *answer, size_t answer_len);
+                          size_t wider_len, const int64_t *local, size_t local_len, uint64_t answer[WIREPULLEY_ANSWER]);
 
 #ifdef __cplusplus
 }

@@ -57,22 +57,16 @@ static void differ(const char *what, const uint64_t *ours, const uint64_t *their
     abort();
 }
 
-/* A result, and the lent numbers afterwards: four where there is room for four, and the rest as it was. */
-static void hold(const char *what, uint64_t result, const uint64_t *answer, size_t answer_len, const uint64_t *expected) {
-    uint64_t ours[4];
-    memset(ours, 0x5a, sizeof ours);
-    memcpy(ours, answer, 8 * (answer_len < 4 ? answer_len : 4));
-    if (result != expected[0] || (answer_len >= 4 && memcmp(ours, expected, sizeof ours) != 0))
-        differ(what, ours, expected);
-    for (size_t i = 0; i < answer_len; i++)
-        if ((answer_len < 4 || i >= 4) && answer[i] != 0x5a5a5a5a5a5a5a5a)
-            differ("numbers that are to stay", ours, expected);
+/* A result, and the lent numbers afterwards. */
+static void hold(const char *what, uint64_t result, const uint64_t *answer, const uint64_t *expected) {
+    if (result != expected[0] || memcmp(answer, expected, 8 * WIREPULLEY_ANSWER) != 0)
+        differ(what, answer, expected);
 }
 
 int LLVMFuzzerTestOneInput(const uint8_t *data, size_t size) {
     if (size < CONTROL)
         return -1;
-    size_t length = size - CONTROL, sheet_len = data[0] | (data[1] & 15) << 8, answer_len = data[2] % 7, counts[3];
+    size_t length = size - CONTROL, sheet_len = data[0] | (data[1] & 15) << 8, counts[3];
     if (data[1] & 128)
         sheet_len = WIREPULLEY_LONGEST_SHEET;
     uint8_t *file = block(length), *sheet = block(sheet_len), *expected_sheet = block(sheet_len);
@@ -80,23 +74,23 @@ int LLVMFuzzerTestOneInput(const uint8_t *data, size_t size) {
     int64_t *runs[3];
     for (unsigned k = 0; k < 3; k++)
         runs[k] = run_of(file, length, k, data[3 + k] > 240 ? data[3 + k] & 3 : 0, &counts[k]);
-    uint64_t *answer = block(8 * answer_len), expected[4];
+    uint64_t *answer = block(8 * WIREPULLEY_ANSWER), expected[WIREPULLEY_ANSWER];
     memset(sheet, 0x5a, sheet_len);
     memset(expected_sheet, 0x5a, sheet_len);
-    memset(answer, 0x5a, 8 * answer_len);
+    memset(answer, 0x5a, 8 * WIREPULLEY_ANSWER);
     reference_write(file, length, (const int64_t *const *)runs, counts, expected_sheet, sheet_len, expected);
 
-    uint64_t number = wirepulley_write(file, length, runs[0], counts[0], runs[1], counts[1], runs[2], counts[2], sheet, sheet_len, answer, answer_len);
-    hold("the answer", number, answer, answer_len, expected);
+    uint64_t number = wirepulley_write(file, length, runs[0], counts[0], runs[1], counts[1], runs[2], counts[2], sheet, sheet_len, answer);
+    hold("the answer", number, answer, expected);
     if (memcmp(sheet, expected_sheet, sheet_len) != 0)
         differ("the buffer", expected, expected);
 
     /* The judgement is the same answer; where the buffer is too short, it is the answer with room enough. */
     if (expected[0] == 12)
         reference_judge(file, length, (const int64_t *const *)runs, counts, expected);
-    memset(answer, 0x5a, 8 * answer_len);
-    number = wirepulley_judge(file, length, runs[0], counts[0], runs[1], counts[1], runs[2], counts[2], answer, answer_len);
-    hold("the judgement", number, answer, answer_len, expected);
+    memset(answer, 0x5a, 8 * WIREPULLEY_ANSWER);
+    number = wirepulley_judge(file, length, runs[0], counts[0], runs[1], counts[1], runs[2], counts[2], answer);
+    hold("the judgement", number, answer, expected);
     free(file), free(sheet), free(expected_sheet), free(answer);
     for (unsigned k = 0; k < 3; k++)
         free(runs[k]);

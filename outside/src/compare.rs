@@ -1,7 +1,7 @@
 //! The run: inputs of each kind, each through the library and the reference.
 
 use crate::faults::{self, Draft, Fault, Told};
-use crate::input::{Input, Numbers, Outcome};
+use crate::input::{Input, Outcome};
 use crate::library::Library;
 use crate::networks::{network, SHAPES, TASTES};
 use crate::program::{run, Archive};
@@ -297,7 +297,6 @@ impl Compare {
 
     /// One input through the library, and for some through the programs: a difference is told.
     fn check(&mut self, mut input: Input, told: Option<Told>, cause: &str) -> Result<()> {
-        input.answer_len = self.chance.of(&[4, 4, 4, 4, 0, 1, 3, 5, 8]);
         input.place = self.chance.within(0, 1) as u32;
         input.fill = self.chance.bits() as u32;
         let (expected, answer) = input.expected();
@@ -388,7 +387,7 @@ fn which_row(input: &Input, (_, _, row): Told) -> &'static str {
 
 /// An outcome in a few lines.
 fn outcome_said(outcome: &Outcome) -> String {
-    let numbers: Numbers = outcome.written.1.get(..4).and_then(|four| four.try_into().ok()).unwrap_or_default();
-    let sheet = String::from_utf8_lossy(&outcome.sheet[..(numbers[3] as usize).min(outcome.sheet.len())]).into_owned();
+    let length = (outcome.written.1[3] as usize).min(outcome.sheet.len());
+    let sheet = String::from_utf8_lossy(&outcome.sheet[..length]).into_owned();
     format!("write {:?}, judge {:?}, buffer of {} bytes\n{sheet}", outcome.written, outcome.judged, outcome.sheet.len())
 }

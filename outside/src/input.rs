@@ -14,8 +14,6 @@ pub struct Input {
     /// Base, wider, local: judged in place of those in the file.
     pub runs: [Vec<i64>; 3],
     pub sheet_len: usize,
-    /// How many numbers the lent answer has.
-    pub answer_len: usize,
     /// 0: each lent block ends at memory that may not be touched; 1: it starts there.
     pub place: u32,
     /// What the lent buffers hold before: byte i of the sheet and number i of the answer count on from here.
@@ -26,8 +24,8 @@ pub struct Input {
 #[derive(Clone, PartialEq, Eq)]
 pub struct Outcome {
     /// Of the entry that judges and writes no sheet, and of the one that writes: the result, and the lent answer afterwards.
-    pub judged: (u64, Vec<u64>),
-    pub written: (u64, Vec<u64>),
+    pub judged: (u64, Numbers),
+    pub written: (u64, Numbers),
     pub sheet: Vec<u8>,
 }
 
@@ -39,7 +37,7 @@ impl Input {
 
     /// A file and three runs, room for any sheet.
     pub fn new(file: Vec<u8>, runs: [Vec<i64>; 3]) -> Input {
-        Input { file, runs, sheet_len: 14_240, answer_len: 4, place: 0, fill: 0 }
+        Input { file, runs, sheet_len: 14_240, place: 0, fill: 0 }
     }
 
     /// The lent runs.
@@ -52,23 +50,13 @@ impl Input {
         (0..self.sheet_len).map(|i| (self.fill as usize + i) as u8).collect()
     }
 
-    /// The answer's buffer after an answer: four numbers at the front, where there is room for four.
-    fn answer_after(&self, numbers: Numbers) -> Vec<u64> {
-        let mut answer: Vec<u64> = (0..self.answer_len as u64).map(|i| self.fill as u64 + i).collect();
-        if self.answer_len >= 4 {
-            answer[..4].copy_from_slice(&numbers);
-        }
-        answer
-    }
-
     /// What the reference says has to come of the call, and its answer.
     pub fn expected(&self) -> (Outcome, Numbers) {
         let mut sheet = self.sheet_before();
         let written = numbers(judge_into(&self.file, self.lent(), &mut sheet));
         // Judged with no buffer: the same answer, and what it is with room enough where the buffer is too short.
         let judged = if written[0] == 12 { numbers(self.with_room()) } else { written };
-        let after = |numbers: Numbers| (numbers[0], self.answer_after(numbers));
-        (Outcome { judged: after(judged), written: after(written), sheet }, written)
+        (Outcome { judged: (judged[0], judged), written: (written[0], written), sheet }, written)
     }
 
     /// What the reference answers with room enough for the sheet.
@@ -81,10 +69,7 @@ impl Input {
 
     /// The input as a text: the case maker's words, and what they don't tell as comments.
     pub fn text(&self) -> String {
-        let mut said = format!(
-            "# buffer of {} bytes, answer of {} numbers, place {}, fill {}\n",
-            self.sheet_len, self.answer_len, self.place, self.fill
-        );
+        let mut said = format!("# buffer of {} bytes, place {}, fill {}\n", self.sheet_len, self.place, self.fill);
         let own = reference::file::whole_case(&self.file).map(|case| case.runs);
         for (name, run) in
             ["base", "wider", "local"].iter().zip(&self.runs).filter(|_| own.as_ref() != Some(&self.runs))

@@ -1,6 +1,6 @@
 //! The library, called through the program `caller` that links it.
 
-use crate::input::{Input, Outcome};
+use crate::input::{Input, Numbers, Outcome};
 use std::io::{BufReader, BufWriter, Read, Result, Write};
 use std::process::{Child, ChildStdin, ChildStdout, Command, Stdio};
 
@@ -29,11 +29,7 @@ impl Library {
     /// One call. An error is the end of the caller, by a signal where the library touched what it was not lent.
     pub fn call(&mut self, input: &Input) -> Result<Outcome> {
         let counts = [input.file.len(), input.runs[0].len(), input.runs[1].len(), input.runs[2].len(), input.sheet_len];
-        let head = [input.place, input.fill]
-            .into_iter()
-            .chain(counts.map(|count| count as u32))
-            .chain([input.answer_len as u32]);
-        for number in head {
+        for number in [input.place, input.fill].into_iter().chain(counts.map(|count| count as u32)) {
             self.to.write_all(&number.to_le_bytes())?;
         }
         self.to.write_all(&input.file)?;
@@ -41,8 +37,8 @@ impl Library {
             self.to.write_all(&number.to_le_bytes())?;
         }
         self.to.flush()?;
-        let judged = (self.number()?, self.numbers(input.answer_len)?);
-        let written = (self.number()?, self.numbers(input.answer_len)?);
+        let judged = (self.number()?, self.numbers()?);
+        let written = (self.number()?, self.numbers()?);
         let mut sheet = vec![0; input.sheet_len];
         self.from.read_exact(&mut sheet)?;
         Ok(Outcome { judged, written, sheet })
@@ -54,8 +50,8 @@ impl Library {
         Ok(u64::from_le_bytes(bytes))
     }
 
-    fn numbers(&mut self, count: usize) -> Result<Vec<u64>> {
-        (0..count).map(|_| self.number()).collect()
+    fn numbers(&mut self) -> Result<Numbers> {
+        Ok([self.number()?, self.number()?, self.number()?, self.number()?])
     }
 
     /// No more calls: whether the caller ended well.

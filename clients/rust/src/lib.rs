@@ -1,5 +1,5 @@
 //! One study case for GB transmission charges in, a tariff sheet or a refusal out: safe Rust over the proved library.
-//! It keeps no state and takes no heap. A call takes at most 220,000 bytes of stack, so give a thread that calls it 512 KiB or more.
+//! A call of the library keeps no state and takes no heap.
 //!
 //! ```no_run
 //! let file = std::fs::read("my.case").unwrap();
@@ -10,6 +10,10 @@
 //!     Err(refusal) => println!("{refusal}"),
 //! }
 //! ```
+//!
+//! # Stack
+//!
+//! A call takes at most [`STACK`] bytes of stack: leave a thread that calls the library so much beside its own.
 
 mod refusal;
 mod solutions;
@@ -19,6 +23,9 @@ pub use solutions::Solutions;
 
 /// No sheet is longer: a buffer of this many bytes is never refused as too short.
 pub const LONGEST_SHEET: usize = 14_240;
+
+/// No call takes more bytes of stack, whatever it is given.
+pub const STACK: usize = 160_000;
 
 extern "C" {
     fn wirepulley_write(
@@ -32,8 +39,7 @@ extern "C" {
         local_len: usize,
         sheet: *mut u8,
         sheet_len: usize,
-        answer: *mut u64,
-        answer_len: usize,
+        answer: *mut [u64; 4],
     ) -> u64;
     fn wirepulley_judge(
         file: *const u8,
@@ -44,15 +50,14 @@ extern "C" {
         wider_len: usize,
         local: *const i64,
         local_len: usize,
-        answer: *mut u64,
-        answer_len: usize,
+        answer: *mut [u64; 4],
     ) -> u64;
 }
 
 /// What the library answers, as document 01 numbers it.
 #[derive(Clone, Copy, Debug, PartialEq, Eq)]
 pub struct Answer {
-    /// 0 where the case is accepted, else 1 to 12.
+    /// 0 where the case is accepted, else a refusal's: 1 to 12, or more from a newer library.
     pub number: u64,
     /// 1 base, 2 wider, 3 local; 0 where the answer is about none of them.
     pub system: u64,
@@ -70,7 +75,8 @@ impl Answer {
     /// The sheet's length, or what stopped the case.
     pub fn result(self) -> Result<usize, Refusal> {
         match Refusal::of(self) {
-            None => Ok(self.length as usize),
+            // no memory has a sheet that a usize does not count
+            None => Ok(usize::try_from(self.length).unwrap_or(usize::MAX)),
             Some(refusal) => Err(refusal),
         }
     }
@@ -97,7 +103,7 @@ impl Case<'_> {
     pub fn answer(&self, sheet: &mut [u8]) -> Answer {
         let Case { file, base, wider, local } = self;
         let mut answer = [0; 4];
-        // SAFETY: each pointer and count are those of a slice that outlives the call. The two that are written to are lent alone.
+        // SAFETY: each pointer and count are those of a slice that outlives the call, and the answer has four numbers. The two that are written to are lent alone.
         unsafe {
             wirepulley_write(
                 file.as_ptr(),
@@ -110,8 +116,7 @@ impl Case<'_> {
                 local.len(),
                 sheet.as_mut_ptr(),
                 sheet.len(),
-                answer.as_mut_ptr(),
-                answer.len(),
+                &mut answer,
             )
         };
         Answer::of(answer)
@@ -126,7 +131,7 @@ impl Case<'_> {
     pub fn judgement(&self) -> Answer {
         let Case { file, base, wider, local } = self;
         let mut answer = [0; 4];
-        // SAFETY: each pointer and count are those of a slice that outlives the call. The one that is written to is lent alone.
+        // SAFETY: each pointer and count are those of a slice that outlives the call, and the answer has four numbers. It is lent alone.
         unsafe {
             wirepulley_judge(
                 file.as_ptr(),
@@ -137,8 +142,7 @@ impl Case<'_> {
                 wider.len(),
                 local.as_ptr(),
                 local.len(),
-                answer.as_mut_ptr(),
-                answer.len(),
+                &mut answer,
             )
         };
         Answer::of(answer)

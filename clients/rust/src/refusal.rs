@@ -1,88 +1,133 @@
 //! Why there is no sheet, in plain words.
 
+#[cfg(test)]
+mod tests;
+
 use crate::Answer;
 use std::fmt;
 
-/// The three systems whose solutions are proposed.
+/// The systems whose solutions are proposed. A newer client may have more.
 #[derive(Clone, Copy, Debug, PartialEq, Eq)]
+#[non_exhaustive]
 pub enum System {
     Base,
     Wider,
     Local,
 }
 
-/// What stopped a case. Rows count from 1.
+impl System {
+    fn of(number: u64) -> Option<System> {
+        match number {
+            1 => Some(System::Base),
+            2 => Some(System::Wider),
+            3 => Some(System::Local),
+            _ => None,
+        }
+    }
+
+    fn number(self) -> u64 {
+        match self {
+            System::Base => 1,
+            System::Wider => 2,
+            System::Local => 3,
+        }
+    }
+}
+
+/// What stopped a case. Rows count from 1. A newer client may have more reasons, so a match has an arm for those to come.
 #[derive(Clone, Copy, Debug, PartialEq, Eq)]
+#[non_exhaustive]
 pub enum Refusal {
     /// 1: length, trailer, version, counts, chain or the settings' zero wrong, or a solution of another length.
     File,
     /// 2: a setting out of its range.
     Setting,
     /// 3: a node row malformed, out of range, or its name seen earlier.
-    Node { row: usize },
+    Node { row: u64 },
     /// 4: a circuit row malformed, out of range, an end unknown, equal ends.
-    Circuit { row: usize },
+    Circuit { row: u64 },
     /// 5: a station row malformed, out of range, its node unknown, its identifier seen earlier.
-    Station { row: usize },
+    Station { row: u64 },
     /// 6: a node out of reach of the reference.
-    Unreached { row: usize },
+    Unreached { row: u64 },
     /// 7: a total out of its range, or total TEC below total demand.
     Total,
     /// 8: a proposed number out of range, or the reference's potential not 0. Circuits count after nodes.
-    Number { system: System, row: usize },
+    Number { system: System, row: u64 },
     /// 9: balance broken at a node.
-    Balance { system: System, row: usize },
+    Balance { system: System, row: u64 },
     /// 10: the misses' sum too high.
     Misses { system: System },
     /// 11: the direction of a circuit in doubt.
-    Direction { row: usize },
+    Direction { row: u64 },
     /// 12: the buffer shorter than the sheet. `Case::judge` never says so.
     Buffer,
+    /// A reason that this client does not know: another number, or one of these numbers with a system or row that it never has.
+    /// A newer client may have a variant of its own for it; what `number`, `system` and `row` say stays the same.
+    Unknown { number: u64, system: u64, row: u64 },
 }
 
 impl Refusal {
     /// The refusal that an answer is; none where it accepts the case.
     pub fn of(answer: Answer) -> Option<Refusal> {
-        let row = answer.row as usize;
-        let system = match answer.system {
-            2 => System::Wider,
-            3 => System::Local,
-            _ => System::Base,
-        };
-        Some(match answer.number {
-            0 => return None,
-            1 => Refusal::File,
-            2 => Refusal::Setting,
-            3 => Refusal::Node { row },
-            4 => Refusal::Circuit { row },
-            5 => Refusal::Station { row },
-            6 => Refusal::Unreached { row },
-            7 => Refusal::Total,
-            8 => Refusal::Number { system, row },
-            9 => Refusal::Balance { system, row },
-            10 => Refusal::Misses { system },
-            11 => Refusal::Direction { row },
-            12 => Refusal::Buffer,
-            number => unreachable!("the library has no answer {number}"),
+        let Answer { number, system, row, .. } = answer;
+        if number == 0 {
+            return None;
+        }
+        Some(Refusal::known(number, system, row).unwrap_or(Refusal::Unknown { number, system, row }))
+    }
+
+    fn known(number: u64, system: u64, row: u64) -> Option<Refusal> {
+        let proposed = System::of(system);
+        Some(match (number, system, row) {
+            (1, 0, 0) => Refusal::File,
+            (2, 0, 0) => Refusal::Setting,
+            (3, 0, row) => Refusal::Node { row },
+            (4, 0, row) => Refusal::Circuit { row },
+            (5, 0, row) => Refusal::Station { row },
+            (6, 0, row) => Refusal::Unreached { row },
+            (7, 0, 0) => Refusal::Total,
+            (8, _, row) => Refusal::Number { system: proposed?, row },
+            (9, _, row) => Refusal::Balance { system: proposed?, row },
+            (10, _, 0) => Refusal::Misses { system: proposed? },
+            (11, 1, row) => Refusal::Direction { row },
+            (12, 0, 0) => Refusal::Buffer,
+            _ => return None,
         })
     }
 
-    /// The number of document 01, 1 to 12.
-    pub fn number(self) -> u32 {
+    /// Number, system and row, as the library answers them.
+    fn numbers(self) -> (u64, u64, u64) {
         match self {
-            Refusal::File => 1,
-            Refusal::Setting => 2,
-            Refusal::Node { .. } => 3,
-            Refusal::Circuit { .. } => 4,
-            Refusal::Station { .. } => 5,
-            Refusal::Unreached { .. } => 6,
-            Refusal::Total => 7,
-            Refusal::Number { .. } => 8,
-            Refusal::Balance { .. } => 9,
-            Refusal::Misses { .. } => 10,
-            Refusal::Direction { .. } => 11,
-            Refusal::Buffer => 12,
+            Refusal::File => (1, 0, 0),
+            Refusal::Setting => (2, 0, 0),
+            Refusal::Node { row } => (3, 0, row),
+            Refusal::Circuit { row } => (4, 0, row),
+            Refusal::Station { row } => (5, 0, row),
+            Refusal::Unreached { row } => (6, 0, row),
+            Refusal::Total => (7, 0, 0),
+            Refusal::Number { system, row } => (8, system.number(), row),
+            Refusal::Balance { system, row } => (9, system.number(), row),
+            Refusal::Misses { system } => (10, system.number(), 0),
+            Refusal::Direction { row } => (11, 1, row),
+            Refusal::Buffer => (12, 0, 0),
+            Refusal::Unknown { number, system, row } => (number, system, row),
         }
+    }
+
+    /// The number of document 01; of a reason that this client does not know, the number that the library answered.
+    pub fn number(self) -> u64 {
+        self.numbers().0
+    }
+
+    /// 1 base, 2 wider, 3 local; 0 where the refusal is about none of them.
+    pub fn system(self) -> u64 {
+        self.numbers().1
+    }
+
+    /// Counted from 1; 0 where the refusal is about no row.
+    pub fn row(self) -> u64 {
+        self.numbers().2
     }
 }
 
@@ -98,7 +143,10 @@ impl fmt::Display for System {
 
 impl fmt::Display for Refusal {
     fn fmt(&self, to: &mut fmt::Formatter) -> fmt::Result {
-        write!(to, "refused ({}): ", self.number())?;
+        match self {
+            Refusal::Unknown { number, system, row } => write!(to, "refused {number} {system} {row}: ")?,
+            known => write!(to, "refused ({}): ", known.number())?,
+        }
         match self {
             Refusal::File => {
                 write!(to, "the file is not whole, or a solution has another length than nodes plus circuits")
@@ -125,6 +173,7 @@ impl fmt::Display for Refusal {
             Refusal::Misses { system } => write!(to, "{system} solution: the misses sum up too high"),
             Refusal::Direction { row } => write!(to, "the direction of circuit {row} is in doubt"),
             Refusal::Buffer => write!(to, "the buffer is shorter than the sheet"),
+            Refusal::Unknown { .. } => write!(to, "a reason this client does not know; use a newer client"),
         }
     }
 }

@@ -5,6 +5,9 @@ use crate::Case;
 /// The trailer: for each of seven sections its offset and its count, then version and length.
 const TRAILER: usize = 64;
 
+/// No solution is longer: 256 nodes and 512 circuits. A file that claims more gets no memory for it.
+const LONGEST: usize = 256 + 512;
+
 /// Three solutions: a potential for each node, then a flow for each circuit.
 #[derive(Clone, Debug, Default, PartialEq, Eq)]
 pub struct Solutions {
@@ -14,8 +17,8 @@ pub struct Solutions {
 }
 
 impl Solutions {
-    /// The solutions in a file, from where its trailer says that they stand. A solution that cannot stand there is empty: the
-    /// library refuses such a file as not whole in any case.
+    /// The solutions in a file, from where its trailer says that they stand. A solution that cannot stand there, or is too long, is
+    /// empty: the library refuses such a file as not whole in any case.
     pub fn of_file(file: &[u8]) -> Solutions {
         let solution = |section| section_of(file, section).unwrap_or_default();
         Solutions { base: solution(4), wider: solution(5), local: solution(6) }
@@ -30,9 +33,16 @@ impl Solutions {
 /// The numbers of a section, by its place among the seven.
 fn section_of(file: &[u8], section: usize) -> Option<Vec<i64>> {
     let trailer = file.get(file.len().checked_sub(TRAILER)?..)?;
-    let field =
-        |at: usize| u32::from_le_bytes([trailer[at], trailer[at + 1], trailer[at + 2], trailer[at + 3]]) as usize;
-    let (offset, count) = (field(8 * section), field(8 * section + 4));
+    let entry = trailer.chunks_exact(8).nth(section)?;
+    let (offset, count) = (field(entry.get(..4)?)?, field(entry.get(4..)?)?);
+    if count > LONGEST {
+        return None;
+    }
     let bytes = file.get(offset..offset.checked_add(count.checked_mul(8)?)?)?;
-    Some(bytes.chunks_exact(8).map(|number| i64::from_le_bytes(number.try_into().expect("eight bytes"))).collect())
+    bytes.chunks_exact(8).map(|number| Some(i64::from_le_bytes(number.try_into().ok()?))).collect()
+}
+
+/// A number of the trailer, from its four bytes.
+fn field(bytes: &[u8]) -> Option<usize> {
+    usize::try_from(u32::from_le_bytes(bytes.try_into().ok()?)).ok()
 }

@@ -1,10 +1,8 @@
 -- 01, What each entry settles: the contracts of the entries, which their code cites. A call is what a caller lent, what it got, and its buffers afterwards.
 use mathlib.Core.Path.{_≡_}
-use mathlib.Core.Bool.{cond}
 use mathlib.Core.List.{List, [], _∷_, _++_}
 use Prim.Native.Nat.{ℕ, _-_}
-use lib.Dec.{leb}
-use lib.ListN.{length, drop, replicate}
+use lib.ListN.{length, replicate}
 use Rattle.meaning.specs.declared.Values.{Values}
 use Rattle.meaning.specs.declared.Answer.{Answer}
 use Rattle.meaning.specs.declared.Printed.{Printed}
@@ -29,31 +27,26 @@ pub record Prints (text : List ℕ) (r : Printed) : Type 0 where
   pub long : r .length ≡ length text
   pub bytes : r .bytes ≡ text ++ replicate (16384 - length text) 0
 
--- ---- the exported entries, which answer in numbers
+-- ---- the exported entries, which answer in four numbers
 -- number, system, row and length, in this order
 abbrev pub four : Values → List ℕ
 four v = v .number ∷ v .system ∷ v .row ∷ v .length ∷ []
 
--- these four at the front of a lent buffer; one with no room for them is left as it is
-unfoldable pub told : Values → (numbers : List ℕ) → List ℕ
-told v numbers = cond (leb 4 (length numbers)) (four v ++ drop 4 numbers) numbers
-
--- a result, and the lent numbers before and after, tell an answer
-pub record Tells (a : Answer) (before after : List ℕ) (result : ℕ) : Type 0 where
+-- a result, and the lent numbers afterwards, tell an answer
+pub record Tells (a : Answer) (after : List ℕ) (result : ℕ) : Type 0 where
   pub number : result ≡ values a .number
-  pub numbers : after ≡ told (values a) before
+  pub numbers : after ≡ four (values a)
 
 -- a call of `wirepulley_write`
 pub record ToldCall : Type 0 where
   pub file : List ℕ
   pub runs : Runs
   pub before : List ℕ
-  pub numbersBefore : List ℕ
   pub result : ℕ
   pub after : List ℕ
-  pub numbersAfter : List ℕ
+  pub numbers : List ℕ
 
 -- its contract
 pub record ToldKept (c : ToldCall) : Type 0 where
-  pub answer : Tells (settle (c .file) (c .runs) (c .before) .answer) (c .numbersBefore) (c .numbersAfter) (c .result)
+  pub answer : Tells (settle (c .file) (c .runs) (c .before) .answer) (c .numbers) (c .result)
   pub buffer : c .after ≡ settle (c .file) (c .runs) (c .before) .buffer

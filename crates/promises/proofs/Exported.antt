@@ -1,9 +1,8 @@
 -- The demands hold of every call of the exported entry: its numbers tell the answer of 01's table.
-use mathlib.Core.Path.{_≡_, refl, sym, _∙_, ap, ap₂, subst}
+use mathlib.Core.Path.{_≡_, refl, sym, _∙_, ap, subst}
 use mathlib.Core.Logic.{_↔_, _⊎_, inl, inr, _≢_}
 use mathlib.Core.List.{List, _++_}
-use Prim.Native.Nat.{ℕ, _≤_, _<_}
-use borrow.Author.Tests.{le-leb, lt-leb}
+use Prim.Native.Nat.{ℕ}
 use lib.ListN.{length, getD, take, drop}
 use lib.Seq.{take-at}
 use Rattle.meaning.specs.declared.Refusal.{Refusal}
@@ -16,26 +15,13 @@ use Rattle.meaning.specs.Grid.{gridOf}
 use Rattle.meaning.specs.Outcome.{sheetOf, Settled, settle, written, refused}
 use Rattle.meaning.specs.Refusals.{Stopped}
 use Rattle.meaning.specs.Demands.{Accepting, Recovered, SameButStations, Agree, PassesToFive}
-use Rattle.meaning.specs.Calls.{Call, Kept, four, told, ToldCall, ToldKept}
+use Rattle.meaning.specs.Calls.{Call, Kept, four, ToldCall, ToldKept}
 use Rattle.meaning.proofs.Table.{values-tell, number-positive}
 use Rattle.claims.proofs.Listed.{stopped-listed}
 use Rattle.claims.proofs.Theorems.{accepted-exactly-when, refused-exactly-when, one-answer}
 use Rattle.promises.specs.Calls.{IsAccepted, sheetIn, Promised, BothPromised}
 use Rattle.promises.specs.Exported.{sheetAt, RefusalTold, ToldPromised, EveryToldPromised, EveryTwoTold}
 use Rattle.promises.proofs.Calls.{every-call-promised, every-two-promised}
-
--- ---- four numbers, told in a buffer with room for them
-four-told : (v : Values) (numbers : List ℕ) → 4 ≤ length numbers → take 4 (told v numbers) ≡ four v
-unfolding told
-four-told v numbers h = rw (le-leb 4 (length numbers) h) refl
-
-behind-four : (v : Values) (numbers : List ℕ) → 4 ≤ length numbers → drop 4 (told v numbers) ≡ drop 4 numbers
-unfolding told
-behind-four v numbers h = rw (le-leb 4 (length numbers) h) refl
-
-none-told : (v : Values) (numbers : List ℕ) → length numbers < 4 → told v numbers ≡ numbers
-unfolding told
-none-told v numbers h = rw (lt-leb 4 (length numbers) h) refl
 
 -- equal fours are of equal numbers
 nth : (k : ℕ) {v w : Values} → four v ≡ four w → getD (four v) k 0 ≡ getD (four w) k 0
@@ -62,8 +48,8 @@ module _ (c : ToldCall) (kept : ToldKept c) where
   abbrev n : ℕ
   n = length (sheetOf (c .file) (c .runs))
 
-  told-is : (a : Answer) → inner .answer ≡ a → (c .result ≡ values a .number) × (c .numbersAfter ≡ told (values a) (c .numbersBefore))
-  told-is a e = (kept .answer .number ∙ ap (λ (x : Answer). values x .number) e, kept .answer .numbers ∙ ap (λ (x : Answer). told (values x) (c .numbersBefore)) e)
+  told-is : (a : Answer) → inner .answer ≡ a → (c .result ≡ values a .number) × (c .numbers ≡ four (values a))
+  told-is a e = (kept .answer .number ∙ ap (λ (x : Answer). values x .number) e, kept .answer .numbers ∙ ap (λ (x : Answer). four (values x)) e)
 
   -- accepted
   accepting-answer : Accepting (c .file) (c .runs) (c .before) → inner .answer ≡ Accepted n
@@ -110,33 +96,29 @@ module _ (c : ToldCall) (kept : ToldKept c) where
   sheet-found : c .result ≡ 0 → sheetAt c n ≡ sheetOf (c .file) (c .runs)
   sheet-found e = ap (take n) (accepted-buffer e) ∙ take-at (sheetOf (c .file) (c .runs)) _ _ refl
 
-  -- ---- with room for four
-  module _ (room : 4 ≤ length (c .numbersBefore)) where
-    told-four : (a : Answer) → inner .answer ≡ a → take 4 (c .numbersAfter) ≡ four (values a)
-    told-four a e = ap (take 4) (told-is a e .1) ∙ four-told (values a) (c .numbersBefore) room
+  -- ---- the four numbers
+  told-four : (a : Answer) → inner .answer ≡ a → c .numbers ≡ four (values a)
+  told-four a e = told-is a e .1
 
-    length-told : (take 4 (c .numbersAfter) ≡ four (values (Accepted n))) ↔ Accepting (c .file) (c .runs) (c .before)
-    unfolding values
-    length-told = (λ e. go e (one-answer (c .file) (c .runs) (c .before) .either), λ t. told-four (Accepted n) (accepting-answer t))
-      where
-        go : take 4 (c .numbersAfter) ≡ four (values (Accepted n))
-            → Accepting (c .file) (c .runs) (c .before) ⊎ ((r : Refusal) × Stopped (c .file) (c .runs) (c .before) r) → Accepting (c .file) (c .runs) (c .before)
-        go e (inl t) = t
-        go e (inr (r, f)) = absurd (number-positive r (nth 0 (sym (told-four (Refused r) (whole .refused r .1 f)) ∙ e)))
+  length-told : (c .numbers ≡ four (values (Accepted n))) ↔ Accepting (c .file) (c .runs) (c .before)
+  unfolding values
+  length-told = (λ e. go e (one-answer (c .file) (c .runs) (c .before) .either), λ t. told-four (Accepted n) (accepting-answer t))
+    where
+      go : c .numbers ≡ four (values (Accepted n))
+          → Accepting (c .file) (c .runs) (c .before) ⊎ ((r : Refusal) × Stopped (c .file) (c .runs) (c .before) r) → Accepting (c .file) (c .runs) (c .before)
+      go e (inl t) = t
+      go e (inr (r, f)) = absurd (number-positive r (nth 0 (sym (told-four (Refused r) (whole .refused r .1 f)) ∙ e)))
 
-    refusal-told : (r : Refusal) → (take 4 (c .numbersAfter) ≡ four (values (Refused r))) ↔ Stopped (c .file) (c .runs) (c .before) r
-    unfolding values
-    refusal-told r = (λ e. go e (one-answer (c .file) (c .runs) (c .before) .either), λ f. told-four (Refused r) (whole .refused r .1 f))
-      where
-        go : take 4 (c .numbersAfter) ≡ four (values (Refused r))
-            → Accepting (c .file) (c .runs) (c .before) ⊎ ((q : Refusal) × Stopped (c .file) (c .runs) (c .before) q) → Stopped (c .file) (c .runs) (c .before) r
-        go e (inl t) = absurd (number-positive r (nth 0 (sym e ∙ told-four (Accepted n) (accepting-answer t))))
-        go e (inr (q, f)) =
-            let same = sym (told-four (Refused q) (whole .refused q .1 f)) ∙ e in
-            subst (Stopped (c .file) (c .runs) (c .before)) (values-tell q r (nth 0 same) (nth 1 same) (nth 2 same)) f
-
-    rest-kept : drop 4 (c .numbersAfter) ≡ drop 4 (c .numbersBefore)
-    rest-kept = ap (drop 4) (kept .answer .numbers) ∙ behind-four _ (c .numbersBefore) room
+  refusal-told : (r : Refusal) → (c .numbers ≡ four (values (Refused r))) ↔ Stopped (c .file) (c .runs) (c .before) r
+  unfolding values
+  refusal-told r = (λ e. go e (one-answer (c .file) (c .runs) (c .before) .either), λ f. told-four (Refused r) (whole .refused r .1 f))
+    where
+      go : c .numbers ≡ four (values (Refused r))
+          → Accepting (c .file) (c .runs) (c .before) ⊎ ((q : Refusal) × Stopped (c .file) (c .runs) (c .before) q) → Stopped (c .file) (c .runs) (c .before) r
+      go e (inl t) = absurd (number-positive r (nth 0 (sym e ∙ told-four (Accepted n) (accepting-answer t))))
+      go e (inr (q, f)) =
+          let same = sym (told-four (Refused q) (whole .refused q .1 f)) ∙ e in
+          subst (Stopped (c .file) (c .runs) (c .before)) (values-tell q r (nth 0 same) (nth 1 same) (nth 2 same)) f
 
   -- ---- the promises of the call that it makes, read from the numbers
   is-accepted : c .result ≡ 0 → IsAccepted inner
@@ -154,8 +136,6 @@ module _ (c : ToldCall) (kept : ToldKept c) where
     otherwise = is-refusal;
     lengthTold = length-told;
     refusalTold = refusal-told;
-    behindFour = rest-kept;
-    noRoom = λ h. kept .answer .numbers ∙ none-told _ (c .numbersBefore) h;
     revenue = λ e. subst (Recovered (gridOf (studyOf (c .file)))) (sheet-in e) (whole .revenue (is-accepted e));
   }
 
@@ -176,10 +156,10 @@ every-two-told c d keptC keptD = record { agree = agree; hidden = hidden }
         (two .agree (is-accepted c keptC e) (is-accepted d keptD f) same))
 
     hidden : c .runs ≡ d .runs → PassesToFive (c .file) (c .runs) → PassesToFive (d .file) (d .runs)
-        → SameButStations (studyOf (c .file)) (studyOf (d .file)) → length (c .before) ≡ length (d .before) → c .numbersBefore ≡ d .numbersBefore
-        → (c .result ≡ d .result) × (c .numbersAfter ≡ d .numbersAfter)
-    hidden runs p q same e numbers =
+        → SameButStations (studyOf (c .file)) (studyOf (d .file)) → length (c .before) ≡ length (d .before)
+        → (c .result ≡ d .result) × (c .numbers ≡ d .numbers)
+    hidden runs p q same e =
         let a = two .hidden runs p q same e in (
           keptC .answer .number ∙ ap (λ (x : Answer). values x .number) a ∙ sym (keptD .answer .number),
-          keptC .answer .numbers ∙ ap₂ (λ (x : Answer) (l : List ℕ). told (values x) l) a numbers ∙ sym (keptD .answer .numbers),
+          keptC .answer .numbers ∙ ap (λ (x : Answer). four (values x)) a ∙ sym (keptD .answer .numbers),
         )

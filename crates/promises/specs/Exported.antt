@@ -1,11 +1,10 @@
 -- The demands, said of calls of the exported `wirepulley_write`, whose contract is `ToldKept` (meaning/specs/Calls.antt): answers are numbers.
 use mathlib.Core.Path.{_≡_}
 use mathlib.Core.Logic.{_↔_, _≢_}
-use mathlib.Core.List.{List, [], _∷_, _++_}
-use Prim.Native.Nat.{ℕ, _≤_, _<_}
+use mathlib.Core.List.{List, _++_}
+use Prim.Native.Nat.{ℕ}
 use lib.ListN.{length, take, drop}
 use Rattle.meaning.specs.declared.Refusal.{Refusal}
-use Rattle.meaning.specs.declared.Values.{Values}
 use Rattle.meaning.specs.declared.Answer.the-variants.{Accepted, Refused}
 use Rattle.meaning.specs.Answers.{values}
 use Rattle.meaning.specs.File.{studyOf}
@@ -34,14 +33,9 @@ pub record ToldPromised (c : ToldCall) : Type 0 where
   pub sheet : c .result ≡ 0 → sheetAt c (length (sheetOf (c .file) (c .runs))) ≡ sheetOf (c .file) (c .runs)
   pub behind : c .result ≡ 0 → c .after ≡ sheetOf (c .file) (c .runs) ++ drop (length (sheetOf (c .file) (c .runs))) (c .before)
   pub otherwise : c .result ≢ 0 → RefusalTold c
-  -- with room for four numbers they are accepted's with the sheet's length, or this refusal's, exactly when; those behind the fourth are as they were
-  pub lengthTold : 4 ≤ length (c .numbersBefore)
-      → (take 4 (c .numbersAfter) ≡ four (values (Accepted (length (sheetOf (c .file) (c .runs)))))) ↔ Accepting (c .file) (c .runs) (c .before)
-  pub refusalTold : 4 ≤ length (c .numbersBefore) → (r : Refusal)
-      → (take 4 (c .numbersAfter) ≡ four (values (Refused r))) ↔ Stopped (c .file) (c .runs) (c .before) r
-  pub behindFour : 4 ≤ length (c .numbersBefore) → drop 4 (c .numbersAfter) ≡ drop 4 (c .numbersBefore)
-  -- with less, none of them is written
-  pub noRoom : length (c .numbersBefore) < 4 → c .numbersAfter ≡ c .numbersBefore
+  -- the four numbers are accepted's with the sheet's length, or this refusal's, exactly when
+  pub lengthTold : (c .numbers ≡ four (values (Accepted (length (sheetOf (c .file) (c .runs)))))) ↔ Accepting (c .file) (c .runs) (c .before)
+  pub refusalTold : (r : Refusal) → (c .numbers ≡ four (values (Refused r))) ↔ Stopped (c .file) (c .runs) (c .before) r
   -- the revenue, from the bytes that the caller got
   pub revenue : c .result ≡ 0 → Recovered (gridOf (studyOf (c .file))) (sheetAt c (length (sheetOf (c .file) (c .runs))))
 
@@ -54,8 +48,8 @@ pub record BothTold (c d : ToldCall) : Type 0 where
       → Agree (studyOf (c .file)) (c .runs) (d .runs) (sheetAt c (length (sheetOf (c .file) (c .runs)))) (sheetAt d (length (sheetOf (d .file) (d .runs))))
   -- and a refusal tells no more of the stations
   pub hidden : c .runs ≡ d .runs → PassesToFive (c .file) (c .runs) → PassesToFive (d .file) (d .runs)
-      → SameButStations (studyOf (c .file)) (studyOf (d .file)) → length (c .before) ≡ length (d .before) → c .numbersBefore ≡ d .numbersBefore
-      → (c .result ≡ d .result) × (c .numbersAfter ≡ d .numbersAfter)
+      → SameButStations (studyOf (c .file)) (studyOf (d .file)) → length (c .before) ≡ length (d .before)
+      → (c .result ≡ d .result) × (c .numbers ≡ d .numbers)
 
 abbrev pub EveryTwoTold : Type 0
 EveryTwoTold = (c d : ToldCall) → ToldKept c → ToldKept d → BothTold c d

@@ -35,11 +35,11 @@ pub record JudgePromised (file : List ℕ) (runs : Runs) (answer : Answer) : Typ
 abbrev pub EveryJudgePromised : Type 0
 EveryJudgePromised = (file : List ℕ) (runs : Runs) → JudgePromised file runs (answerOf file runs)
 
--- told in numbers: of a lent run of numbers before and after, and a result
-pub record ToldJudgePromised (file : List ℕ) (runs : Runs) (before after : List ℕ) (result : ℕ) : Type 0 where
+-- told in four numbers, and a result
+pub record ToldJudgePromised (file : List ℕ) (runs : Runs) (numbers : List ℕ) (result : ℕ) : Type 0 where
   pub answer : Answer
   pub promised : JudgePromised file runs answer
-  pub told : Tells answer before after result
+  pub told : Tells answer numbers result
 
 -- ---- demand 3: and an answer tells no more of the stations
 abbrev pub JudgesHideStations : Type 0

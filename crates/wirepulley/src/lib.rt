@@ -1,24 +1,25 @@
-// The library as C and Rust call it: a slice is a pointer and a count there, and an answer is numbers.
+// The library as C and Rust call it: a slice is a pointer and a count there, and an answer is four numbers.
 ghost use Rattle.meaning.specs.Study.{runsOf};
 ghost use Rattle.meaning.specs.Outcome.{answerOf};
 ghost use Rattle.meaning.specs.Calls.{Tells, ToldKept};
 use meaning::Answer;
 
-// Writes an answer's four numbers at the front of a buffer of four or more; a shorter one is left as it is. Gives the first of them.
-fn tell(answer: Answer, numbers: &mut [u64]) -> u64
-    ensures { λ r. ⌜ Tells answer (now (numbers .entry)) (now (numbers .exit)) r ⌝ }
+// Tells an answer in four numbers, and gives the first of them.
+fn tell(answer: Answer, numbers: &mut [u64; 4]) -> u64
+    ensures { λ r. ⌜ Tells answer (now (numbers .exit)) r ⌝ }
 {
     let carried = answers::values(answer);
-    if numbers.len() >= 4 {
-        numbers[0] = carried.number as u64;
-        numbers[1] = carried.system as u64;
-        numbers[2] = carried.row as u64;
-        numbers[3] = carried.length as u64;
-    }
-    carried.number as u64
+    let number = carried.number as u64;
+    *numbers = [
+        number,
+        carried.system as u64,
+        carried.row as u64,
+        carried.length as u64,
+    ];
+    number
 }
 
-// Judges a case and writes its sheet: 01's number (0 where accepted), the sheet's buffer and the answer's numbers, of any bytes, runs and buffers.
+// Judges a case and writes its sheet: 01's number (0 where accepted), the sheet's buffer and the answer's four numbers, of any bytes, runs and buffer.
 #[no_mangle]
 pub extern "C" fn wirepulley_write(
     file: &[u8],
@@ -26,9 +27,9 @@ pub extern "C" fn wirepulley_write(
     wider: &[i64],
     local: &[i64],
     out: &mut [u8],
-    numbers: &mut [u64],
+    numbers: &mut [u64; 4],
 ) -> u64
-    ensures { λ r. ⌜ ToldKept (record { file = now (file .entry); runs = runsOf (now (base .entry)) (now (wider .entry)) (now (local .entry)); before = now (out .entry); numbersBefore = now (numbers .entry); result = r; after = now (out .exit); numbersAfter = now (numbers .exit) }) ⌝ }
+    ensures { λ r. ⌜ ToldKept (record { file = now (file .entry); runs = runsOf (now (base .entry)) (now (wider .entry)) (now (local .entry)); before = now (out .entry); result = r; after = now (out .exit); numbers = now (numbers .exit) }) ⌝ }
 {
     let answer = sheet::write(file, base, wider, local, out);
     tell(answer, numbers)
@@ -41,9 +42,9 @@ pub extern "C" fn wirepulley_judge(
     base: &[i64],
     wider: &[i64],
     local: &[i64],
-    numbers: &mut [u64],
+    numbers: &mut [u64; 4],
 ) -> u64
-    ensures { λ r. ⌜ Tells (answerOf (now (file .entry)) (runsOf (now (base .entry)) (now (wider .entry)) (now (local .entry)))) (now (numbers .entry)) (now (numbers .exit)) r ⌝ }
+    ensures { λ r. ⌜ Tells (answerOf (now (file .entry)) (runsOf (now (base .entry)) (now (wider .entry)) (now (local .entry)))) (now (numbers .exit)) r ⌝ }
 {
     let answer = sheet::judge(file, base, wider, local);
     tell(answer, numbers)

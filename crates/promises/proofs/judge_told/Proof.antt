@@ -7,11 +7,8 @@ use Rattle.promises.proofs.judge_told.Tie as tie
 wirepulley-judge-requires : tie.Need-wirepulley-judge-requires
 wirepulley-judge-requires c κs = search needs
 
-same-length : tie.Need-same-length
-same-length c = search needs
-
 returns : tie.Need-returns
-returns c = record { answer = _; promised = every-judge-promised _ _; told = c .before .before .wirepulley-judge .ensures }
+returns c = record { answer = _; promised = every-judge-promised _ _; told = c .wirepulley-judge .ensures }
 
 pub judge-told-spec : {M : Type 1} → statement M
-judge-told-spec = tie.close (tie.spec wirepulley-judge-requires same-length returns)
+judge-told-spec = tie.close (tie.spec wirepulley-judge-requires returns)

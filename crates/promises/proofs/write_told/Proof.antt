@@ -10,11 +10,8 @@ wirepulley-write-requires c κs = search needs
 same-length : tie.Need-same-length
 same-length c = search needs
 
-same-length-2 : tie.Need-same-length-2
-same-length-2 c = search needs
-
 returns : tie.Need-returns
-returns c = every-told-promised _ (c .before .before .before .before .wirepulley-write .ensures)
+returns c = every-told-promised _ (c .before .before .wirepulley-write .ensures)
 
 pub write-told-spec : {M : Type 1} → statement M
-write-told-spec = tie.close (tie.spec wirepulley-write-requires same-length same-length-2 returns)
+write-told-spec = tie.close (tie.spec wirepulley-write-requires same-length returns)

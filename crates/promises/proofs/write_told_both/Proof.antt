@@ -16,14 +16,8 @@ same-length c = search needs
 same-length-2 : tie.Need-same-length-2
 same-length-2 c = search needs
 
-same-length-3 : tie.Need-same-length-3
-same-length-3 c = search needs
-
-same-length-4 : tie.Need-same-length-4
-same-length-4 c = search needs
-
 returns : tie.Need-returns
-returns c = every-two-told _ _ (c .before .before .before .before .before .before .before .before .before .before .before .wirepulley-write .ensures) (c .before .before .before .before .wirepulley-write2 .ensures)
+returns c = every-two-told _ _ (c .before .before .before .before .before .before .before .wirepulley-write .ensures) (c .before .before .wirepulley-write2 .ensures)
 
 pub write-told-both-spec : {M : Type 1} → statement M
 write-told-both-spec =
@@ -33,6 +27,4 @@ write-told-both-spec =
     wirepulley-write-requires-2
     same-length
     same-length-2
-    same-length-3
-    same-length-4
     returns)

@@ -10,13 +10,8 @@ judge-requires c κs = search needs
 tell-requires : tie.Need-tell-requires
 tell-requires c κs = search needs
 
-same-length : tie.Need-same-length
-same-length c = search needs
-
 returns : tie.Need-returns
-returns c =
-    let t = c .before .before in
-    tells-same _ _ (t .before .before .judge .ensures) (t .tell .ensures)
+returns c = tells-same _ _ (c .before .before .judge .ensures) (c .tell .ensures)
 
 pub wirepulley-judge-spec : {M : Type 1} → statement M
-wirepulley-judge-spec = tie.close (tie.spec judge-requires tell-requires same-length returns)
+wirepulley-judge-spec = tie.close (tie.spec judge-requires tell-requires returns)

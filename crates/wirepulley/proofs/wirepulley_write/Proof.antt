@@ -15,15 +15,11 @@ tell-requires c κs = search needs
 same-length : tie.Need-same-length
 same-length c = search needs
 
-same-length-2 : tie.Need-same-length-2
-same-length-2 c = search needs
-
 returns : tie.Need-returns
 returns c =
-    let t = c .before .before in
-    let e = t .before .before .before .before .write .ensures .contract in
-    record { answer = tells-same _ _ (ap (λ (s : Settled). s .answer) e) (t .tell .ensures); buffer = ap (λ (s : Settled). s .buffer) e }
+    let e = c .before .before .before .before .write .ensures .contract in
+    record { answer = tells-same _ _ (ap (λ (s : Settled). s .answer) e) (c .tell .ensures); buffer = ap (λ (s : Settled). s .buffer) e }
 
 pub wirepulley-write-spec : {M : Type 1} → statement M
 wirepulley-write-spec =
-    tie.close (tie.spec write-requires tell-requires same-length same-length-2 returns)
+    tie.close (tie.spec write-requires tell-requires same-length returns)

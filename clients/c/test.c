@@ -1,0 +1,180 @@
+/* Tests what the header says of counts of 0, and the example's words. Case KILN is on standard input.
+ *
+ * Exit status: 0 all is as it should be, 1 something is not (printed). A library that used a pointer whose count is 0 would end this
+ * program by a signal: no memory is at NULL. */
+#include "example.h"
+
+enum { BASE, WIDER, LOCAL, RUNS };
+enum { KILN_SHEET = 117, ROOM = 200, UNTOUCHED = 7 };
+
+/* What a call is given, but for the answer. */
+struct lent {
+    const uint8_t *file;
+    size_t length;
+    const int64_t *run[RUNS];
+    size_t count[RUNS];
+    uint8_t *sheet;
+    size_t room;
+};
+
+static uint8_t file[LONGEST_FILE], sheet[ROOM];
+static struct run runs[RUNS];
+static int failures;
+
+static void check(int holds, const char *what) {
+    if (!holds) {
+        printf("test: %s: not so\n", what);
+        failures++;
+    }
+}
+
+/* KILN with a fresh buffer. */
+static struct lent kiln(size_t length) {
+    struct lent lent;
+    lent.file = file;
+    lent.length = length;
+    for (unsigned k = 0; k < RUNS; k++) {
+        lent.run[k] = runs[k].numbers;
+        lent.count[k] = runs[k].count;
+    }
+    memset(sheet, UNTOUCHED, sizeof sheet);
+    lent.sheet = sheet;
+    lent.room = sizeof sheet;
+    return lent;
+}
+
+static void no_file(struct lent *lent) {
+    lent->file = NULL;
+    lent->length = 0;
+}
+
+static void no_run(struct lent *lent, unsigned k) {
+    lent->run[k] = NULL;
+    lent->count[k] = 0;
+}
+
+static void no_sheet(struct lent *lent) {
+    lent->sheet = NULL;
+    lent->room = 0;
+}
+
+static uint64_t call_write(const struct lent *lent, uint64_t *answer) {
+    return wirepulley_write(lent->file, lent->length, lent->run[BASE], lent->count[BASE], lent->run[WIDER], lent->count[WIDER],
+                            lent->run[LOCAL], lent->count[LOCAL], lent->sheet, lent->room, answer);
+}
+
+static uint64_t call_judge(const struct lent *lent, uint64_t *answer) {
+    return wirepulley_judge(lent->file, lent->length, lent->run[BASE], lent->count[BASE], lent->run[WIDER], lent->count[WIDER],
+                            lent->run[LOCAL], lent->count[LOCAL], answer);
+}
+
+static int is_answer(const uint64_t *answer, uint64_t number, uint64_t system, uint64_t row, uint64_t length) {
+    return answer[0] == number && answer[1] == system && answer[2] == row && answer[3] == length;
+}
+
+static int untouched(const uint8_t *bytes, size_t count) {
+    for (size_t i = 0; i < count; i++)
+        if (bytes[i] != UNTOUCHED)
+            return 0;
+    return 1;
+}
+
+/* Both functions refuse by these numbers, and the buffer stays as it was. */
+static void refused(const char *what, const struct lent *lent, uint64_t number, uint64_t system, uint64_t row) {
+    uint64_t written[WIREPULLEY_ANSWER], judged[WIREPULLEY_ANSWER];
+    check(call_write(lent, written) == number && is_answer(written, number, system, row, 0), what);
+    check(call_judge(lent, judged) == number && is_answer(judged, number, system, row, 0), what);
+    check(untouched(sheet, sizeof sheet), what);
+}
+
+static void test_kiln(size_t length) {
+    uint64_t answer[WIREPULLEY_ANSWER];
+    struct lent lent = kiln(length);
+    check(call_judge(&lent, answer) == 0 && is_answer(answer, 0, 0, 0, KILN_SHEET), "KILN is judged");
+    check(untouched(sheet, sizeof sheet), "judging writes no sheet");
+    check(call_write(&lent, answer) == 0 && is_answer(answer, 0, 0, 0, KILN_SHEET), "KILN is accepted");
+    check(!untouched(sheet, KILN_SHEET) && untouched(sheet + KILN_SHEET, ROOM - KILN_SHEET), "KILN's sheet is at the front");
+}
+
+static void test_no_file_and_no_runs(size_t length) {
+    struct lent lent = kiln(length);
+    no_file(&lent);
+    refused("no file", &lent, 1, 0, 0);
+    for (unsigned k = 0; k < RUNS; k++) {
+        lent = kiln(length);
+        no_run(&lent, k);
+        refused("a run that is not there", &lent, 1, 0, 0);
+    }
+    lent = kiln(length);
+    for (unsigned k = 0; k < RUNS; k++)
+        no_run(&lent, k);
+    refused("no runs", &lent, 1, 0, 0);
+    no_file(&lent);
+    refused("no file and no runs", &lent, 1, 0, 0);
+    no_sheet(&lent);
+    refused("no file, no runs and no sheet", &lent, 1, 0, 0);
+}
+
+static void test_no_sheet(size_t length) {
+    uint64_t answer[WIREPULLEY_ANSWER];
+    struct lent lent = kiln(length);
+    no_sheet(&lent);
+    check(call_write(&lent, answer) == 12 && is_answer(answer, 12, 0, 0, 0), "KILN without a sheet is refused as 12");
+    check(call_judge(&lent, answer) == 0 && is_answer(answer, 0, 0, 0, KILN_SHEET), "KILN without a sheet is judged");
+    lent.length = length - 1;
+    refused("a cut file without a sheet", &lent, 1, 0, 0);
+    lent.length = length;
+    lent.run[BASE] = runs[WIDER].numbers;
+    refused("the wider solution as base, without a sheet", &lent, 9, 1, 1);
+    lent.run[BASE] = runs[BASE].numbers;
+    struct run changed = runs[WIDER];
+    changed.numbers[5] = INT64_MIN;
+    lent.run[WIDER] = changed.numbers;
+    refused("a number out of range, without a sheet", &lent, 8, 2, 6);
+}
+
+/* What the example prints for a refusal, both files in one. */
+static int prints(uint64_t number, const char *expected) {
+    const uint64_t answer[WIREPULLEY_ANSWER] = {number, 2, 7, 0};
+    char said[300] = "";
+    FILE *both = tmpfile();
+    if (both == NULL)
+        return 0;
+    print_refusal(answer, both, both);
+    rewind(both);
+    said[fread(said, 1, sizeof said - 1, both)] = 0;
+    fclose(both);
+    return strcmp(said, expected) == 0;
+}
+
+static void test_words(void) {
+    static const char UNKNOWN[] = "a reason this program does not know";
+    static const uint64_t BEYOND[] = {13, 16, 255, UINT64_MAX / 8 + 1, UINT64_MAX};
+    for (uint64_t number = 0; number <= 12; number++) {
+        check(strcmp(reason(number), UNKNOWN) != 0, "numbers to 12 are known");
+        for (uint64_t other = 0; other < number; other++)
+            check(strcmp(reason(number), reason(other)) != 0, "each number has words of its own");
+    }
+    for (size_t i = 0; i < sizeof BEYOND / sizeof BEYOND[0]; i++)
+        check(strcmp(reason(BEYOND[i]), UNKNOWN) == 0, "a number beyond the table is not known");
+    check(prints(1, "refused 1 2 7\nexample: the file is not whole\n"), "the words of 1");
+    check(prints(12, "refused 12 2 7\nexample: the buffer is shorter than the sheet\n"), "the words of 12");
+    check(prints(13, "refused 13 2 7\nexample: a reason this program does not know\n"), "the words of 13");
+    check(prints(UINT64_MAX, "refused 18446744073709551615 2 7\nexample: a reason this program does not know\n"),
+          "the words of the last number");
+}
+
+int main(void) {
+    size_t length = fread(file, 1, sizeof file, stdin);
+    if (length < TRAILER) {
+        puts("test: no case on standard input");
+        return 1;
+    }
+    for (unsigned k = 0; k < RUNS; k++)
+        copy_run(file, length, k, &runs[k]);
+    test_kiln(length);
+    test_no_file_and_no_runs(length);
+    test_no_sheet(length);
+    test_words();
+    return failures == 0 ? 0 : 1;
+}
