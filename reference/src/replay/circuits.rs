@@ -34,7 +34,6 @@ fn add_ends(list: &mut List) {
     for (what, name) in malformed().into_iter().take(7) {
         list.refused(format!("circuit 3: second end {what}"), &base, |case| case.circuits[2].second = name, (4, 0, 3));
     }
-    let turn = |row: &mut CircuitRow| std::mem::swap(&mut row.first, &mut row.second);
     let all_turned = |case: &mut Case| case.circuits.iter_mut().for_each(turn);
     list.solved("KILN with every circuit turned round", &base, all_turned);
     list.refused(
@@ -91,10 +90,19 @@ fn add_numbers(list: &mut List) {
         (row.x, case.circuits[0].x, case.circuits[1].x) = (10_000, 100, 100);
     };
     list.solved("circuit 3: 30,000,000,000 mm", &base, longest);
+    list.solved("circuit 3: 30,000,000,000 mm, turned round", &base, |case| {
+        longest(case);
+        turn(&mut case.circuits[2]);
+    });
     // Solutions of other numbers than the row's.
     list.refused("circuit 2: x 101, solved for 100", &base, |case| case.circuits[1].x = 101, (10, 1, 0));
     list.refused("circuit 2: 1 m more than solved for", &base, |case| case.circuits[1].overhead += 1, (10, 2, 0));
     list.refused("circuit 2: marked, solved without", &base, |case| case.circuits[1].mark = 1, (10, 2, 0));
+}
+
+/// A circuit from its second node to its first.
+fn turn(row: &mut CircuitRow) {
+    std::mem::swap(&mut row.first, &mut row.second);
 }
 
 /// The first row, the last, the lowest of two.
