@@ -30,7 +30,8 @@ use Rattle.layout.specs.Frame.{countsOf}
 use Rattle.node_table.specs.Columns.{nodesOf}
 use Rattle.station_table.specs.Tec.{tecOf}
 use Rattle.tables.specs.declared.Opened.{Opened}
-use Rattle.tables.proofs.Sound.{StudyColumns, study-columns}
+use Rattle.tables.proofs.ReadLaws.{StudyColumns}
+use Rattle.tables.proofs.Sound.{study-columns}
 use Rattle.proposal.specs.Judges.{Judges}
 use Rattle.meaning.specs.Columns.{kilowatts, numberAt, kwAt}
 use Rattle.tariffs.specs.Case.{figuresOver}
@@ -128,7 +129,7 @@ module _ (file : List ℕ) (runs : Runs) (p : judged file runs ≡ Passes) where
   -- opened by the judge
   module _ (o : Opened) (j : Judges file runs o) where
     columns : StudyColumns (studyOf file) o
-    columns = study-columns (j .columns) tables-pass
+    columns = study-columns file _ _ _ (j .columns) tables-pass
 
     node-count : o .counts .nodes ≡ length (studyOf file .nodes)
     unfolding countsOf

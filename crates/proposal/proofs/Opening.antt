@@ -19,12 +19,13 @@ use Rattle.meaning.proofs.Answers.{stops-first, passes-first}
 use Rattle.station_table.specs.declared.TecColumns.{TecColumns}
 use Rattle.station_table.specs.Tec.{tecOf}
 use Rattle.tables.specs.declared.Opened.{Opened}
-use Rattle.tables.specs.Opens.{Opens}
+use Rattle.tables.specs.Opens.{Opens, withJudgement}
+use Rattle.tables.proofs.ReadLaws.{columns-kept}
 use Rattle.tables.proofs.Sound.{SoundOpened, opened-sound}
 use Rattle.flows.specs.declared.Case.{Case}
 use Rattle.flows.specs.Flows.{circuitsIn}
 use Rattle.proposal.specs.Case.{caseOf, proposalsIn, Judgeable}
-use Rattle.proposal.specs.Judges.{withJudgement, Judges}
+use Rattle.proposal.specs.Judges.{Judges}
 use Rattle.proposal.proofs.Told.{Told, proposals-told}
 use Rattle.proposal.proofs.Sound.{circuits-in, judgeable}
 use Rattle.proposal.proofs.CaseOf.{reference-least, case-told}
@@ -32,9 +33,7 @@ use Rattle.proposal.proofs.CaseOf.{reference-least, case-told}
 module _ (file : List ℕ) (runs : Runs) (o : Opened) (t : Opens file (length (runs .base)) (length (runs .wider)) (length (runs .local)) o) where
   -- the columns stay as they are
   with-judgement : (r : Judgement) → r ≡ judged file runs → Judges file runs (withJudgement o r)
-  with-judgement r a =
-      let c = t .columns in
-      record { judgement = a; columns = record { counts = c .counts; settings = c .settings; nodes = c .nodes; circuits = c .circuits; tec = c .tec } }
+  with-judgement r a = record { judgement = a; columns = columns-kept (t .columns) r }
 
   pub tables-stop : {r : Refusal} → o .judgement ≡ Stops r → Judges file runs o
   unfolding judged

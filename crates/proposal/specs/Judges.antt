@@ -3,16 +3,12 @@ use mathlib.Core.Path.{_≡_}
 use mathlib.Core.List.{List}
 use Prim.Native.Nat.{ℕ}
 use lib.ListN.{length}
-use Rattle.meaning.specs.declared.Judgement.{Judgement}
 use Rattle.meaning.specs.Study.{Runs}
 use Rattle.meaning.specs.Outcome.{judged}
 use Rattle.tables.specs.declared.Opened.{Opened}
+use Rattle.tables.specs.Order.{frameStage}
 use Rattle.tables.specs.Opens.{Columns}
-
--- the same columns with another judgement
-abbrev pub withJudgement : Opened → Judgement → Opened
-withJudgement o judgement = record { judgement = judgement; counts = o .counts; settings = o .settings; nodes = o .nodes; circuits = o .circuits; tec = o .tec }
 
 pub record Judges (file : List ℕ) (runs : Runs) (o : Opened) : Type 0 where
   pub judgement : o .judgement ≡ judged file runs
-  pub columns : Columns file (length (runs .base)) (length (runs .wider)) (length (runs .local)) o
+  pub columns : Columns (frameStage file (length (runs .base)) (length (runs .wider)) (length (runs .local))) file o

@@ -4,30 +4,10 @@ mod kernel;
 mod order;
 mod solution;
 
-ghost use mathlib.Core.Path.{_≡_};
 ghost use Rattle.meaning.specs.Study.{runsOf};
-ghost use Rattle.proposal.specs.Judges.{withJudgement, Judges};
+ghost use Rattle.proposal.specs.Judges.{Judges};
 use meaning::Judgement;
 use tables::Opened;
-
-// The same columns with another judgement.
-fn with_judgement(read: Opened, judgement: Judgement) -> Opened
-    ensures { λ r. ⌜ r ≡ withJudgement read judgement ⌝ }
-{
-    let counts = read.counts;
-    let settings = read.settings;
-    let nodes = read.nodes;
-    let circuits = read.circuits;
-    let tec = read.tec;
-    Opened {
-        judgement: judgement,
-        counts: counts,
-        settings: settings,
-        nodes: nodes,
-        circuits: circuits,
-        tec: tec,
-    }
-}
 
 // Reads a file once, judges its tables and then the three runs: what stops the case first, and the columns.
 pub fn open(file: &[u8], base: &[i64], wider: &[i64], local: &[i64]) -> Opened
@@ -37,7 +17,7 @@ pub fn open(file: &[u8], base: &[i64], wider: &[i64], local: &[i64]) -> Opened
     let judgement = read.judgement;
     match judgement {
         Judgement::Stops(_) => read,
-        Judgement::Passes => with_judgement(
+        Judgement::Passes => tables::with_judgement(
             read,
             order::proposals(case::case_of(read), base, wider, local),
         ),

@@ -21,15 +21,15 @@ use Rattle.layout.specs.Readable.{readable}
 use Rattle.layout.proofs.Rows.{counts-are, few}
 use Rattle.node_table.specs.Columns.{nodesOf}
 use Rattle.station_table.specs.Tec.{tecOf}
-use Rattle.tables.specs.declared.read.Read.{Read}
+use Rattle.tables.specs.declared.Opened.{Opened}
 use Rattle.tables.specs.Order.{frameStage}
 use Rattle.tables.specs.Reads.{Reads, SoundRows, endsOf, totalsIn}
 use Rattle.tables.specs.Walk.{endsNetwork}
 use Rattle.tables.proofs.ReachLaws.{ends-walk, ends-stage}
-use Rattle.tables.proofs.ReadLaws.{AllRead, all-read, reference-is}
+use Rattle.tables.proofs.ReadLaws.{StudyColumns, rows-read, reference-is}
 use Rattle.tables.proofs.OrderLaws.{rows-judged, chain-is}
 
-module _ {file : List ℕ} {a : Read} (t : AllRead file a) (p : rowsStage (readable file) ≡ Passes) where
+module _ (file : List ℕ) {a : Opened} (t : StudyColumns (readable file) a) (p : rowsStage (readable file) ≡ Passes) where
   rowwise : Rowwise (readable file)
   rowwise = rows-pass (readable file) .0 p
 
@@ -48,7 +48,7 @@ module _ {file : List ℕ} {a : Read} (t : AllRead file a) (p : rowsStage (reada
   sound-rows =
       record {
         reference = omega (arith, reference-is t, rowwise .settings .reference .least);
-        walks = ends-walk t rowwise;
+        walks = ends-walk file t rowwise;
       }
 
   totals-are : totalsIn a ≡ totalsStage (gridOf (readable file))
@@ -60,17 +60,17 @@ module _ {file : List ℕ} {a : Read} (t : AllRead file a) (p : rowsStage (reada
   pub grid-judgement : (reachStage (endsNetwork (endsOf a)) orElse totalsIn a) ≡ gridStage (gridOf (readable file))
   unfolding gridStage
   grid-judgement =
-      ap₂ _orElse_ (ends-stage t rowwise) totals-are
+      ap₂ _orElse_ (ends-stage file t rowwise) totals-are
 
 -- ---- of what was read
-module _ {file : List ℕ} (base wider local : ℕ) {a : Read} (t : Reads (frameStage file base wider local) file a) where
-  rows-pass-all : a .rows ≡ Passes → rowsStage (readable file) ≡ Passes
+module _ {file : List ℕ} (base wider local : ℕ) {a : Opened} (t : Reads (frameStage file base wider local) file a) where
+  rows-pass-all : a .judgement ≡ Passes → rowsStage (readable file) ≡ Passes
   rows-pass-all p = rows-judged file base wider local (sym (t .rows) ∙ p)
 
-  pub rows-sound : a .rows ≡ Passes → SoundRows a
-  rows-sound p = sound-rows (all-read t p) (rows-pass-all p)
+  pub rows-sound : a .judgement ≡ Passes → SoundRows a
+  rows-sound p = sound-rows file (rows-read t p) (rows-pass-all p)
 
-  pub tables-judged : {x : Judgement} → x ≡ (a .rows orElse reachStage (endsNetwork (endsOf a)) orElse totalsIn a) → x ≡ tablesStage file base wider local
+  pub tables-judged : {x : Judgement} → x ≡ (a .judgement orElse reachStage (endsNetwork (endsOf a)) orElse totalsIn a) → x ≡ tablesStage file base wider local
   tables-judged e =
-      e ∙ orElse-same (a .rows) (λ p. grid-judgement (all-read t p) (rows-pass-all p)) ∙ ap (λ (r : Judgement). r orElse gridStage (gridOf (readable file))) (t .rows)
+      e ∙ orElse-same (a .judgement) (λ p. grid-judgement file (rows-read t p) (rows-pass-all p)) ∙ ap (λ (r : Judgement). r orElse gridStage (gridOf (readable file))) (t .rows)
       ∙ chain-is file base wider local

@@ -21,11 +21,11 @@ pub shown-all : {before : Judgement} → before ≡ Passes → (file : List ℕ)
 unfolding shown
 shown-all e file = rw e refl
 
--- a later stage is judged over what is shown
-pub judged-after : (stage : Study → Judgement) (before : Judgement) (file : List ℕ) → before orElse stage (readAfter before file) ≡ before orElse stage (readable file)
+-- a later stage may be judged over what is shown
+pub judged-after : (stage : Study → Judgement) (before : Judgement) (file : List ℕ) {x : Judgement} → x ≡ before orElse stage (readAfter before file) → x ≡ before orElse stage (readable file)
 unfolding _orElse_ shown
-judged-after stage Passes file = refl
-judged-after stage (Stops r) file = refl
+judged-after stage Passes file e = e
+judged-after stage (Stops r) file e = e
 
 -- ---- 1 to 5 pass exactly where each does
 pub record Passed (frame : Judgement) (file : List ℕ) : Type 0 where

@@ -19,10 +19,10 @@ use Rattle.meaning.proofs.Rows.{lowest-same, rows-at}
 use Rattle.layout.specs.Readable.{readable}
 use Rattle.layout.proofs.Rows.{counts-are, few}
 use Rattle.circuit_table.specs.Columns.{circuitsOf}
-use Rattle.tables.specs.declared.read.Read.{Read}
+use Rattle.tables.specs.declared.Opened.{Opened}
 use Rattle.tables.specs.Reads.{endsOf}
 use Rattle.tables.specs.Walk.{endsNetwork, Walks}
-use Rattle.tables.proofs.ReadLaws.{AllRead, reference-is}
+use Rattle.tables.proofs.ReadLaws.{StudyColumns, reference-is}
 
 -- the same nodes, reference and ends
 record Same (N M : Network) : Type 0 where
@@ -68,7 +68,7 @@ same-stage {N} {M} s p = ap (λ (o : Option ℕ). at o Unreached) (search ∙ rw
         lowest-same _ _ (N .nodes)
         (λ v h. ap not (agree _ _ (says-as (reached-is N (same-placed s p) v) (same-reached s, same-reached (same-back s))) (reached-is M p v)))
 
-module _ {file : List ℕ} {a : Read} (t : AllRead file a) (w : Rowwise (readable file)) where
+module _ (file : List ℕ) {a : Opened} (t : StudyColumns (readable file) a) (w : Rowwise (readable file)) where
   first-is : (c : ℕ) → c < a .counts .circuits → getD (a .circuits .first) c 0 ≡ place (readable file .nodes) (circuit (readable file .circuits) c .first)
   unfolding circuitsOf
   first-is c h = rw (t .circuits) (rows-at 0 512 _ c (omega (arith, few file (t .counts) .circuits-low)))

@@ -1,5 +1,5 @@
 -- What later steps know once nothing among 1 to 7 stops a file.
-use mathlib.Core.Path.{_≡_, refl, sym, _∙_}
+use mathlib.Core.Path.{_≡_, refl, sym, _∙_, subst}
 use mathlib.Core.Bool.{true}
 use mathlib.Core.List.{List}
 use Prim.Native.Nat.{ℕ, _+_, _≤_}
@@ -15,16 +15,14 @@ use Rattle.meaning.proofs.Answers.{passes-orElse, passes-unless}
 use Rattle.meaning.proofs.Says.{_also_, says-eq}
 use Rattle.meaning.proofs.Starts as starts
 use Rattle.meaning.proofs.Tables.{sound-pass}
-use Rattle.layout.specs.Frame.{countsOf, settingsIn}
-use Rattle.node_table.specs.Columns.{nodesOf}
-use Rattle.circuit_table.specs.Columns.{circuitsOf}
-use Rattle.station_table.specs.Tec.{tecOf}
+use Rattle.layout.specs.Frame.{countsOf}
 use Rattle.layout.proofs.FileLaws.{whole-file}
 use Rattle.layout.proofs.Rows.{readable-whole}
 use Rattle.tables.specs.declared.Opened.{Opened}
 use Rattle.tables.specs.Order.{frameStage}
 use Rattle.tables.specs.Opens.{Columns, Opens}
-use Rattle.tables.proofs.OrderLaws.{shown-all, rows-passed, chain-is}
+use Rattle.tables.proofs.OrderLaws.{rows-passed, chain-is}
+use Rattle.tables.proofs.ReadLaws.{StudyColumns, columns-shown}
 
 -- ---- of a file and the lengths of the three runs
 module _ (file : List ℕ) (base wider local : ℕ) (p : tablesStage file base wider local ≡ Passes) where
@@ -47,26 +45,11 @@ module _ (file : List ℕ) (base wider local : ℕ) (p : tablesStage file base w
   passes-runs = (says-eq also says-eq also says-eq) .0 (passes-unless _ _ .0 (parts .1))
 
 -- ---- of a file that was opened: its columns are those of its study, which is sound
-pub record StudyColumns (S : Study) (o : Opened) : Type 0 where
-  pub counts : o .counts ≡ countsOf S
-  pub settings : settingsIn (o .settings) ≡ S .settings
-  pub nodes : o .nodes ≡ nodesOf S
-  pub circuits : o .circuits ≡ circuitsOf S
-  pub tec : o .tec ≡ tecOf S
-
-pub study-columns : {file : List ℕ} {base wider local : ℕ} {o : Opened} → Columns file base wider local o → tablesStage file base wider local ≡ Passes
+pub study-columns : (file : List ℕ) (base wider local : ℕ) {o : Opened} → Columns (frameStage file base wider local) file o → tablesStage file base wider local ≡ Passes
     → StudyColumns (studyOf file) o
-study-columns {file} {base} {wider} {local} t p =
+study-columns file base wider local {o} t p =
     let r = rows-passed (frameStage file base wider local) file (passes-orElse _ _ .0 (chain-is file base wider local ∙ p) .0) in
-    let n = shown-all (r .toNodes) file in
-    let e = readable-whole file (passes-whole file base wider local p) in
-    record {
-      counts = rw e at (t .counts);
-      settings = rw e at (t .settings);
-      nodes = rw (n, e) at (t .nodes);
-      circuits = rw (n, e) at (t .circuits);
-      tec = rw (shown-all (r .toCircuits) file, e) at (t .tec);
-    }
+    subst (λ (S : Study). StudyColumns S o) (readable-whole file (passes-whole file base wider local p)) (columns-shown t r)
 
 pub record SoundOpened (file : List ℕ) (base wider local : ℕ) (o : Opened) : Type 0 where
   pub whole : fileWhole file ≡ true
@@ -91,7 +74,7 @@ opened-sound {file} {base} {wider} {local} {o} t q =
     let w = whole-file file h in
     let l = starts.counts file (runsIn file) w in
     let r = passes-runs file base wider local p in
-    let s = study-columns (t .columns) p in
+    let s = study-columns file base wider local (t .columns) p in
     let c = s .counts in
     let n : o .counts .nodes ≡ length (studyOf file .nodes) = rw c refl in
     let m : o .counts .circuits ≡ length (studyOf file .circuits) = rw c refl in

@@ -1,5 +1,5 @@
 -- What the contracts of `tables` cite beside `meaning`, `layout`, `totals` and the three tables' crates.
 pub mod Walk
 pub mod Order
-pub mod Reads
 pub mod Opens
+pub mod Reads

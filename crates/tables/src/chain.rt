@@ -1,7 +1,7 @@
 // The stages in 01's order: what stops first is the judgement.
+use crate::Opened;
 use crate::reach;
 use crate::reach::Ends;
-use crate::read::Read;
 use answers::or_else;
 use meaning::Judgement;
 use meaning::Kw;
@@ -23,7 +23,7 @@ pub fn same_lengths(base: usize, wider: usize, local: usize, count: usize) -> bo
 }
 
 // The circuits' ends, for the walk.
-pub fn ends(all: Read) -> Ends
+pub fn ends(all: Opened) -> Ends
     requires { ⌜ SoundRows all ⌝ }
     ensures { λ r. ⌜ r ≡ endsOf all ⌝ }
 {
@@ -52,7 +52,7 @@ pub fn totals_stage(n: usize, demand: [Kw; 256], tec: [Kw; 256]) -> Judgement
 }
 
 // 6 and 7.
-pub fn grid_stage(all: Read) -> Judgement
+pub fn grid_stage(all: Opened) -> Judgement
     requires { ⌜ SoundRows all ⌝ }
     ensures { λ r. ⌜ r ≡ (reachStage (endsNetwork (endsOf all)) orElse totalsIn all) ⌝ }
 {
@@ -67,11 +67,11 @@ pub fn grid_stage(all: Read) -> Judgement
 }
 
 // 1 to 7: what stops the rows that were read, else 6 and 7.
-pub fn judgement(all: Read) -> Judgement
-    requires { ⌜ (all .rows ≡ Passes → SoundRows all) ⌝ }
-    ensures { λ r. ⌜ r ≡ (all .rows orElse reachStage (endsNetwork (endsOf all)) orElse totalsIn all) ⌝ }
+pub fn judgement(all: Opened) -> Judgement
+    requires { ⌜ (all .judgement ≡ Passes → SoundRows all) ⌝ }
+    ensures { λ r. ⌜ r ≡ (all .judgement orElse reachStage (endsNetwork (endsOf all)) orElse totalsIn all) ⌝ }
 {
-    let rows = all.rows;
+    let rows = all.judgement;
     match rows {
         Judgement::Stops(cause) => Judgement::Stops(cause),
         Judgement::Passes => grid_stage(all),

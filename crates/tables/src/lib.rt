@@ -6,7 +6,7 @@ mod settings;
 
 ghost use mathlib.Core.Path.{_≡_};
 ghost use Rattle.tables.specs.Order.{frameStage};
-ghost use Rattle.tables.specs.Opens.{Opens};
+ghost use Rattle.tables.specs.Opens.{Opens, withJudgement};
 use circuit_table::CircuitColumns;
 use layout::RowCounts;
 use layout::StudySettings;
@@ -39,17 +39,15 @@ pub fn frame(file: &[u8], base: usize, wider: usize, local: usize) -> Judgement
     Judgement::Stops(Refusal::BadFile)
 }
 
-// The judgement of a file with the lengths of the three runs, its tables read in their order and its names resolved once; and its columns.
-pub fn open(file: &[u8], base: usize, wider: usize, local: usize) -> Opened
-    ensures { λ r. ⌜ Opens (now (file .entry)) base wider local r ⌝ }
+// The same columns with another judgement.
+pub fn with_judgement(opened: Opened, judgement: Judgement) -> Opened
+    ensures { λ r. ⌜ r ≡ withJudgement opened judgement ⌝ }
 {
-    let all = read::tables(frame(file, base, wider, local), file);
-    let judgement = chain::judgement(all);
-    let counts = all.counts;
-    let settings = all.settings;
-    let nodes = all.nodes;
-    let circuits = all.circuits;
-    let tec = all.tec;
+    let counts = opened.counts;
+    let settings = opened.settings;
+    let nodes = opened.nodes;
+    let circuits = opened.circuits;
+    let tec = opened.tec;
     Opened {
         judgement,
         counts,
@@ -58,4 +56,12 @@ pub fn open(file: &[u8], base: usize, wider: usize, local: usize) -> Opened
         circuits,
         tec,
     }
+}
+
+// The judgement of a file with the lengths of the three runs, its tables read in their order and its names resolved once; and its columns.
+pub fn open(file: &[u8], base: usize, wider: usize, local: usize) -> Opened
+    ensures { λ r. ⌜ Opens (now (file .entry)) base wider local r ⌝ }
+{
+    let all = read::tables(frame(file, base, wider, local), file);
+    with_judgement(all, chain::judgement(all))
 }

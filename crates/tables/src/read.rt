@@ -1,24 +1,10 @@
 // A file's tables, read and judged in their order: each once, and only where nothing before it stops the file.
+use crate::Opened;
 use answers::or_else;
-use circuit_table::CircuitColumns;
-use layout::RowCounts;
-use layout::StudySettings;
 use meaning::Judgement;
-use node_table::NodeColumns;
-use station_table::TecColumns;
 ghost use mathlib.Core.Path.{_≡_};
 ghost use Rattle.tables.specs.Order.{shown};
 ghost use Rattle.tables.specs.Reads.{Reads};
-
-// What stops a file first among 1 to 5, and the columns that were read on the way.
-pub struct Read {
-    pub rows: Judgement,
-    pub counts: RowCounts,
-    pub settings: StudySettings,
-    pub nodes: NodeColumns,
-    pub circuits: CircuitColumns,
-    pub tec: TecColumns,
-}
 
 // What is read of a file once the stages before have judged it: all, or nothing where they stop it.
 pub fn shown(before: Judgement, file: &[u8]) -> &[u8]
@@ -30,8 +16,8 @@ pub fn shown(before: Judgement, file: &[u8]) -> &[u8]
     }
 }
 
-// All that 6 and 7 and the steps need of a file whose frame was judged. A table that is not shown has no rows, and so stops nothing.
-pub fn tables(frame: Judgement, file: &[u8]) -> Read
+// Of a file whose frame was judged: what stops it first among 1 to 5, and its columns. A table that is not shown has no rows, and so stops nothing.
+pub fn tables(frame: Judgement, file: &[u8]) -> Opened
     ensures { λ r. ⌜ Reads frame (now (file .entry)) r ⌝ }
 {
     let counts = layout::counts(file);
@@ -46,8 +32,8 @@ pub fn tables(frame: Judgement, file: &[u8]) -> Read
     let summed = station_table::judge(shown(after_circuits, file));
     let tec = summed.tec;
     let station = summed.judgement;
-    Read {
-        rows: or_else(after_circuits, station),
+    Opened {
+        judgement: or_else(after_circuits, station),
         counts,
         settings,
         nodes,

@@ -1,7 +1,8 @@
 -- `tables::read::tables` meets its contract: each table is judged over what is shown of it.
 use mathlib.Core.Path.{_≡_, refl}
 use Rattle.tables.specs.Order.{thenNodes, thenCircuits}
-use Rattle.tables.proofs.ReadLaws.{then-nodes, then-circuits, then-stations}
+use Rattle.meaning.specs.Tables.{nodesStage, circuitsStage, stationsStage}
+use Rattle.tables.proofs.OrderLaws.{judged-after}
 use borrow.Author.Needs.{needs}
 use Rattle.tables.proofs.read.tables.Statement.{statement}
 use Rattle.tables.proofs.read.tables.Tie as tie
@@ -9,13 +10,13 @@ use Rattle.tables.proofs.read.tables.Tie as tie
 after-nodes : (c : tie.After-or-else) → let a = c .before .before .before .before .before .before .args in c .or-else .result ≡ thenNodes (a .frame) (a .file .now)
 after-nodes c =
     let j = c .before in
-    then-nodes _ _ (rw (c .or-else .ensures, j .judge .ensures, j .before .shown .ensures) refl)
+    judged-after nodesStage _ _ (rw (c .or-else .ensures, j .judge .ensures, j .before .shown .ensures) refl)
 
 after-circuits : (c : tie.After-or-else2) → let a = c .before .before .before .before .before .before .before .before .before .before .before .args in c .or-else2 .result ≡ thenCircuits (a .frame) (a .file .now)
 after-circuits c =
     let j = c .before .before in
     let s = j .before .before in
-    then-circuits _ _ (rw (c .or-else2 .ensures, j .judge2 .ensures .0, s .shown2 .ensures, after-nodes (s .before)) refl)
+    judged-after circuitsStage _ _ (rw (c .or-else2 .ensures, j .judge2 .ensures .0, s .shown2 .ensures, after-nodes (s .before)) refl)
 
 counts-requires : tie.Need-counts-requires
 counts-requires c κs = search needs
@@ -62,12 +63,14 @@ returns c =
     let m = n .before in
     let p = m .before .before .before .before .before in
     record {
-      rows = then-stations _ _ (rw (c .or-else3 .ensures, j .judge3 .ensures .0, s .shown3 .ensures, after-circuits d) refl);
-      counts = p .before .counts .ensures;
-      settings = p .settings .ensures;
-      nodes = rw (m .columns .ensures, m .before .shown2 .ensures, after-nodes (m .before .before)) refl;
-      circuits = rw (n .judge2 .ensures .1, m .before .shown2 .ensures, after-nodes (m .before .before)) refl;
-      tec = rw (j .judge3 .ensures .1, s .shown3 .ensures, after-circuits d) refl;
+      rows = judged-after stationsStage _ _ (rw (c .or-else3 .ensures, j .judge3 .ensures .0, s .shown3 .ensures, after-circuits d) refl);
+      columns = record {
+        counts = p .before .counts .ensures;
+        settings = p .settings .ensures;
+        nodes = rw (m .columns .ensures, m .before .shown2 .ensures, after-nodes (m .before .before)) refl;
+        circuits = rw (n .judge2 .ensures .1, m .before .shown2 .ensures, after-nodes (m .before .before)) refl;
+        tec = rw (j .judge3 .ensures .1, s .shown3 .ensures, after-circuits d) refl;
+      };
     }
 
 pub tables-spec : {M : Type 1} → statement M
