@@ -1,10 +1,11 @@
-//! 01 "What stops a case", order: the whole judgement, as a library entry and as the program prints it.
+//! 01 "What stops a case", order: the whole judgement, as a library entry and as the program prints it. 02, CR 1 puts 13
+//! between 7 and 8.
 
 use crate::charges::{sheet, Sheet};
 use crate::file::{whole_case, Case};
 use crate::sheet::print;
 use crate::solutions::{base_system, judge_directions, judge_system, local_system, wider_system};
-use crate::tables::{sound_tables, Tables};
+use crate::tables::{judge_chargeable, sound_tables, Tables};
 use std::fmt;
 
 /// 01 "What stops a case": number, system and row.
@@ -37,13 +38,14 @@ pub const NOT_WHOLE: Refusal = Refusal { number: 1, system: 0, row: 0 };
 pub const BUFFER_TOO_SHORT: Refusal = Refusal { number: 12, system: 0, row: 0 };
 
 /// 01, the library: judges the file's tables and the lent runs (base, wider, local), "and judges the runs": the
-/// solutions inside the file are counted and not looked at. The sheet's bytes, or the refusal among 1 to 11.
+/// solutions inside the file are counted and not looked at. The sheet's bytes, or the refusal among 1 to 11 and 13.
 pub fn judge_case(file: &[u8], runs: [&[i64]; 3]) -> Result<Vec<u8>, Refusal> {
     let case = whole_case(file).ok_or(NOT_WHOLE)?;
     if runs.iter().any(|run| !run_fits(&case, run)) {
         return Err(NOT_WHOLE);
     }
     let tables = sound_tables(&case)?;
+    judge_chargeable(&tables)?;
     Ok(print(&judge_runs(&tables, runs)?))
 }
 
@@ -53,6 +55,7 @@ fn run_fits(case: &Case, run: &[i64]) -> bool {
 }
 
 /// 01 "What stops a case", order: "8, 9, 10 for system 1 (base); 11; 8, 9, 10 for system 2 (wider), then 3 (local)".
+/// The tables have chargeable TEC: 13 went before.
 pub fn judge_runs(tables: &Tables, runs: [&[i64]; 3]) -> Result<Sheet, Refusal> {
     let [base, wider, local] = runs;
     let nodes = tables.nodes.len();

@@ -1,6 +1,6 @@
-//! Independent reference for document 01: one study case in, a tariff sheet or a refusal out.
+//! Independent reference for document 01 and change request 1 of 02: one study case in, a tariff sheet or a refusal out.
 //!
-//! Written from the words of 01 for clarity, not for speed: `i128` for every sum, one function for each
+//! Written from their words for clarity, not for speed: `i128` for every sum, one function for each
 //! sentence, and each function names its place. `judge_case` is the library entry, `program_output` what the
 //! program prints. `text` writes and reads cases as plain text, `solver` proposes solutions, `largest` and
 //! `longest` build cases of the greatest counts.

@@ -1,8 +1,12 @@
-//! 01 "What stops a case", 2 to 7: settings, tables, reach and totals. Tables that pass are sound.
+//! 01 "What stops a case", 2 to 7: settings, tables, reach and totals. Tables that pass are sound. 02, CR 1: 13 behind
+//! them.
 
 use crate::file::{well_formed, Case, CircuitRow, Name, NodeRow, Settings, StationRow};
 use crate::judge::Refusal;
 use crate::quantities::*;
+
+/// 01 "The case file": the number of interconnectors among the plant types; 02, CR 1: "Type 3".
+pub const INTERCONNECTOR: u32 = 3;
 
 /// 01 "The case file": plant types 1 to 7, "the rows of the table in 14.15.7 (source document 000), in order".
 #[derive(Clone, Copy, Debug, PartialEq, Eq)]
@@ -14,6 +18,21 @@ pub enum Plant {
     PumpedStorage,
     Peaking,
     Other,
+}
+
+impl Plant {
+    /// 02, CR 1: "Interconnectors don't pay".
+    pub fn pays(self) -> bool {
+        match self {
+            Plant::Interconnector => false,
+            Plant::Intermittent
+            | Plant::NuclearAndCcs
+            | Plant::Hydro
+            | Plant::PumpedStorage
+            | Plant::Peaking
+            | Plant::Other => true,
+        }
+    }
 }
 
 /// A node row that passed refusal 3. Zones count from 1.
@@ -44,6 +63,17 @@ pub struct Station {
     pub tec: Kw,
 }
 
+impl Station {
+    /// 02, CR 1: the kilowatts of its TEC that are charged: all, or none of an interconnector's.
+    pub fn chargeable(&self) -> Kw {
+        if self.plant.pays() {
+            self.tec
+        } else {
+            Kw(0)
+        }
+    }
+}
+
 /// 01 "What stops a case": "Tables are sound when none of 1 to 7 holds".
 #[derive(Clone, Debug)]
 pub struct Tables {
@@ -55,6 +85,8 @@ pub struct Tables {
     pub stations: Vec<Station>,
     pub total_demand: Kw,
     pub total_tec: Kw,
+    /// 02, CR 1: total TEC without type 3.
+    pub total_chargeable: Kw,
 }
 
 /// 01 "What stops a case", 2 to 7 in this order.
@@ -75,8 +107,18 @@ pub fn sound_tables(case: &Case) -> Result<Tables, Refusal> {
     if !totals_in_range(total_demand, total_tec) {
         return Err(refused(7, 0));
     }
+    let total_chargeable = Kw(stations.iter().map(|station| station.chargeable().0).sum());
     let settings = case.settings.clone();
-    Ok(Tables { settings, reference, nodes, circuits, stations, total_demand, total_tec })
+    Ok(Tables { settings, reference, nodes, circuits, stations, total_demand, total_tec, total_chargeable })
+}
+
+/// 02, CR 1: "13, system 0 row 0, no chargeable TEC, after 7". Such tables are sound all the same: 01 has it that
+/// "Tables are sound when none of 1 to 7 holds".
+pub fn judge_chargeable(tables: &Tables) -> Result<(), Refusal> {
+    match tables.total_chargeable {
+        Kw(0) => Err(Refusal { number: 13, system: 0, row: 0 }),
+        _ => Ok(()),
+    }
 }
 
 /// 01 "What stops a case", 2: "a setting outside its range (reference row included)".
@@ -195,7 +237,7 @@ fn plant(number: u32) -> Option<Plant> {
     match number {
         1 => Some(Plant::Intermittent),
         2 => Some(Plant::NuclearAndCcs),
-        3 => Some(Plant::Interconnector),
+        INTERCONNECTOR => Some(Plant::Interconnector),
         4 => Some(Plant::Hydro),
         5 => Some(Plant::PumpedStorage),
         6 => Some(Plant::Peaking),

@@ -3,10 +3,23 @@
 mod common;
 
 use common::*;
+use reference::tables::INTERCONNECTOR;
 use reference::{judge_case, program_output, solver, text};
 
-const NAMES: [&str; 10] =
-    ["KILN", "CUSC1421", "TUT1", "TUT1_P5", "TUT1_P150", "TUT1_P200", "TUT2_275", "CUSC1422", "TUT8_TARIFF", "ALONE"];
+const NAMES: [&str; 12] = [
+    "KILN",
+    "CUSC1421",
+    "TUT1",
+    "TUT1_P5",
+    "TUT1_P150",
+    "TUT1_P200",
+    "TUT2_275",
+    "CUSC1422",
+    "TUT8_TARIFF",
+    "ALONE",
+    "TUT1_IC",
+    "LINKS",
+];
 
 #[test]
 fn each_text_gives_its_sheet() {
@@ -133,6 +146,62 @@ R 0 200000
 }
 
 #[test]
+fn tut1_ic_is_tut1_where_suba_does_not_pay() {
+    prints(
+        "TUT1_IC",
+        &[
+            "C 12872",
+            "G 1 0 12872 231696 2331637 2563333",
+            "G 2 -10000 2872 51696 2331637 2383333",
+            "G 3 -",
+            "G 4 -15000 -2128 -38304 2331637 2293333",
+            "D 1 -",
+            "D 2 10000 -2872 -51696 12158362 12106666",
+            "D 3 15000 2128 38304 12158362 12196666",
+            "D 4 -",
+            "L SUBA 0 0",
+            "L SUBB 0 0",
+            "L SUBD 30000 300000",
+            "R 180000 200000",
+        ],
+    );
+    // The same tables but for the type, and the same solutions.
+    let mut case = named_case("TUT1_IC");
+    assert_eq!(case.stations[0].plant, INTERCONNECTOR);
+    case.stations[0].plant = 7;
+    assert_eq!(case, named_case("TUT1"));
+}
+
+#[test]
+fn links_by_hand() {
+    // Wider PORT and BAY 14,010 m, FELL 14,670 m; local PORT 10,250 m, BAY 2,250 m, FELL -2,250 m. Chargeable are 45,000 kW at BAY
+    // and 80,000 at FELL; zone 2 weighs 80,000 at each.
+    prints(
+        "LINKS",
+        &[
+            "C -10955",
+            "G 1 14010 3055 55375 5012603 5067978",
+            "G 2 14340 3385 61357 5012603 5073960",
+            "G 3 -",
+            "D 1 -14010 -3055 -55375 13012382 12957007",
+            "D 2 0 10955 198570 13012382 13210952",
+            "L PORT 10250 118700",
+            "L BAY 2250 26056",
+            "L FELL -2250 -26056",
+            "R 20000 80000",
+        ],
+    );
+    let case = named_case("LINKS");
+    let e7 = 10_000_000;
+    assert_eq!(
+        case.runs[0],
+        [825_000 * e7, 625_000 * e7, 0, 475_000 * e7, 5_000 * e7, 6_250 * e7, 4_750 * e7, -750 * e7]
+    );
+    assert_eq!(case.runs[1], [1_401_000 * e7, 1_401_000 * e7, 0, 1_467_000 * e7, 0, 330 * e7, -330 * e7, 330 * e7]);
+    assert_eq!(case.runs[2], [1_025_000 * e7, 225_000 * e7, 0, -225_000 * e7, 0, 2_250 * e7, -2_250 * e7, 2_250 * e7]);
+}
+
+#[test]
 fn tutorial_exercises_as_the_sources_have_them() {
     // Distances A 0, B, D; demand B, C; local D 30 km; and C.
     begins(
@@ -220,6 +289,6 @@ fn longest_is_stored_with_its_sheet() {
     assert_eq!(file.len(), 63_616);
     assert_eq!(file, folder_file("LONGEST.case"));
     let sheet = program_output(&file);
-    assert_eq!(sheet.len(), 13_195);
+    assert_eq!(sheet.len(), 13_196);
     assert_eq!(sheet, folder_file("LONGEST.sheet"));
 }

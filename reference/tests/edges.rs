@@ -3,7 +3,7 @@
 mod common;
 
 use common::*;
-use reference::charges::{demand_metres, nodal_metres, residual, scaled_generation, tariff, zones};
+use reference::charges::{demand_metres, nodal_metres, residual, scaled_generation, tariff, zones, ZoneRow};
 use reference::file::Case;
 use reference::quantities::{nearest, Kw, Metres, MicroPerKw};
 use reference::solutions::{direction, signed_length, Direction};
@@ -121,8 +121,8 @@ fn residuals_round_down() {
 
 #[test]
 fn zone_averages_round_a_half_up_as_signed_numbers() {
-    let row = |metres, kw| (1, Metres(metres), Kw(kw));
-    let average = |rows: &[(usize, Metres, Kw)]| zones(1, rows)[0].metres;
+    let row = |metres, kw| ZoneRow { zone: 1, metres: Metres(metres), weight: Kw(kw), chargeable: Kw(kw) };
+    let average = |rows: &[ZoneRow]| zones(1, rows)[0].metres;
     assert_eq!(average(&[row(1, 5), row(0, 5)]), Some(Metres(1)));
     assert_eq!(average(&[row(-1, 5), row(0, 5)]), Some(Metres(0)));
     assert_eq!(average(&[row(-1, 6), row(0, 5)]), Some(Metres(-1)));

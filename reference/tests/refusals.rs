@@ -1,9 +1,10 @@
-//! 01 "What stops a case": every number, and the order.
+//! 01 "What stops a case" and 02, CR 1: every number, and the order.
 
 mod common;
 
 use common::*;
 use reference::file::{padded, Case, Name};
+use reference::tables::INTERCONNECTOR;
 use reference::{judge_case, judge_into, Answer, Refusal};
 
 const NOT_WHOLE: &str = "refused 1 0 0";
@@ -291,9 +292,11 @@ fn five_stations() {
         refused(&kiln, |case| case.stations[1].plant = plant, (5, 0, 2));
     }
     let sheet = printed(&kiln);
-    for plant in 1..=7 {
+    for plant in (1..=7).filter(|plant| *plant != INTERCONNECTOR) {
         assert_eq!(accepted(&kiln, |case| case.stations[1].plant = plant), sheet);
     }
+    // 02, CR 1: an interconnector is lawful, and another sheet.
+    assert_ne!(accepted(&kiln, |case| case.stations[1].plant = INTERCONNECTOR), sheet);
     refused(&kiln, |case| case.stations[1].tec = 20_000_001, (5, 0, 2));
     refused(&kiln, |case| case.stations[1].tec = 20_000_000, (9, 1, 1));
 }
@@ -472,13 +475,14 @@ fn twelve_buffer() {
 #[test]
 fn order_of_all_numbers() {
     type Fault = (fn(&mut Case), (u32, u32, u32));
-    const FAULTS: [Fault; 16] = [
+    const FAULTS: [Fault; 17] = [
         (|case| case.settings.p = 1_001, (2, 0, 0)),
         (|case| case.nodes[1].generation_zone = 0, (3, 0, 2)),
         (|case| case.circuits[0].voltage = 1, (4, 0, 1)),
         (|case| case.stations[1].plant = 8, (5, 0, 2)),
         (|case| case.circuits[3].second = name("NODA"), (6, 0, 4)),
         (|case| case.stations[0].tec = 0, (7, 0, 0)),
+        (|case| case.stations.iter_mut().for_each(|row| row.plant = INTERCONNECTOR), (13, 0, 0)),
         (|case| case.runs[0][1] = i64::MIN, (8, 1, 2)),
         (|case| case.runs[0][4] += 1, (9, 1, 1)),
         (|case| case.runs[0][0] += 60_000_000, (10, 1, 0)),
@@ -493,7 +497,8 @@ fn order_of_all_numbers() {
     let sound = kiln_with_a_spur();
     accepted(&sound, |_| ());
     for first in 0..FAULTS.len() {
-        let from_here_on = |case: &mut Case| FAULTS[first..].iter().for_each(|(fault, _)| fault(case));
+        // Those before others come last, so that each stands.
+        let from_here_on = |case: &mut Case| FAULTS[first..].iter().rev().for_each(|(fault, _)| fault(case));
         refused(&sound, from_here_on, FAULTS[first].1);
         refused(&sound, FAULTS[first].0, FAULTS[first].1);
         // Every pair: the earlier fault answers.

@@ -6,7 +6,7 @@ use common::*;
 use reference::file::Case;
 use reference::random::{random, Chance};
 use reference::solver::{propose, solved};
-use reference::tables::sound_tables;
+use reference::tables::{sound_tables, INTERCONNECTOR};
 use std::collections::BTreeMap;
 
 /// The answer's number, 0 for a sheet. Balance and misses are right whatever else.
@@ -29,13 +29,13 @@ fn answers(seeds: std::ops::Range<u64>, most_nodes: u64) -> BTreeMap<u32, u32> {
 fn small_networks() {
     let counts = answers(0..400, 12);
     assert!(counts[&0] > 200, "{counts:?}");
-    assert!(counts.keys().all(|number| [0, 7, 8, 11].contains(number)), "{counts:?}");
+    assert!(counts.keys().all(|number| [0, 7, 8, 11, 13].contains(number)), "{counts:?}");
 }
 
 #[test]
 fn large_networks() {
     let counts = answers(1_000..1_020, 256);
-    assert!(counts.keys().all(|number| [0, 7, 8, 11].contains(number)), "{counts:?}");
+    assert!(counts.keys().all(|number| [0, 7, 8, 11, 13].contains(number)), "{counts:?}");
 }
 
 #[test]
@@ -71,6 +71,14 @@ fn refused_tables_get_zeros_and_the_reason() {
     let (solved, trouble) = solved(&case);
     assert_eq!(trouble.as_deref(), Some("refused 3 0 2"));
     assert_eq!(solved.runs, [vec![0; 6], vec![0; 6], vec![0; 6]]);
+}
+
+#[test]
+fn tables_without_chargeable_tec_are_solved() {
+    // 13 comes behind soundness: the solutions are those of any other type.
+    let mut case = kiln();
+    case.stations.iter_mut().for_each(|row| row.plant = INTERCONNECTOR);
+    assert_eq!(solved(&case), (case, None));
 }
 
 #[test]

@@ -31,7 +31,7 @@ fn refusal(number: usize, system: usize, row: usize) -> Values
     }
 }
 
-// What a refusal carries: a row of 01's table.
+// What a refusal carries: a row of 01's table, or one of 02's numbers.
 pub fn of_refusal(cause: Refusal) -> Values
     ensures { λ r. ⌜ r ≡ values (Refused cause) ⌝ }
 {
@@ -48,6 +48,7 @@ pub fn of_refusal(cause: Refusal) -> Values
         Refusal::MissesTooHigh(system) => refusal(10, system_number(system), 0),
         Refusal::DirectionInDoubt(row) => refusal(11, 1, row),
         Refusal::ShortBuffer => refusal(12, 0, 0),
+        Refusal::NoChargeableTec => refusal(13, 0, 0),
     }
 }
 

@@ -13,7 +13,7 @@ use Rattle.meaning.specs.File.{studyOf}
 use Rattle.meaning.specs.Grid.{gridOf}
 use Rattle.meaning.specs.Figures.{zones, zoneOf, weight, paying}
 use Rattle.meaning.specs.Outcome.{tablesStage, judged}
-use Rattle.meaning.specs.Conditions.{InRange, SoundTables, Acceptable}
+use Rattle.meaning.specs.Conditions.{InRange, SoundTables, SoundStudy, Acceptable}
 use Rattle.meaning.specs.declared.Judgement.the-variants.{Passes}
 use Rattle.meaning.proofs.Answers.{passes-orElse}
 use Rattle.meaning.proofs.Rows.{rows-at}
@@ -66,8 +66,11 @@ module _ (S : Study) (few : length (S .nodes) ≤ 256) (o : Opened) (ec : o .cou
     paid = λ v h. kw-row _ v (ap (λ (x : NodeColumns). x .demand) en) (omega arith);
   }
 
--- ---- sound tables
-module _ (S : Study) (sound : SoundTables S) where
+-- ---- a sound study
+module _ (S : Study) (study : SoundStudy S) where
+  abbrev sound : SoundTables S
+  sound = study .tables
+
   zones-most : (side : Side) → zones (gridOf S) side ≤ 32
   unfolding gridOf zones
   zones-most Generation = sound .settings .generationZones .most
@@ -99,8 +102,8 @@ module _ (S : Study) (sound : SoundTables S) where
         widerFactor = s .widerFactor .most;
         localFactor = s .localFactor .most;
         revenue = s .revenue;
-        kilowattsFit = kilowatts-fit S sound;
-        metresFit = figures-fit S sound runs u .metres;
+        kilowattsFit = kilowatts-fit S study;
+        metresFit = figures-fit S study runs u .metres;
       }
 
 -- ---- the columns of a file that nothing stops
@@ -122,7 +125,7 @@ module _ (file : List ℕ) (runs : Runs) (p : judged file runs ≡ Passes) where
       let e = starts.counts file runs w .0 in
       let wider = w .solutions 5 (record { least = omega arith; most = omega arith }) in
       let local = w .solutions 6 (record { least = omega arith; most = omega arith }) in
-      grid-fits S (accepted .tables) runs (solved-in-range S runs (accepted .solved)) few-nodes
+      grid-fits S (accepted .study) runs (solved-in-range S runs (accepted .solved)) few-nodes
       (omega (arith, e, wider, w .widerRun))
       (omega (arith, e, local, w .localRun))
 

@@ -118,10 +118,10 @@ module _ (S : Study) (sound : SoundTables S) (runs runs′ : Runs) (s : Solved (
 pub solvers-agree : SolversAgree
 unfolding runOf widerMetres localMetres
 solvers-agree file file′ runs runs′ a a′ same = record {
-  directions = λ c k h. same-direction (studyOf file) (a .tables) runs runs′ s s′ c h;
-  potentials = near (studyOf file) (a .tables) runs runs′ s s′;
-  widerMetre = metre (studyOf file) (a .tables) runs runs′ s s′ Wider;
-  localMetre = metre (studyOf file) (a .tables) runs runs′ s s′ Local;
+  directions = λ c k h. same-direction (studyOf file) (a .study .tables) runs runs′ s s′ c h;
+  potentials = near (studyOf file) (a .study .tables) runs runs′ s s′;
+  widerMetre = metre (studyOf file) (a .study .tables) runs runs′ s s′ Wider;
+  localMetre = metre (studyOf file) (a .study .tables) runs runs′ s s′ Local;
   sheets = λ r. ap₂ (λ G R. sheet G R) (same-grid same) r;
 }
   where

@@ -1,4 +1,4 @@
--- The demands are not empty: KILN, and KILN with its stations divided and listed differently and with another proposal.
+-- The demands are not empty: KILN, KILN with its stations divided and listed differently and with another proposal, and KILN with an interconnector.
 use mathlib.Core.Path.{_≡_, refl, sym, _∙_, ap}
 use mathlib.Core.List.{List, [], _∷_}
 use Prim.Native.Nat.{ℕ, zero, suc, _+_, _≤_, _<_}
@@ -20,16 +20,17 @@ use Rattle.meaning.specs.Grid.{gridOf, capacityOf}
 use Rattle.meaning.specs.Outcome.{judged, sheetOf, settle}
 use Rattle.meaning.specs.Conditions.{InRange, Acceptable}
 use Rattle.meaning.specs.Demands
-use Rattle.meaning.specs.Demands.{IsWritten, IsRefused, Recovered, SameButStations, Parts, Rearranged, exchanged, below, then, StationsRearranged, Agree, PassesToFive}
+use Rattle.meaning.specs.Demands.{IsWritten, IsRefused, Recovered, SameButStations, Parts, Rearranged, exchanged, below, then, StationsRearranged, Agree, PassesToFive, AsIn01}
 use Rattle.meaning.proofs.Write.{fileOf}
 use Rattle.meaning.proofs.Kiln.{kiln, kilnRuns, kilnBase, kilnWider, kilnLocal, kilnSettings, kilnNodes, kilnCircuits, kilnStations, kilnSheet, kiln-judged, stationOf}
+use Rattle.meaning.proofs.Links.{half, half-judged}
 use Rattle.meaning.proofs.Opened.{opened}
 use Rattle.meaning.proofs.Rows.{rows-at}
 use Rattle.meaning.proofs.Whole.{judge-file}
 use Rattle.meaning.proofs.Tables.{judge-rows}
 use Rattle.meaning.proofs.Judged.{judged-pass}
 use Rattle.claims.proofs.Stations.{rearranged}
-use Rattle.claims.proofs.Theorems.{accepted-exactly-when, refused-exactly-when, one-answer, revenue-recovered, solvers-agree, stations-hidden}
+use Rattle.claims.proofs.Theorems.{accepted-exactly-when, refused-exactly-when, one-answer, revenue-recovered, solvers-agree, stations-hidden, no-interconnector-no-change}
 
 -- ---- KILN is acceptable, and settled in either way
 kiln-acceptable : Acceptable kiln kilnRuns
@@ -149,3 +150,18 @@ not-missed f = unbalanced≢missed (one-answer kiln leaking (replicate 5 7) .onl
       where
         numbers : _≡_ {A = ℕ} (values (Refused (Unbalanced Base 1)) .number) (values (Refused (MissesTooHigh Base)) .number) → ⊥
         numbers h = omega arith
+
+-- ---- 02, request 1: KILN has no interconnector, and is charged as 01 says; with one, the revenue is recovered from those that pay
+kiln-without : (v : ℕ) → v < 3 → capacityOf (studyOf kiln) v 3 ≡ 0
+unfolding opened
+kiln-without zero h = refl
+kiln-without (suc zero) h = refl
+kiln-without (suc (suc zero)) h = refl
+kiln-without (suc (suc (suc v))) h = absurd (omega arith)
+
+kiln-as-in-01 : AsIn01 (studyOf kiln) kilnRuns
+unfolding opened
+kiln-as-in-01 = no-interconnector-no-change (studyOf kiln) kilnRuns kiln-without
+
+half-recovered : Recovered (gridOf (studyOf half)) (sheetOf half kilnRuns)
+half-recovered = revenue-recovered half kilnRuns (judged-pass half kilnRuns .0 half-judged)

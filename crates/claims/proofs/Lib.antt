@@ -17,6 +17,8 @@ pub mod Pays
 pub mod ReadBack
 pub mod Money
 pub mod Recovered
+-- 02, request 1: who pays
+pub mod Interconnectors
 -- a refusal read back from its line
 pub mod Told
 -- nothing of it is vacuous

@@ -21,7 +21,7 @@ use Rattle.meaning.proofs.Order.{first-of-two}
 use Rattle.meaning.specs.Grid.{gridOf}
 use Rattle.meaning.specs.Conditions.{InRange}
 use Rattle.meaning.specs.Refusals.{Condition, whole, eachRow, Unmet, AllMet, FirstUnmet, caseOrder, Stopped}
-use Rattle.meaning.specs.Demands.{SystemListed, base, wider, local, badFile, badSetting, badNode, badCircuit, badStation, unreached, badTotal, badNumber, unbalanced, missesTooHigh, inDoubt, shortBuffer, ListedFor}
+use Rattle.meaning.specs.Demands.{SystemListed, base, wider, local, badFile, badSetting, badNode, badCircuit, badStation, unreached, badTotal, noChargeableTec, badNumber, unbalanced, missesTooHigh, inDoubt, shortBuffer, ListedFor}
 
 -- row i is printed as row i + 1
 in-rows : {i n : ℕ} → i < n → InRange (suc i) 1 n
@@ -74,7 +74,7 @@ module _ (file : List ℕ) (runs : Runs) where
   unfolding gridOf values refusal
   case-row = of-first Row (caseOrder file runs)
       ((badFile, refl) and (badSetting, refl) and (λ i h. (badNode (suc i) (in-rows h), refl)) and (λ i h. (badCircuit (suc i) (in-rows h), refl))
-      and (λ i h. (badStation (suc i) (in-rows h), refl)) and (λ i h. (unreached (suc i) (in-rows h), refl)) and (badTotal, refl)
+      and (λ i h. (badStation (suc i) (in-rows h), refl)) and (λ i h. (unreached (suc i) (in-rows h), refl)) and (badTotal, refl) and (noChargeableTec, refl)
       and (λ i h. number Base i h) and (λ i h. balance Base i h) and misses Base
       and (λ i h. (inDoubt (suc i) (in-rows h), refl))
       and (λ i h. number Wider i h) and (λ i h. balance Wider i h) and misses Wider

@@ -23,7 +23,8 @@ use Rattle.meaning.proofs.Tables.{place-own, rowwise}
 use Rattle.claims.proofs.Digits.{read-natural, read-decimal}
 use Rattle.claims.proofs.Names.{name-back}
 use Rattle.meaning.proofs.Proposals.{not-apart, zero-apart}
-use Rattle.claims.proofs.Pays.{node-pays, zone-pays}
+use Rattle.meaning.proofs.Plants.{node-pays}
+use Rattle.claims.proofs.Pays.{zone-pays}
 use Rattle.claims.proofs.Pieces.{over, adds-all, each-none}
 use Rattle.claims.proofs.Lines.{Line, emptyZone, fullZone, nodeLine, lastLine, Worth, add-sheet}
 

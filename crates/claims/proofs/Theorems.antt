@@ -1,17 +1,18 @@
 -- The user's demands, proved: each statement is a type of meaning/specs/Demands.antt, and its proof is in the file named here.
-use Rattle.meaning.specs.Demands.{EveryInputSettled, AcceptedExactlyWhen, RefusedExactlyWhen, OneAnswer, JudgeIsWrite, RevenueRecovered, SolversAgree, StationsHidden, CapacityKept, SheetsFit}
+use Rattle.meaning.specs.Demands.{EveryInputSettled, AcceptedExactlyWhen, RefusedExactlyWhen, OneAnswer, JudgeIsWrite, RevenueRecovered, SolversAgree, StationsHidden, CapacityKept, SheetsFit, AllButInterconnectorsPay, NoInterconnectorNoChange}
 use Rattle.sizes.proofs.Accepted as Sizes
 use Rattle.claims.proofs.Accepted
 use Rattle.claims.proofs.Recovered
 use Rattle.claims.proofs.Agree
 use Rattle.claims.proofs.Hidden
 use Rattle.claims.proofs.Stations
+use Rattle.claims.proofs.Interconnectors
 
 -- demand 1: any bytes, runs and buffer give the sheet, or a refusal of 01's table with the buffer untouched
 pub every-input-settled : EveryInputSettled
 every-input-settled = Accepted.every-input-settled
 
--- demand 2: accepted exactly when 1 to 11 do not hold, in a person's words, and the sheet fits
+-- demand 2: accepted exactly when 1 to 11 and 13 do not hold, in a person's words, and the sheet fits
 pub accepted-exactly-when : AcceptedExactlyWhen
 accepted-exactly-when = Accepted.accepted-exactly-when
 
@@ -46,3 +47,11 @@ capacity-kept = Stations.capacity-kept
 -- "Its own buffer holds any sheet these ranges allow, so it never prints 12."
 pub sheets-fit : SheetsFit
 sheets-fit = Sizes.sheets-fit
+
+-- 02, request 1: all of a node's TEC weighs, and all but its interconnectors' pays
+pub all-but-interconnectors-pay : AllButInterconnectorsPay
+all-but-interconnectors-pay = Interconnectors.all-but-interconnectors-pay
+
+-- and a case without interconnectors has 01's own C, rest, residual and remainder, and is never refused as 13
+pub no-interconnector-no-change : NoInterconnectorNoChange
+no-interconnector-no-change = Interconnectors.no-interconnector-no-change

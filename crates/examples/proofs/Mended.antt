@@ -6,15 +6,16 @@ use lib.IntN.{ℤ, pos, negℤ}
 use lib.ListN.{set, replicate}
 use Rattle.meaning.specs.Study.{Settings, Node, Circuit, Station, Runs}
 use Rattle.meaning.specs.declared.System.the-variants.{Base, Wider, Local}
-use Rattle.meaning.specs.declared.Refusal.the-variants.{BadFile, BadSetting, BadNode, BadCircuit, BadStation, Unreached, BadTotal, BadNumber, Unbalanced, MissesTooHigh, ShortBuffer}
+use Rattle.meaning.specs.declared.Refusal.the-variants.{BadFile, BadSetting, BadNode, BadCircuit, BadStation, Unreached, BadTotal, BadNumber, Unbalanced, MissesTooHigh, ShortBuffer, NoChargeableTec}
 use Rattle.meaning.specs.declared.Answer.{Answer}
 use Rattle.meaning.specs.declared.Answer.the-variants.{Accepted, Refused}
 use Rattle.meaning.specs.Outcome.{settle}
 use Rattle.meaning.proofs.Write.{fileOf}
 use Rattle.meaning.proofs.Opened.{opened}
-use Rattle.meaning.proofs.Kiln.{kilnSettings, kilnNodes, kilnCircuits, kilnStations, kilnBase, kilnWider, kilnLocal, nodeOf, circuitOf, stationOf}
+use Rattle.meaning.proofs.Kiln.{kilnSettings, kilnNodes, kilnCircuits, kilnStations, kilnBase, kilnWider, kilnLocal, nodeOf, circuitOf}
+use Rattle.meaning.proofs.Links.{linkOf}
 
--- the faults: reference row 4 of 3; rows 2 and 3 without a name; an unknown end, and then no circuit at NODB; a repeated identifier, and then too little TEC
+-- the faults: reference row 4 of 3; rows 2 and 3 without a name; an unknown end, and then no circuit at NODB; a repeated identifier, and then too little TEC, and then none that pays
 abbrev lostReference : Settings
 lostReference = record {
   generationZones = 1;
@@ -43,10 +44,13 @@ abbrev apart : List Circuit
 apart = circuitOf "NODA" "NODC" 100 10000 ∷ circuitOf "NODA" "NODC" 100 20000 ∷ circuitOf "NODA" "NODC" 200 34000 ∷ []
 
 abbrev repeated : List Station
-repeated = stationOf "GEN_1" "NODA" 100000 ∷ stationOf "GEN_1" "NODB" 49999 ∷ []
+repeated = linkOf "GEN_1" "NODA" 100000 ∷ linkOf "GEN_1" "NODB" 49999 ∷ []
 
 abbrev small : List Station
-small = stationOf "GEN_1" "NODA" 100000 ∷ stationOf "GEN_2" "NODB" 49999 ∷ []
+small = linkOf "GEN_1" "NODA" 100000 ∷ linkOf "GEN_2" "NODB" 49999 ∷ []
+
+abbrev linked : List Station
+linked = linkOf "GEN_1" "NODA" 100000 ∷ linkOf "GEN_2" "NODB" 50000 ∷ []
 
 -- of a run: potential 1 at the reference; a flow that breaks two balances; a potential that misses by twice 200,000,000
 abbrev missingBy : List ℤ → (first : ℕ) → List ℤ
@@ -102,15 +106,16 @@ version : (let runs : Runs = record { base = base₈; wider = wider₈; local = 
 unfolding opened
 version = refl
 
--- 2 to 7
+-- 2 to 7, and 13
 tables : answer lostReference nameless unknownEnd repeated base₈ wider₈ local₈
     ∷ answer kilnSettings nameless unknownEnd repeated base₈ wider₈ local₈
     ∷ answer kilnSettings kilnNodes unknownEnd repeated base₈ wider₈ local₈
     ∷ answer kilnSettings kilnNodes apart repeated base₈ wider₈ local₈
     ∷ answer kilnSettings kilnNodes apart small base₈ wider₈ local₈
     ∷ answer kilnSettings kilnNodes kilnCircuits small base₈ wider₈ local₈
+    ∷ answer kilnSettings kilnNodes kilnCircuits linked base₈ wider₈ local₈
     ∷ []
-    ≡ Refused BadSetting ∷ Refused (BadNode 2) ∷ Refused (BadCircuit 2) ∷ Refused (BadStation 2) ∷ Refused (Unreached 2) ∷ Refused BadTotal ∷ []
+    ≡ Refused BadSetting ∷ Refused (BadNode 2) ∷ Refused (BadCircuit 2) ∷ Refused (BadStation 2) ∷ Refused (Unreached 2) ∷ Refused BadTotal ∷ Refused NoChargeableTec ∷ []
 unfolding opened
 tables = refl
 

@@ -22,7 +22,7 @@ use Rattle.meaning.proofs.Tables.{Rowwise, rowwise, rowwise-met, judge-
 use Rattle.meaning.proofs.Whole.{judge-file}
 use Rattle.meaning.proofs.Proposals.{judge-proposals, solved-met}
 
--- ---- 1 to 7
+-- ---- 1 to 7 and 13
 module _ (file : List ℕ) (runs : Runs) where
   abbrev S : Study
   S = studyOf file
@@ -39,7 +39,7 @@ module _ (file : List ℕ) (runs : Runs) where
   reference-row : Rowwise S → networkOf (gridOf S) .reference < networkOf (gridOf S) .nodes
   reference-row r = placed S r .reference
 
-  -- ---- 1 to 11, and 12
+  -- ---- 1 to 11 and 13, and 12
   pub judge-case : Judges (judged file runs) (caseOrder file runs)
   unfolding judged
   judge-case =
@@ -59,11 +59,11 @@ module _ (file : List ℕ) (runs : Runs) where
             let t = tables .0 (m .1) in
             let g = rest .0 (t .1) in
             let s = sound-met S .0 (t .0, g .0) in
-            let p = solved-met (gridOf S) runs (reference-row (rowwise S s)) .0 (g .1) in
-            record { whole = m .0; tables = s; solved = p .each; directions = p .clear },
+            let p = solved-met (gridOf S) runs (reference-row (rowwise S (s .tables))) .0 (g .1) in
+            record { whole = m .0; study = s; solved = p .each; directions = p .clear },
         λ a.
-            let t = sound-met S .1 (a .tables) in
-            let p = solved-met (gridOf S) runs (reference-row (rowwise S (a .tables))) .1 (record { each = a .solved; clear = a .directions }) in
+            let t = sound-met S .1 (a .study) in
+            let p = solved-met (gridOf S) runs (reference-row (rowwise S (a .study .tables))) .1 (record { each = a .solved; clear = a .directions }) in
             (a .whole, tables .1 (t .0, rest .1 (t .1, p))),
       )
 

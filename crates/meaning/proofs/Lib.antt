@@ -8,6 +8,7 @@ pub mod Table
 pub mod Kept
 pub mod Order
 pub mod Walk
+pub mod Plants
 pub mod Shares
 pub mod Starts
 pub mod Tables
@@ -15,9 +16,10 @@ pub mod Tables
 pub mod Whole
 pub mod Proposals
 pub mod Judged
--- the definitions computed: the starred rows, case KILN and its damaged forms
+-- the definitions computed: the starred rows, case KILN and its damaged forms, interconnectors
 pub mod Write
 pub mod Opened
 pub mod Starred
 pub mod Kiln
 pub mod Small
+pub mod Links

@@ -1,7 +1,7 @@
 -- Two small cases on the edges of 01's bands, sums, lengths and ranges: PAIR, two nodes and a circuit, and ALONE, one node.
 use mathlib.Core.Path.{_≡_, refl}
 use mathlib.Core.List.{List, [], _∷_, _++_}
-use mathlib.Core.Bool.{true}
+use mathlib.Core.Bool.{true, false}
 use Prim.Native.Nat.{ℕ, suc, _+_, _*_}
 use Prim.Native.String.{String}
 use lib.IntN.{ℤ, pos, negℤ}
@@ -169,8 +169,8 @@ past-limits : numbers Base (negℤ (pos 2000000000000000001)) (pos 0) ∷ number
 unfolding opened
 past-limits = refl
 
--- plant types 1 to 7: all of them scale and weigh, and all of them pay
-plants : rows 7 (λ t. scales (plantOf (suc t))) ++ rows 7 (λ t. pays (plantOf (suc t))) ≡ replicate 14 true
+-- plant types 1 to 7: all of them scale and weigh, and all but type 3 pay
+plants : rows 7 (λ t. scales (plantOf (suc t))) ++ rows 7 (λ t. pays (plantOf (suc t))) ≡ replicate 9 true ++ (false ∷ replicate 4 true)
 unfolding opened
 plants = refl
 

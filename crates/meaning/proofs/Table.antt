@@ -10,7 +10,7 @@ use lib.ListN.{getD}
 use Rattle.meaning.specs.declared.System.{System}
 use Rattle.meaning.specs.declared.System.the-variants.{Base, Wider, Local}
 use Rattle.meaning.specs.declared.Refusal.{Refusal}
-use Rattle.meaning.specs.declared.Refusal.the-variants.{BadFile, BadSetting, BadNode, BadCircuit, BadStation, Unreached, BadTotal, BadNumber, Unbalanced, MissesTooHigh, DirectionInDoubt, ShortBuffer}
+use Rattle.meaning.specs.declared.Refusal.the-variants.{BadFile, BadSetting, BadNode, BadCircuit, BadStation, Unreached, BadTotal, BadNumber, Unbalanced, MissesTooHigh, DirectionInDoubt, ShortBuffer, NoChargeableTec}
 use Rattle.meaning.specs.declared.Answer.the-variants.{Refused}
 use Rattle.meaning.specs.Answers.{systemNumber, refusal, values}
 
@@ -29,7 +29,7 @@ refusalOf number system row =
     let s = systemOf system in
     getD (
     BadFile ∷ BadFile ∷ BadSetting ∷ BadNode row ∷ BadCircuit row ∷ BadStation row ∷ Unreached row ∷ BadTotal ∷ BadNumber s row ∷ Unbalanced s row
-    ∷ MissesTooHigh s ∷ DirectionInDoubt row ∷ ShortBuffer ∷ []) number BadFile
+    ∷ MissesTooHigh s ∷ DirectionInDoubt row ∷ ShortBuffer ∷ NoChargeableTec ∷ []) number BadFile
 
 told : (r : Refusal) → refusalOf (values (Refused r) .number) (values (Refused r) .system) (values (Refused r) .row) ≡ r
 unfolding refusalOf values refusal
@@ -45,6 +45,7 @@ told (Unbalanced s i) = ap (λ (t : System). Unbalanced t i) (system-told s)
 told (MissesTooHigh s) = ap MissesTooHigh (system-told s)
 told (DirectionInDoubt i) = refl
 told ShortBuffer = refl
+told NoChargeableTec = refl
 
 pub values-tell : (q r : Refusal) → values (Refused q) .number ≡ values (Refused r) .number → values (Refused q) .system ≡ values (Refused r) .system
     → values (Refused q) .row ≡ values (Refused r) .row → q ≡ r

@@ -1,4 +1,4 @@
--- Stages 2 to 7 pass exactly when the tables are sound, as the conditions say it.
+-- Stages 2 to 7 and 13 pass exactly when the study is sound, as the conditions say it.
 use mathlib.Core.Path.{_≡_, refl, sym, _∙_, ap}
 use mathlib.Core.Logic.{_⊎_, inl, inr, _↔_, _≢_}
 use mathlib.Core.List.{List}
@@ -12,13 +12,13 @@ use borrow.Author.Tests.{lt-ltb, le-ltb}
 use Rattle.meaning.specs.Rows.{found}
 use Rattle.meaning.specs.Name.{Name, sameName}
 use Rattle.meaning.specs.Study.{Settings, Node, Study, node, circuit, station}
-use Rattle.meaning.specs.declared.Refusal.the-variants.{BadSetting, BadNode, BadCircuit, BadStation, Unreached, BadTotal}
+use Rattle.meaning.specs.declared.Refusal.the-variants.{BadSetting, BadNode, BadCircuit, BadStation, Unreached, BadTotal, NoChargeableTec}
 use Rattle.meaning.specs.declared.Judgement.the-variants.{Passes}
 use Rattle.meaning.specs.Tables.{seenEarlier, known, soundScales, soundSettings, soundNodeRow, soundCircuitRow, soundStationRow, soundNode, soundCircuit, soundStation, settingsStage, nodesStage, circuitsStage, stationsStage}
-use Rattle.meaning.specs.Grid.{gridOf, place, soundTotals, totalsStage, totalDemand, totalTec}
+use Rattle.meaning.specs.Grid.{gridOf, place, soundTotals, totalsStage, chargeableStage, totalDemand, totalTec}
 use Rattle.meaning.specs.Network.{networkOf, reachStage}
 use Rattle.meaning.specs.Outcome.{rowsStage, gridStage}
-use Rattle.meaning.specs.Conditions.{InRange, Known, SoundSettings, SoundNode, SoundCircuit, SoundStation, SoundTables}
+use Rattle.meaning.specs.Conditions.{InRange, Known, SoundSettings, SoundNode, SoundCircuit, SoundStation, SoundTables, SoundStudy}
 use Rattle.meaning.specs.Refusals.{AllMet, rowsOrder, gridOrder}
 use Rattle.meaning.proofs.Rows.{Lowest, nothing, first, lowest-is, lowest-stops}
 use Rattle.meaning.proofs.Walk.{Placed, reached-is}
@@ -162,31 +162,35 @@ pub says-totals : (demand tec : ℕ) → Says (soundTotals demand tec) ((InRange
 unfolding soundTotals
 says-totals demand tec = says-between also says-between also says-le
 
--- ---- 6 and 7
+-- ---- 6, 7 and 13
 pub judge-grid : (S : Study) → Rowwise S → Judges (gridStage (gridOf S)) (gridOrder (gridOf S))
-unfolding gridStage reachStage totalsStage networkOf gridOf
+unfolding gridStage reachStage totalsStage chargeableStage networkOf gridOf
 judge-grid S r =
     judges-rows (length (S .nodes)) Unreached (reached-is (networkOf (gridOf S)) (placed S r))
     before λ _. judges-whole BadTotal
     (says-as (says-totals (totalDemand (gridOf S)) (totalTec (gridOf S)))
     (λ t. record { demandTotal = t .0 .0; tecTotal = t .0 .1; enough = t .1 }, λ t. ((t .demandTotal, t .tecTotal), t .enough)))
+    before λ _. judges-whole NoChargeableTec says-le
 
--- ---- 2 to 7
-pub sound-met : (S : Study) → AllMet (rowsOrder S) × AllMet (gridOrder (gridOf S)) ↔ SoundTables S
+-- ---- 2 to 7 and 13
+pub sound-met : (S : Study) → AllMet (rowsOrder S) × AllMet (gridOrder (gridOf S)) ↔ SoundStudy S
 unfolding gridOf
 sound-met S = (
   λ m.
       let r = rowwise-met S .0 (m .0) in
-      record { settings = r .settings; nodes = r .nodes; circuits = r .circuits; stations = r .stations; reached = m .1 .0; totals = m .1 .1 .0 },
-  λ s. (rowwise-met S .1 (rowwise S s), (s .reached, (s .totals, tt))),
+      record {
+        tables = record { settings = r .settings; nodes = r .nodes; circuits = r .circuits; stations = r .stations; reached = m .1 .0; totals = m .1 .1 .0 };
+        chargeable = m .1 .1 .1 .0;
+      },
+  λ s. (rowwise-met S .1 (rowwise S (s .tables)), (s .tables .reached, (s .tables .totals, (s .chargeable, tt)))),
 )
 
-pub sound-pass : (S : Study) → ((rowsStage S ≡ Passes) × (gridStage (gridOf S) ≡ Passes)) ↔ SoundTables S
+pub sound-pass : (S : Study) → ((rowsStage S ≡ Passes) × (gridStage (gridOf S) ≡ Passes)) ↔ SoundStudy S
 sound-pass S = (
   λ t.
       let m = judge-rows S .passes .0 (t .0) in
       sound-met S .0 (m, judge-grid S (rowwise-met S .0 m) .passes .0 (t .1)),
   λ s.
       let m = sound-met S .1 s in
-      (judge-rows S .passes .1 (m .0), judge-grid S (rowwise S s) .passes .1 (m .1)),
+      (judge-rows S .passes .1 (m .0), judge-grid S (rowwise S (s .tables)) .passes .1 (m .1)),
 )

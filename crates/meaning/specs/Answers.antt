@@ -6,7 +6,7 @@ use Rattle.meaning.specs.declared.System.{System}
 use Rattle.meaning.specs.declared.System.the-variants.{Base, Wider, Local}
 use Rattle.meaning.specs.declared.Values.{Values}
 use Rattle.meaning.specs.declared.Refusal.{Refusal}
-use Rattle.meaning.specs.declared.Refusal.the-variants.{BadFile, BadSetting, BadNode, BadCircuit, BadStation, Unreached, BadTotal, BadNumber, Unbalanced, MissesTooHigh, DirectionInDoubt, ShortBuffer}
+use Rattle.meaning.specs.declared.Refusal.the-variants.{BadFile, BadSetting, BadNode, BadCircuit, BadStation, Unreached, BadTotal, BadNumber, Unbalanced, MissesTooHigh, DirectionInDoubt, ShortBuffer, NoChargeableTec}
 use Rattle.meaning.specs.declared.Judgement.{Judgement}
 use Rattle.meaning.specs.declared.Judgement.the-variants.{Passes, Stops}
 use Rattle.meaning.specs.declared.Answer.{Answer}
@@ -22,7 +22,7 @@ systemNumber Local = 3
 unfoldable pub refusal : (number system row : ℕ) → Values
 refusal number system row = record { number = number; system = system; row = row; length = 0 }
 
--- the table of 01, row by row; "Acceptance carries the sheet's length"
+-- the table of 01, row by row, and 02's numbers; "Acceptance carries the sheet's length"
 unfoldable pub values : Answer → Values
 values (Accepted n) = record { number = 0; system = 0; row = 0; length = n }
 values (Refused BadFile) = refusal 1 0 0
@@ -37,6 +37,7 @@ values (Refused (Unbalanced s r)) = refusal 9 (systemNumber s) r
 values (Refused (MissesTooHigh s)) = refusal 10 (systemNumber s) 0
 values (Refused (DirectionInDoubt r)) = refusal 11 1 r
 values (Refused ShortBuffer) = refusal 12 0 0
+values (Refused NoChargeableTec) = refusal 13 0 0
 
 -- what stops a case first: the first stage if it stops it, else the second
 infixr 20 _orElse_

@@ -9,7 +9,7 @@ use Rattle.meaning.specs.Name.{Name}
 use Rattle.meaning.specs.Study.{Settings, Circuit, Study, Runs, node, circuit, station}
 use Rattle.meaning.specs.File.{u32, trailer, sectionOffset, sectionCount, sectionStart, studyOf}
 use Rattle.meaning.specs.declared.System.{System}
-use Rattle.meaning.specs.Grid.{Grid, gridOf, totalDemand, totalTec}
+use Rattle.meaning.specs.Grid.{Grid, gridOf, totalDemand, totalTec, totalPayingTec}
 use Rattle.meaning.specs.Network.{Network, networkOf, Reached}
 use Rattle.meaning.specs.declared.Direction.the-variants.{InDoubt}
 use Rattle.meaning.specs.Direction.{direction}
@@ -115,6 +115,15 @@ pub record SoundTables (S : Study) : Type 0 where
   pub reached : (v : ℕ) → v < length (S .nodes) → Reached (networkOf (gridOf S)) v
   pub totals : SoundTotals (gridOf S)
 
+-- not 13 (02, request 1): some TEC is chargeable
+abbrev pub Chargeable : Grid → Type 0
+Chargeable G = 1 ≤ totalPayingTec G
+
+-- sound tables, and what 02 asks of a study beside them: "each refusal of a case that a later request adds joins demand 2's conditions"
+pub record SoundStudy (S : Study) : Type 0 where
+  pub tables : SoundTables S
+  pub chargeable : Chargeable (gridOf S)
+
 -- step 2, for any network, supply and offset, potentials and flows, and a bound on the sum of misses
 pub record Solves (N : Network) (bound : ℕ) (supply offset potential flow : ℕ → ℤ) : Type 0 where
   pub ground : potential (N .reference) ≡ pos 0
@@ -139,9 +148,9 @@ Clear G runs c = HasLength (circuit (G .circuits) c) → direction (baseFlow G r
 pub record NoDoubt (G : Grid) (runs : Runs) : Type 0 where
   pub clear : (c : ℕ) → c < length (G .circuits) → Clear G runs c
 
--- not 1 to 11
+-- not 1 to 11, and not 13
 pub record Acceptable (file : List ℕ) (runs : Runs) : Type 0 where
   pub whole : WholeFile file runs
-  pub tables : SoundTables (studyOf file)
+  pub study : SoundStudy (studyOf file)
   pub solved : (system : System) → SolvesSystem (networkOf (gridOf (studyOf file))) (proposed (gridOf (studyOf file)) runs system)
   pub directions : NoDoubt (gridOf (studyOf file)) runs

@@ -3,10 +3,11 @@ use mathlib.Core.Path.{_≡_}
 use mathlib.Core.Logic.{_↔_, _⊎_}
 use mathlib.Core.Bool.{true}
 use mathlib.Core.List.{List, _∷_}
-use Prim.Native.Nat.{ℕ, _+_, _*_, _-_, _≤_, _<_}
-use lib.IntN.{ℤ, pos, natAbs, _+ℤ_, _-ℤ_}
+use Prim.Native.Nat.{ℕ, suc, _+_, _*_, _-_, _≤_, _<_}
+use lib.IntN.{ℤ, pos, natAbs, _+ℤ_, _-ℤ_, _*ℤ_}
 use lib.Signed.{_≤ℤ_, _<ℤ_}
 use lib.ListN.{length}
+use Rattle.integers.specs.Numbers.{sum, Σ, nearest}
 use Rattle.meaning.specs.Study.{Station, Study, Runs, circuit}
 use Rattle.meaning.specs.File.{studyOf}
 use Rattle.meaning.specs.declared.Side.{Side}
@@ -15,18 +16,18 @@ use Rattle.meaning.specs.declared.System.{System}
 use Rattle.meaning.specs.declared.System.the-variants.{Base, Wider, Local}
 use Rattle.meaning.specs.declared.Values.{Values}
 use Rattle.meaning.specs.declared.Refusal.{Refusal}
-use Rattle.meaning.specs.declared.Refusal.the-variants.{BadFile, BadSetting, BadNode, BadCircuit, BadStation, Unreached, BadTotal, BadNumber, Unbalanced, MissesTooHigh, DirectionInDoubt, ShortBuffer}
+use Rattle.meaning.specs.declared.Refusal.the-variants.{BadFile, BadSetting, BadNode, BadCircuit, BadStation, Unreached, BadTotal, BadNumber, Unbalanced, MissesTooHigh, DirectionInDoubt, ShortBuffer, NoChargeableTec}
 use Rattle.meaning.specs.declared.Answer.the-variants.{Refused}
 use Rattle.meaning.specs.Answers.{values, refusal}
-use Rattle.meaning.specs.Grid.{Grid, gridOf, capacityOf}
+use Rattle.meaning.specs.Grid.{Grid, gridOf, capacityOf, nodeTec, payingTec, totalTec, totalDemand}
 use Rattle.meaning.specs.Direction.{direction}
 use Rattle.meaning.specs.Proposal.{potential}
 use Rattle.meaning.specs.Systems.{baseFlow, runOf}
-use Rattle.meaning.specs.Figures.{widerMetres, localMetres, totalPaying}
+use Rattle.meaning.specs.Figures.{residualOf, remainderOf, widerMetres, localMetres, zones, zoneWeight, totalPaying, overZones, target, zonalMetres, C, zoneTariff, localTariff, rest, residual, remainder}
 use Rattle.meaning.specs.Outcome.{sheetOf, answerOf, refused, written, settle}
 use Rattle.meaning.specs.Read.{field, readWhole, hasLetter, lineAt, sideIncome, printedIncome, printedRemainder}
 use Rattle.meaning.specs.Sheet.{letter}
-use Rattle.meaning.specs.Conditions.{Acceptable, InRange, HasLength, WholeFile}
+use Rattle.meaning.specs.Conditions.{Acceptable, InRange, HasLength, WholeFile, SoundTables, SoundStudy}
 use Rattle.meaning.specs.Refusals.{AllMet, rowsOrder, Stopped}
 
 -- ---- demand 1
@@ -36,7 +37,7 @@ pub data SystemListed : System → ℕ → Type 0 where
   wider : SystemListed Wider 2
   local : SystemListed Local 3
 
--- 01's table of what stops a case, for a study of n nodes, m circuits and k stations: what each refusal carries
+-- 01's table of what stops a case and 02's numbers, for a study of n nodes, m circuits and k stations: what each refusal carries
 pub data Listed (n m k : ℕ) : Refusal → Values → Type 0 where
   badFile : Listed n m k BadFile (refusal 1 0 0)
   badSetting : Listed n m k BadSetting (refusal 2 0 0)
@@ -50,6 +51,7 @@ pub data Listed (n m k : ℕ) : Refusal → Values → Type 0 where
   missesTooHigh : (s : System) (system : ℕ) → SystemListed s system → Listed n m k (MissesTooHigh s) (refusal 10 system 0)
   inDoubt : (row : ℕ) → InRange row 1 m → Listed n m k (DirectionInDoubt row) (refusal 11 1 row)
   shortBuffer : Listed n m k ShortBuffer (refusal 12 0 0)
+  noChargeableTec : Listed n m k NoChargeableTec (refusal 13 0 0)
 
 abbrev pub ListedFor : Study → Refusal → Type 0
 ListedFor S r = Listed (length (S .nodes)) (length (S .circuits)) (length (S .stations)) r (values (Refused r))
@@ -69,7 +71,7 @@ abbrev pub EveryInputSettled : Type 0
 EveryInputSettled = (file : List ℕ) (runs : Runs) (buffer : List ℕ) → IsWritten file runs buffer ⊎ IsRefused file runs buffer
 
 -- ---- demand 2, first half
--- 1 to 11 do not hold, as the conditions say it, "and the sheet fits the buffer"
+-- 1 to 11 and 13 do not hold, as the conditions say it, "and the sheet fits the buffer"
 abbrev pub Accepting : List ℕ → Runs → List ℕ → Type 0
 Accepting file runs buffer = Acceptable file runs × (length (sheetOf file runs) ≤ length buffer)
 
@@ -191,3 +193,35 @@ StationsHidden =
 -- ---- "Its own buffer holds any sheet these ranges allow, so it never prints 12."
 abbrev pub SheetsFit : Type 0
 SheetsFit = (file : List ℕ) (runs : Runs) → Acceptable file runs → length (sheetOf file runs) ≤ 14240
+
+-- ---- 02, request 1: "Interconnectors don't pay"
+-- of a node's TEC all weighs, and all but that of type 3 pays
+pub record Payers (S : Study) (v : ℕ) : Type 0 where
+  pub weigh : nodeTec (gridOf S) v ≡ sum 7 (λ t. capacityOf S v (suc t))
+  pub pay : payingTec (gridOf S) v + capacityOf S v 3 ≡ nodeTec (gridOf S) v
+
+abbrev pub AllButInterconnectorsPay : Type 0
+AllButInterconnectorsPay = (S : Study) (v : ℕ) → v < length (S .nodes) → Payers S v
+
+-- 01's steps 8 and 10 word for word: "zone metres times kW", "total TEC", "zone tariffs times TEC", "node local tariffs times TEC"
+module _ (G : Grid) (runs : Runs) where
+  abbrev timesTec : (ℕ → ℤ) → ℤ
+  timesTec f = Σ (zones G Generation) (λ k. f (suc k) *ℤ pos (zoneWeight G Generation (suc k)))
+
+  pub record AllTecPays : Type 0 where
+    pub centre : C G runs
+        ≡ nearest (pos (1000 - G .settings .p) *ℤ overZones G Demand (zonalMetres G runs Demand) -ℤ pos (G .settings .p) *ℤ timesTec (zonalMetres G runs Generation))
+        (G .settings .p * totalTec G + (1000 - G .settings .p) * totalDemand G)
+    pub generationRest : rest G runs Generation
+        ≡ target G Generation -ℤ timesTec (zoneTariff G runs Generation) -ℤ Σ (length (G .nodes)) (λ v. localTariff G runs v *ℤ pos (nodeTec G v))
+    pub generationResidual : residual G runs Generation ≡ residualOf (rest G runs Generation) (totalTec G)
+    pub generationRemainder : remainder G runs Generation ≡ remainderOf (rest G runs Generation) (totalTec G)
+
+-- so a case without interconnectors has the sheet that 01 alone defines, and is never refused as 13
+pub record AsIn01 (S : Study) (runs : Runs) : Type 0 where
+  pub figures : AllTecPays (gridOf S) runs
+  pub chargeable : SoundTables S → SoundStudy S
+
+abbrev pub NoInterconnectorNoChange : Type 0
+NoInterconnectorNoChange =
+    (S : Study) (runs : Runs) → ((v : ℕ) → v < length (S .nodes) → capacityOf S v 3 ≡ 0) → AsIn01 S runs

@@ -56,7 +56,7 @@ module _ (G : Grid) where
   weight Generation v = nodeTec G v
   weight Demand v = nodeDemand G v
 
-  -- steps 8 and 10: kilowatts of node v that pay
+  -- steps 8 and 10: kilowatts of node v that pay. 02, request 1: type 3 TEC "leaves both generation terms of C, wider and local income, and the residual's divisor"
   unfoldable pub paying : Side → ℕ → Kw
   paying Generation v = payingTec G v
   paying Demand v = nodeDemand G v
@@ -105,7 +105,7 @@ module _ (G : Grid) where
     unfoldable pub localTariff : ℕ → MicroPerKw
     localTariff v = tariff (localMetres runs v) constant localFactor
 
-    -- step 10 (CUSC 14.15.72): "node local tariffs times TEC"; demand has none
+    -- step 10 (CUSC 14.15.72): "node local tariffs times TEC", of the TEC that pays; demand has none
     unfoldable pub localIncome : Side → ℤ
     localIncome Generation = Σ (length nodes) (λ v. localTariff v *ℤ pos (payingTec G v))
     localIncome Demand = pos 0

@@ -1,5 +1,5 @@
 -- A study with its stations added up: all that the later steps see. How a node's capacity is divided among stations is gone.
-use mathlib.Core.Bool.{Bool, true, cond, _&&_}
+use mathlib.Core.Bool.{Bool, true, false, cond, _&&_}
 use mathlib.Core.List.{List, []}
 use mathlib.Core.Option.{Option, Option·getD}
 use Prim.Native.Nat.{ℕ, suc}
@@ -12,7 +12,7 @@ use Rattle.meaning.specs.Study.{Kw, Settings, Node, Circuit, Station, St
 use Rattle.meaning.specs.declared.Plant.{Plant}
 use Rattle.meaning.specs.declared.Plant.the-variants.{Intermittent, NuclearAndCcs, Interconnector, Hydro, PumpedStorage, Peaking, Other}
 use Rattle.meaning.specs.declared.Judgement.{Judgement}
-use Rattle.meaning.specs.declared.Refusal.the-variants.{BadTotal}
+use Rattle.meaning.specs.declared.Refusal.the-variants.{BadTotal, NoChargeableTec}
 use Rattle.meaning.specs.Answers.{unless}
 
 -- 01, The case file (CUSC 14.15.7 of the later edition): plant types 1 to 7 "are the rows of the table in 14.15.7, in order"
@@ -22,7 +22,7 @@ plantOf t =
     (cond (eqb t 2) NuclearAndCcs
     (cond (eqb t 3) Interconnector (cond (eqb t 4) Hydro (cond (eqb t 5) PumpedStorage (cond (eqb t 6) Peaking Other)))))
 
--- whether the TEC of a plant type scales (step 1) and weighs (step 7): all of it
+-- whether the TEC of a plant type scales (step 1) and weighs (step 7): all of it; 02, request 1: "Type 3 TEC stays in scaling and zonal weights"
 unfoldable pub scales : Plant → Bool
 scales Intermittent = true
 scales NuclearAndCcs = true
@@ -32,11 +32,11 @@ scales PumpedStorage = true
 scales Peaking = true
 scales Other = true
 
--- whether the TEC of a plant type pays (steps 8 and 10): all of it
+-- whether the TEC of a plant type pays (steps 8 and 10): 02, request 1, "Interconnectors don't pay"
 unfoldable pub pays : Plant → Bool
 pays Intermittent = true
 pays NuclearAndCcs = true
-pays Interconnector = true
+pays Interconnector = false
 pays Hydro = true
 pays PumpedStorage = true
 pays Peaking = true
@@ -78,7 +78,7 @@ tecOf test G v = sum 7 (λ t. cond (test (plantOf (suc t))) (getD (getD (G .capa
 abbrev pub nodeTec : Grid → ℕ → Kw
 nodeTec = tecOf scales
 
--- the TEC that pays
+-- the TEC that pays: "chargeable kilowatts"
 abbrev pub payingTec : Grid → ℕ → Kw
 payingTec = tecOf pays
 
@@ -87,6 +87,9 @@ nodeDemand G v = node (G .nodes) v .demand
 
 abbrev pub totalTec : Grid → Kw
 totalTec G = sum (length (G .nodes)) (nodeTec G)
+
+abbrev pub totalPayingTec : Grid → Kw
+totalPayingTec G = sum (length (G .nodes)) (payingTec G)
 
 abbrev pub totalDemand : Grid → Kw
 totalDemand G = sum (length (G .nodes)) (nodeDemand G)
@@ -97,3 +100,7 @@ soundTotals demand tec = demand between 1 and 100000000 && tec between 1 and 100
 
 unfoldable pub totalsStage : Grid → Judgement
 totalsStage G = unless (soundTotals (totalDemand G) (totalTec G)) BadTotal
+
+-- 02, request 1: "13, system 0 row 0, no chargeable TEC, after 7"
+unfoldable pub chargeableStage : Grid → Judgement
+chargeableStage G = unless (leb 1 (totalPayingTec G)) NoChargeableTec

@@ -13,7 +13,7 @@ use Rattle.meaning.specs.Answers.{values, _orElse_, unless}
 use Rattle.meaning.specs.Study.{Study, Runs}
 use Rattle.meaning.specs.File.{fileWhole, runsWhole, studyOf, runsIn}
 use Rattle.meaning.specs.Tables.{settingsStage, nodesStage, circuitsStage, stationsStage}
-use Rattle.meaning.specs.Grid.{Grid, gridOf, totalsStage}
+use Rattle.meaning.specs.Grid.{Grid, gridOf, totalsStage, chargeableStage}
 use Rattle.meaning.specs.Network.{networkOf, reachStage}
 use Rattle.meaning.specs.Systems.{proposalsStage}
 use Rattle.meaning.specs.Text.{text, natural, line}
@@ -30,16 +30,16 @@ runsStage file base wider local = unless (runsWhole file base wider local) BadFi
 unfoldable pub rowsStage : Study → Judgement
 rowsStage S = settingsStage S orElse nodesStage S orElse circuitsStage S orElse stationsStage S
 
--- 6 and 7 of a grid
+-- 6 and 7 of a grid, then 13
 unfoldable pub gridStage : Grid → Judgement
-gridStage G = reachStage (networkOf G) orElse totalsStage G
+gridStage G = reachStage (networkOf G) orElse totalsStage G orElse chargeableStage G
 
--- "Tables are sound when none of 1 to 7 holds": of a file, and the lengths of the three runs
+-- all that is asked before the proposals, of a file and the lengths of the three runs: 1 to 7, then 13
 unfoldable pub tablesStage : (file : List ℕ) → (base wider local : ℕ) → Judgement
 tablesStage file base wider local =
     fileStage file orElse runsStage file base wider local orElse rowsStage (studyOf file) orElse gridStage (gridOf (studyOf file))
 
--- "Order: 1 to 7; 8, 9, 10 for system 1 (base); 11; 8, 9, 10 for system 2 (wider), then 3 (local)"
+-- "Order: 1 to 7; 8, 9, 10 for system 1 (base); 11; 8, 9, 10 for system 2 (wider), then 3 (local)"; 13 after 7
 unfoldable pub judged : (file : List ℕ) → Runs → Judgement
 judged file runs =
     tablesStage file (length (runs .base)) (length (runs .wider)) (length (runs .local)) orElse proposalsStage (gridOf (studyOf file)) runs
@@ -78,7 +78,7 @@ unfoldable pub settledBy : Judgement → (sheet buffer : List ℕ) → Settled
 settledBy Passes sheet buffer = written sheet buffer
 settledBy (Stops r) sheet buffer = refused r buffer
 
--- 1 to 11, then 12
+-- 1 to 11 and 13, then 12
 unfoldable pub settle : (file : List ℕ) → Runs → (buffer : List ℕ) → Settled
 settle file runs buffer =
     let sheet = sheetOf file runs in

@@ -10,13 +10,13 @@ use Rattle.meaning.specs.File.{studyOf}
 use Rattle.meaning.specs.declared.System.{System}
 use Rattle.meaning.specs.declared.System.the-variants.{Base, Wider, Local}
 use Rattle.meaning.specs.declared.Refusal.{Refusal}
-use Rattle.meaning.specs.declared.Refusal.the-variants.{BadFile, BadSetting, BadNode, BadCircuit, BadStation, Unreached, BadTotal, BadNumber, Unbalanced, MissesTooHigh, DirectionInDoubt, ShortBuffer}
+use Rattle.meaning.specs.declared.Refusal.the-variants.{BadFile, BadSetting, BadNode, BadCircuit, BadStation, Unreached, BadTotal, BadNumber, Unbalanced, MissesTooHigh, DirectionInDoubt, ShortBuffer, NoChargeableTec}
 use Rattle.meaning.specs.Grid.{Grid, gridOf}
 use Rattle.meaning.specs.Network.{Network, networkOf, Reached}
 use Rattle.meaning.specs.Proposal.{potential, flow, flowOut, flowIn, missSum, Proposed}
 use Rattle.meaning.specs.Systems.{proposed}
 use Rattle.meaning.specs.Outcome.{sheetOf}
-use Rattle.meaning.specs.Conditions.{WholeFile, SoundSettings, SoundNode, SoundCircuit, SoundStation, SoundTotals, Clear}
+use Rattle.meaning.specs.Conditions.{WholeFile, SoundSettings, SoundNode, SoundCircuit, SoundStation, SoundTotals, Chargeable, Clear}
 
 -- ---- what 8, 9 and 10 ask, each by itself; the others are in Conditions
 -- not 8 at row i: "circuits after nodes"; "The reference node's potential is 0."
@@ -61,7 +61,7 @@ abbrev pub FirstUnmet : List Condition → Refusal → Type 0
 FirstUnmet [] cause = ⊥
 FirstUnmet (c ∷ cs) cause = Unmet c cause ⊎ Met c × FirstUnmet cs cause
 
--- ---- 01's table in 01's order
+-- ---- 01's table in 01's order, and what 02 adds in its place
 -- 2 to 5 of a study
 abbrev pub rowsOrder : Study → List Condition
 rowsOrder S =
@@ -71,9 +71,13 @@ rowsOrder S =
     ∷ eachRow (length (S .stations)) (SoundStation S) BadStation
     ∷ []
 
--- 6 and 7
+-- 6 and 7, then 13
 abbrev pub gridOrder : Grid → List Condition
-gridOrder G = eachRow (length (G .nodes)) (Reached (networkOf G)) Unreached ∷ whole (SoundTotals G) BadTotal ∷ []
+gridOrder G =
+    eachRow (length (G .nodes)) (Reached (networkOf G)) Unreached
+    ∷ whole (SoundTotals G) BadTotal
+    ∷ whole (Chargeable G) NoChargeableTec
+    ∷ []
 
 -- "8, 9, 10" of a system, and 11
 abbrev pub systemOrder : Grid → Runs → System → List Condition
@@ -90,7 +94,7 @@ directionOrder G runs = eachRow (length (G .circuits)) (Clear G runs) DirectionI
 abbrev pub proposalsOrder : Grid → Runs → List Condition
 proposalsOrder G runs = systemOrder G runs Base ++ (directionOrder G runs ++ (systemOrder G runs Wider ++ systemOrder G runs Local))
 
--- "Order: 1 to 7;" and these
+-- "Order: 1 to 7;" 13, and these
 abbrev pub caseOrder : (file : List ℕ) → Runs → List Condition
 caseOrder file runs =
     let S = studyOf file in

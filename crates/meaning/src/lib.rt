@@ -39,7 +39,7 @@ pub enum Direction {
     InDoubt,
 }
 
-// 01, What stops a case: a case for each number 1 to 12, with the system and the row (from 1) where the table has one.
+// 01, What stops a case: a case for each number 1 to 12, with the system and the row (from 1) where the table has one; and for 02's numbers.
 pub enum Refusal {
     BadFile,
     BadSetting,
@@ -53,6 +53,7 @@ pub enum Refusal {
     MissesTooHigh(System),
     DirectionInDoubt(usize),
     ShortBuffer,
+    NoChargeableTec,
 }
 
 // What a stage of 01's order makes of a case: it goes on to the next stage, or it is refused.

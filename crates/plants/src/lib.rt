@@ -33,14 +33,14 @@ pub fn scales(plant: Plant) -> bool
     }
 }
 
-// Whether the TEC of a plant type pays.
+// Whether the TEC of a plant type pays: interconnectors don't.
 pub fn pays(plant: Plant) -> bool
     ensures { λ r. ⌜ r ≡ paysIn plant ⌝ }
 {
     match plant {
         Plant::Intermittent => true,
         Plant::NuclearAndCcs => true,
-        Plant::Interconnector => true,
+        Plant::Interconnector => false,
         Plant::Hydro => true,
         Plant::PumpedStorage => true,
         Plant::Peaking => true,

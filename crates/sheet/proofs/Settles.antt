@@ -67,12 +67,12 @@ module _ (file : List ℕ) (runs : Runs) (r : Charged) (made : r ≡ chargedOf f
     acceptable = judged-pass file runs .0 judged-passes
 
     figures-sized : Sized (r .figures) file
-    figures-sized = rw figures-are (case-sized file runs (acceptable .whole) (acceptable .tables .settings))
+    figures-sized = rw figures-are (case-sized file runs (acceptable .whole) (acceptable .study .tables .settings))
 
     figures-text : textOf (r .figures) file ≡ sheetOf file runs
     figures-text =
         text-sized (r .figures) file (says-sized (r .figures) file .1 figures-sized)
-        ∙ rw figures-are (case-sheet file runs (acceptable .whole) (acceptable .tables .settings))
+        ∙ rw figures-are (case-sheet file runs (acceptable .whole) (acceptable .study .tables .settings))
 
     pub sheet-settled : (before : List ℕ) (s : Settled) → s ≡ settledBy (bufferStage (textOf (r .figures) file) before) (textOf (r .figures) file) before → s ≡ settle file runs before
     unfolding settle _orElse_

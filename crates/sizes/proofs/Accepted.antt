@@ -25,4 +25,4 @@ few-nodes : (file : List ℕ) (runs : Runs) → Acceptable file runs → length 
 few-nodes file runs a = omega (arith, counts file runs (a .whole) .0, a .whole .nodes .most)
 
 pub sheets-fit : SheetsFit
-sheets-fit file runs a = sheet-fits (studyOf file) (a .tables) (few-nodes file runs a) runs (solved-in-range (studyOf file) runs (a .solved))
+sheets-fit file runs a = sheet-fits (studyOf file) (a .study) (few-nodes file runs a) runs (solved-in-range (studyOf file) runs (a .solved))

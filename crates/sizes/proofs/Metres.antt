@@ -20,8 +20,8 @@ use Rattle.integers.proofs.Sum.{sum-part, Σ-weighted}
 use Rattle.integers.proofs.Group.{Σ-weighted-of}
 use Rattle.integers.proofs.Div.{nearest-within, nearest-zero}
 use Rattle.sizes.proofs.Unweighted.{Σ-none}
-use Rattle.sizes.proofs.Ranges.{Ranged}
-use Rattle.sizes.proofs.Kilowatts.{zones-cover, kilowatts}
+use Rattle.sizes.proofs.Ranges.{Ranged, Divisors}
+use Rattle.sizes.proofs.Kilowatts.{zones-cover, zones-to}
 
 metres-within : (z : ℤ) → natAbs z ≤ 10000000000000000 → natAbs (metres z) ≤ 10000000
 unfolding metres
@@ -53,7 +53,7 @@ unfolding zonalMetres zoneWeight
 zonal-none G runs side zone h =
     ap₂ nearest (Σ-none (length (G .nodes)) (λ v. eqb (zoneOf G side v) zone) (distance runs side) (weight G side) h) h ∙ nearest-zero 0
 
-module _ (G : Grid) (runs : Runs) (r : Ranged G) (u : PotentialsInRange (length (G .nodes)) runs) where
+module _ (G : Grid) (runs : Runs) (r : Ranged G) (d : Divisors G) (u : PotentialsInRange (length (G .nodes)) runs) where
   wider-node : (v : ℕ) → v < length (G .nodes) → natAbs (widerMetres runs v) ≤ 10000000
   unfolding widerMetres
   wider-node v h = metres-within (potential (runs .wider) v) (u .wider v h)
@@ -86,7 +86,9 @@ module _ (G : Grid) (runs : Runs) (r : Ranged G) (u : PotentialsInRange (length 
       (overZones-within G r (zonalMetres G runs Generation) 10000000 (zonal Generation) Generation)
 
   below-range : InRange (belowOfC G) 1 100000000000
-  below-range = shared (G .settings .p) (totalPaying G Generation) (totalPaying G Demand) (r .p) (r .payers Generation) (r .payers Demand)
+  below-range = shared (G .settings .p) (totalPaying G Generation) (totalPaying G Demand) (r .p)
+      (record { least = d Generation; most = r .payers Generation })
+      (record { least = d Demand; most = r .payers Demand })
 
   centre : natAbs (C G runs) ≤ 10000000
   unfolding C
@@ -107,8 +109,8 @@ module _ (G : Grid) (runs : Runs) (r : Ranged G) (u : PotentialsInRange (length 
     zonesTo = λ side k h. omega (
       arith,
       zones-within G r (zonalMetres G runs side) 10000000 (zonal side) side k,
-      kilowatts G r .zonesTo side k h,
-      r .payers side .most,
+      zones-to G r side k h,
+      r .payers side,
     );
     above = omega (arith, above-within, below-range .most);
     below = below-range;

@@ -7,19 +7,21 @@ use native.Mathlib.Omega.{arith}
 use lib.Dec.{eqb}
 use lib.ListN.{length}
 use Rattle.integers.specs.Numbers.{sum}
+use Rattle.integers.proofs.Sum.{sum-le}
 use Rattle.meaning.specs.Study.{Study, Settings, Circuit, node, circuit}
-use Rattle.meaning.specs.Grid.{Grid, gridOf, plantOf, scales, pays, tecOf, totalTec, totalDemand}
+use Rattle.meaning.specs.Grid.{Grid, gridOf, totalTec, totalDemand}
 use Rattle.meaning.specs.Direction.{overheadFactor, cableFactor, expandedLength}
 use Rattle.meaning.specs.declared.Side.{Side}
 use Rattle.meaning.specs.declared.Side.the-variants.{Generation, Demand}
 use Rattle.meaning.specs.Figures.{zones, zoneOf, weight, paying, totalPaying}
-use Rattle.meaning.specs.Conditions.{InRange, SoundSettings, SoundTables}
+use Rattle.meaning.specs.Conditions.{InRange, SoundSettings, SoundTables, SoundStudy}
+use Rattle.meaning.proofs.Plants.{node-pays}
 
 pub record Ranged (G : Grid) : Type 0 where
   pub zonesMost : (side : Side) → zones G side ≤ 32
   pub inZone : (side : Side) (v : ℕ) → v < length (G .nodes) → InRange (zoneOf G side v) 1 (zones G side)
   pub weighing : (side : Side) → sum (length (G .nodes)) (weight G side) ≤ 100000000
-  pub payers : (side : Side) → InRange (totalPaying G side) 1 100000000
+  pub payers : (side : Side) → totalPaying G side ≤ 100000000
   pub someTec : 1 ≤ totalTec G
   pub enough : totalDemand G ≤ totalTec G
   pub p : G .settings .p ≤ 1000
@@ -30,14 +32,20 @@ pub record Ranged (G : Grid) : Type 0 where
   pub names : (v : ℕ) → v < length (G .nodes) → length (node (G .nodes) v .name) ≡ 12
   pub expanded : (c : ℕ) → c < length (G .circuits) → expandedLength (G .settings) (circuit (G .circuits) c) ≤ 30000000000
 
--- all TEC pays, and all demand
-tec-pays : (G : Grid) → InRange (totalTec G) 1 100000000 → InRange (totalPaying G Generation) 1 100000000
-unfolding totalPaying paying tecOf sum plantOf scales pays
-tec-pays G h = h
-
-demand-pays : (G : Grid) → InRange (totalDemand G) 1 100000000 → InRange (totalPaying G Demand) 1 100000000
+-- what pays is among what weighs
+pays-most : (G : Grid) → InRange (totalDemand G) 1 100000000 → InRange (totalTec G) 1 100000000 → (side : Side) → totalPaying G side ≤ 100000000
 unfolding totalPaying paying
-demand-pays G h = h
+pays-most G d t Generation = omega (arith, sum-le (length (G .nodes)) _ _ (λ v h. node-pays G v), t .most)
+pays-most G d t Demand = d .most
+
+-- the divisors of C and of the residuals: each side has kilowatts that pay, generation by 13 and demand by 7
+abbrev pub Divisors : Grid → Type 0
+Divisors G = (side : Side) → 1 ≤ totalPaying G side
+
+pub divisors : (S : Study) → SoundStudy S → Divisors (gridOf S)
+unfolding totalPaying paying
+divisors S study Generation = study .chargeable
+divisors S study Demand = study .tables .totals .demandTotal .least
 
 -- 01, step 4: two lengths of up to 500 km, each at a factor of up to 30
 module _ (s : Settings) (nodes : ℕ) (sound : SoundSettings nodes s) where
@@ -69,7 +77,7 @@ ranged S sound = record {
   zonesMost = zonesMost;
   inZone = inZone;
   weighing = weighing;
-  payers = payers;
+  payers = pays-most (gridOf S) (sound .totals .demandTotal) (sound .totals .tecTotal);
   someTec = sound .totals .tecTotal .least;
   enough = sound .totals .enough;
   p = sound .settings .p;
@@ -92,7 +100,3 @@ ranged S sound = record {
     weighing : (side : Side) → sum (length (S .nodes)) (weight (gridOf S) side) ≤ 100000000
     weighing Generation = sound .totals .tecTotal .most
     weighing Demand = sound .totals .demandTotal .most
-
-    payers : (side : Side) → InRange (totalPaying (gridOf S) side) 1 100000000
-    payers Generation = tec-pays (gridOf S) (sound .totals .tecTotal)
-    payers Demand = demand-pays (gridOf S) (sound .totals .demandTotal)

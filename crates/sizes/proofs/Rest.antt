@@ -17,8 +17,8 @@ use Rattle.meaning.specs.Figures.{residualOf, remainderOf, paying, totalPaying,
 use Rattle.sizes.specs.Bounds.{TariffsFit, RestFits}
 use Rattle.integers.proofs.Sum.{sum-part, Σ-weighted}
 use Rattle.integers.proofs.Div.{floor-le, floor-ge}
-use Rattle.sizes.proofs.Ranges.{Ranged}
-use Rattle.sizes.proofs.Kilowatts.{kilowatts}
+use Rattle.sizes.proofs.Ranges.{Ranged, Divisors}
+use Rattle.sizes.proofs.Kilowatts.{zones-to}
 use Rattle.sizes.proofs.Metres.{zones-within, overZones-within}
 
 -- between two whole numbers
@@ -59,7 +59,7 @@ total-between t r h b = (simp Z (omega (arith, simp Z at h, simp Z at (b .0))), 
 target-of : (revenue p : ℕ) → revenue ≤ 10000000000 → p ≤ 1000 → Between (pos 0) (pos (revenue * p * 1000)) (pos 10000000000000000)
 target-of revenue p h j = (simp Z (omega arith), simp Z (omega (arith, mul-le-mul h j)))
 
-module _ (G : Grid) (runs : Runs) (r : Ranged G) (t : TariffsFit G runs) where
+module _ (G : Grid) (runs : Runs) (r : Ranged G) (d : Divisors G) (t : TariffsFit G runs) where
   target-between : (side : Side) → Between (pos 0) (target G side) (pos 10000000000000000)
   unfolding target
   target-between Generation = target-of (G .settings .revenue) (1000 - G .settings .p) (r .revenue) (omega arith)
@@ -70,7 +70,7 @@ module _ (G : Grid) (runs : Runs) (r : Ranged G) (t : TariffsFit G runs) where
 
   pays-to : (k : ℕ) → k ≤ length (G .nodes) → sum k (payingTec G) ≤ 100000000
   unfolding totalPaying paying
-  pays-to k h = le-trans (sum-part k (length (G .nodes)) (payingTec G) h) (r .payers Generation .most)
+  pays-to k h = le-trans (sum-part k (length (G .nodes)) (payingTec G) h) (r .payers Generation)
 
   local-within : (side : Side) → natAbs (localIncome G runs side) ≤ 5000000000 * totalPaying G side
   unfolding localIncome totalPaying paying
@@ -86,11 +86,11 @@ module _ (G : Grid) (runs : Runs) (r : Ranged G) (t : TariffsFit G runs) where
       (local-within side)
 
   rest-most : (side : Side) → natAbs (rest G runs side) ≤ 1510000000000000000
-  rest-most side = rest-size (rest G runs side) (totalPaying G side) (r .payers side .most) (rest-range side)
+  rest-most side = rest-size (rest G runs side) (totalPaying G side) (r .payers side) (rest-range side)
 
   residual-range : (side : Side) → Between (negℤ (pos 15000000000)) (residual G runs side) (pos 10000015000000000)
   unfolding residual
-  residual-range side = residual-between (rest G runs side) (totalPaying G side) (r .payers side .least) (rest-range side)
+  residual-range side = residual-between (rest G runs side) (totalPaying G side) (d side) (rest-range side)
 
   total-range : (side : Side) (zone : ℕ) → Between (negℤ (pos 25000000000)) (zoneTotal G runs side zone) (pos 10000025000000000)
   unfolding zoneTotal
@@ -98,7 +98,7 @@ module _ (G : Grid) (runs : Runs) (r : Ranged G) (t : TariffsFit G runs) where
 
   remainder-range : (side : Side) → (pos 0 ≤ℤ remainder G runs side) × (remainder G runs side <ℤ pos (totalPaying G side))
   unfolding remainder
-  remainder-range side = remainder-between (rest G runs side) (totalPaying G side) (r .payers side .least)
+  remainder-range side = remainder-between (rest G runs side) (totalPaying G side) (d side)
 
   pub rest-fits : RestFits G runs
   rest-fits = record {
@@ -107,8 +107,8 @@ module _ (G : Grid) (runs : Runs) (r : Ranged G) (t : TariffsFit G runs) where
     incomeMost = λ side k h. omega (
       arith,
       zones-within G r (zoneTariff G runs side) 10000000000 (t .ofZone side) side k,
-      kilowatts G r .zonesTo side k h,
-      r .payers side .most,
+      zones-to G r side k h,
+      r .payers side,
     );
     localTo = local-to;
     localMost = λ k h. omega (arith, local-to k h, pays-to k h);

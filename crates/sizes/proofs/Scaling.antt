@@ -19,7 +19,7 @@ use Rattle.meaning.specs.Figures.{weight}
 use Rattle.meaning.proofs.Shares.{scaled-most}
 use Rattle.sizes.specs.Bounds.{SystemsFit, SystemsAlwaysFit}
 use Rattle.sizes.proofs.Ranges.{Ranged, ranged}
-use Rattle.sizes.proofs.Kilowatts.{kilowatts}
+use Rattle.sizes.proofs.Kilowatts.{node-weighs}
 
 -- the difference of two numbers that are within b is within b
 difference : (a c b : ℕ) → a ≤ b → c ≤ b → natAbs (pos a -ℤ pos c) ≤ b
@@ -38,11 +38,11 @@ module _ (G : Grid) (r : Ranged G) where
 
   tec-most : (v : ℕ) → v < length (G .nodes) → nodeTec G v ≤ 100000000
   unfolding weight
-  tec-most v h = kilowatts G r .nodeWeighs Generation v h
+  tec-most v h = node-weighs G r Generation v h
 
   demand-most : (v : ℕ) → v < length (G .nodes) → nodeDemand G v ≤ 100000000
   unfolding weight
-  demand-most v h = kilowatts G r .nodeWeighs Demand v h
+  demand-most v h = node-weighs G r Demand v h
 
   net-within : (v : ℕ) → v < length (G .nodes) → natAbs (net G v) ≤ 100000000
   unfolding net

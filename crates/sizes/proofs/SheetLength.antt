@@ -90,8 +90,8 @@ module _ (G : Grid) (runs : Runs) (r : Ranged G) (f : FiguresFit G runs) where
   unfolding taken
   R-line = rw (line-length (text "R") (decimal (remainder G runs Generation) ∷ decimal (remainder G runs Demand) ∷ [])) (omega (
     arith,
-    remainder-length (remainder G runs Generation) (totalPaying G Generation) (r .payers Generation .most) (f .rests .remainderRange Generation),
-    remainder-length (remainder G runs Demand) (totalPaying G Demand) (r .payers Demand .most) (f .rests .remainderRange Demand),
+    remainder-length (remainder G runs Generation) (totalPaying G Generation) (r .payers Generation) (f .rests .remainderRange Generation),
+    remainder-length (remainder G runs Demand) (totalPaying G Demand) (r .payers Demand) (f .rests .remainderRange Demand),
   ))
 
   pub sheet-length : length (G .nodes) ≤ 256 → length (sheet G runs) ≤ 14240
@@ -108,4 +108,4 @@ module _ (G : Grid) (runs : Runs) (r : Ranged G) (f : FiguresFit G runs) where
 -- "so it never prints 12"
 pub sheet-fits : SheetAlwaysFits
 unfolding gridOf
-sheet-fits S sound few runs u = sheet-length (gridOf S) runs (ranged S sound) (figures-fit S sound runs u) few
+sheet-fits S study few runs u = sheet-length (gridOf S) runs (ranged S (study .tables)) (figures-fit S study runs u) few

@@ -21,14 +21,14 @@ use Rattle.meaning.specs.declared.Side.{Side}
 use Rattle.meaning.specs.declared.Side.the-variants.{Generation, Demand}
 use Rattle.meaning.specs.Figures.{widerMetres, localMetres, distance, zones, zoneOf, weight, paying, zoneWeight, zonePaying, totalPaying, overZones, target, zonalMetres, C, afterC, zoneTariff, localTariff, rest, residual, remainder, zoneTotal}
 use Rattle.meaning.specs.Sheet.{sheet}
-use Rattle.meaning.specs.Conditions.{InRange, SoundTables}
+use Rattle.meaning.specs.Conditions.{InRange, SoundTables, SoundStudy}
 
 -- what 8 has passed of the systems 2 and 3: potentials within 10^16 nm
 pub record PotentialsInRange (nodes : ℕ) (runs : Runs) : Type 0 where
   pub wider : (v : ℕ) → v < nodes → natAbs (potential (runs .wider) v) ≤ 10000000000000000
   pub local : (v : ℕ) → v < nodes → natAbs (potential (runs .local) v) ≤ 10000000000000000
 
--- after 7: no part of the kilowatts is above their total, and the zones have all of them
+-- after 7 and 13: a side's kilowatts that pay are not none, no part of them is above their total, and the zones have all of them
 pub record KilowattsFit (G : Grid) : Type 0 where
   pub all : (side : Side) → InRange (totalPaying G side) 1 100000000
   pub nodeWeighs : (side : Side) (v : ℕ) → v < length (G .nodes) → weight G side v ≤ 100000000
@@ -102,7 +102,7 @@ pub record RestFits (G : Grid) (runs : Runs) : Type 0 where
 
 -- ---- the claims
 abbrev pub KilowattsAlwaysFit : Type 0
-KilowattsAlwaysFit = (S : Study) → SoundTables S → KilowattsFit (gridOf S)
+KilowattsAlwaysFit = (S : Study) → SoundStudy S → KilowattsFit (gridOf S)
 
 abbrev pub SystemsAlwaysFit : Type 0
 SystemsAlwaysFit = (S : Study) → SoundTables S → (runs : Runs) → SystemsFit (gridOf S) runs
@@ -113,11 +113,11 @@ pub record FiguresFit (G : Grid) (runs : Runs) : Type 0 where
   pub rests : RestFits G runs
 
 abbrev pub FiguresAlwaysFit : Type 0
-FiguresAlwaysFit = (S : Study) → SoundTables S → (runs : Runs) → PotentialsInRange (length (S .nodes)) runs → FiguresFit (gridOf S) runs
+FiguresAlwaysFit = (S : Study) → SoundStudy S → (runs : Runs) → PotentialsInRange (length (S .nodes)) runs → FiguresFit (gridOf S) runs
 
 -- 01, The sheet: "Its own buffer holds any sheet these ranges allow, so it never prints 12." C line 12, 64 zone lines of 74,
 -- 256 node lines of 37, R line 20. That the nodes are at most 256 is judged with 1. The claim about files is `SheetsFit` of Demands
 abbrev pub SheetAlwaysFits : Type 0
 SheetAlwaysFits =
-    (S : Study) → SoundTables S → length (S .nodes) ≤ 256 → (runs : Runs) → PotentialsInRange (length (S .nodes)) runs
+    (S : Study) → SoundStudy S → length (S .nodes) ≤ 256 → (runs : Runs) → PotentialsInRange (length (S .nodes)) runs
     → length (sheet (gridOf S) runs) ≤ 14240

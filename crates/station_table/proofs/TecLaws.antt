@@ -18,6 +18,7 @@ use Rattle.meaning.specs.Grid.{Grid, plantOf, scales, pays, place, tecAt, capac
 use Rattle.meaning.specs.declared.Kw.{Kw}
 use Rattle.meaning.specs.declared.Plant.{Plant}
 use Rattle.meaning.proofs.Rows.{rows-at, rows-past, rows-same, rows-set, rows-none}
+use Rattle.meaning.proofs.Plants.{capacityAt, capacity-at}
 use Rattle.meaning.proofs.Says.{Says, says-as, _also_, says-eq, says-lt, says-between, agree}
 use Rattle.layout.specs.Readable.{readable}
 use Rattle.meaning.specs.Columns.{kilowatts, numberAt, kwAt}
@@ -175,11 +176,7 @@ types-are by s p e f = rw (e, f) refl
 -- ---- of a study
 module _ (S : Study) where
   abbrev capacity : ℕ → ℕ → ℕ
-  capacity v t = getD (getD (gridOf S .capacity) v []) t 0
-
-  capacity-at : (v t : ℕ) → v < length (S .nodes) → t < 7 → capacity v t ≡ capacityOf S v (suc t)
-  unfolding gridOf
-  capacity-at v t h l = rw (rows-at [] (length (S .nodes)) (λ v. rows 7 (λ t. capacityOf S v (suc t))) v h) (rows-at 0 7 _ t l)
+  capacity v t = capacityAt (gridOf S) v t
 
   capacity-past : (v t : ℕ) → length (S .nodes) ≤ v → capacity v t ≡ 0
   unfolding gridOf
@@ -206,7 +203,7 @@ module _ (S : Study) where
       go : Dec (c / 7 < length (S .nodes))
           → sum (length (S .stations)) (λ k. cond (eqb (cellOf (length (S .nodes)) (numberAt (C .node) k) (numberAt (C .plant) k)) c) (kwAt (C .tec) k) 0)
           ≡ capacity (c / 7) (c % 7)
-      go (yes m) = sum-same _ _ _ (λ k h. part k (omega arith) c l m) ∙ sym (capacity-at (c / 7) (c % 7) m (omega arith))
+      go (yes m) = sum-same _ _ _ (λ k h. part k (omega arith) c l m) ∙ sym (capacity-at S (c / 7) (c % 7) m (omega arith))
       go (no m) =
           sum-none _ _ (λ k h. simp (cell-out (length (S .nodes)) (numberAt (C .node) k) (numberAt (C .plant) k) c l (omega arith)))
           ∙ sym (capacity-past (c / 7) (c % 7) (omega arith))

@@ -52,7 +52,7 @@ module _ (file : List ℕ) (base wider local : ℕ) where
       let s = passes-orElse _ _ .0 (passes-orElse _ _ .0 (r .before) .1) .1 in
       passes-orElse _ _ .1 (s, passes-orElse _ _ .1 (r .nodes, passes-orElse _ _ .1 (r .circuits, r .stations)))
 
-  -- 1 to 7 in 01's order: a file that is not whole is stopped before its study matters
+  -- 1 to 7 and 13 in their order: a file that is not whole is stopped before its study matters
   later : Study → Judgement
   later S = rowsStage S orElse gridStage (gridOf S)
 

@@ -1,4 +1,4 @@
--- What later steps know once nothing among 1 to 7 stops a file.
+-- What later steps know once nothing among 1 to 7 and 13 stops a file.
 use mathlib.Core.Path.{_≡_, refl, sym, _∙_, subst}
 use mathlib.Core.Bool.{true}
 use mathlib.Core.List.{List}
@@ -8,7 +8,7 @@ use lib.ListN.{length}
 use Rattle.meaning.specs.declared.Judgement.the-variants.{Passes}
 use Rattle.meaning.specs.Study.{Study}
 use Rattle.meaning.specs.File.{sectionCount, fileWhole, runsWhole, studyOf, runsIn}
-use Rattle.meaning.specs.Conditions.{InRange, SoundTables}
+use Rattle.meaning.specs.Conditions.{InRange, SoundTables, SoundStudy}
 use Rattle.meaning.specs.Grid.{gridOf}
 use Rattle.meaning.specs.Outcome.{fileStage, runsStage, rowsStage, gridStage, tablesStage}
 use Rattle.meaning.proofs.Answers.{passes-orElse, passes-unless}
@@ -37,7 +37,7 @@ module _ (file : List ℕ) (base wider local : ℕ) (p : tablesStage file base w
   unfolding fileStage
   passes-whole = passes-unless _ _ .0 (parts .0)
 
-  pub passes-sound : SoundTables (studyOf file)
+  pub passes-sound : SoundStudy (studyOf file)
   passes-sound = sound-pass (studyOf file) .0 (parts .2)
 
   pub passes-runs : ((base ≡ sectionCount file 4) × (wider ≡ sectionCount file 5)) × (local ≡ sectionCount file 6)
@@ -81,7 +81,7 @@ opened-sound {file} {base} {wider} {local} {o} t q =
     let k : o .counts .stations ≡ length (studyOf file .stations) = rw c refl in
     record {
       whole = h;
-      tables = passes-sound file base wider local p;
+      tables = passes-sound file base wider local p .tables;
       columns = s;
       nodeCount = n;
       circuitCount = m;

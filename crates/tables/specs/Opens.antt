@@ -20,7 +20,7 @@ pub record Columns (frame : Judgement) (file : List ℕ) (o : Opened) : Type 0 w
   pub circuits : o .circuits ≡ circuitsOf (readAfter (thenNodes frame file) file)
   pub tec : o .tec ≡ tecOf (readAfter (thenCircuits frame file) file)
 
--- of a file, and the lengths of the three runs: 1 to 7
+-- of a file, and the lengths of the three runs: 1 to 7 and 13
 pub record Opens (file : List ℕ) (base wider local : ℕ) (o : Opened) : Type 0 where
   pub judgement : o .judgement ≡ tablesStage file base wider local
   pub columns : Columns (frameStage file base wider local) file o

@@ -1,16 +1,18 @@
--- What 6 and 7 are told: a file whose rows were read and judged.
+-- What 6, 7 and 13 are told: a file whose rows were read and judged.
 use mathlib.Core.Path.{_≡_}
 use mathlib.Core.List.{List}
 use Prim.Native.Nat.{ℕ, _-_, _≤_}
+use lib.Dec.{leb}
 use Rattle.meaning.specs.declared.Judgement.{Judgement}
-use Rattle.meaning.specs.declared.Refusal.the-variants.{BadTotal}
+use Rattle.meaning.specs.declared.Refusal.the-variants.{BadTotal, NoChargeableTec}
 use Rattle.meaning.specs.declared.Kw.{Kw}
-use Rattle.meaning.specs.Answers.{unless}
+use Rattle.meaning.specs.Answers.{_orElse_, unless}
 use Rattle.meaning.specs.Grid.{soundTotals}
+use Rattle.meaning.specs.Network.{reachStage}
 use Rattle.totals.specs.Totals.{totalOf}
 use Rattle.tables.specs.declared.Opened.{Opened}
 use Rattle.tables.specs.declared.reach.Ends.{Ends}
-use Rattle.tables.specs.Walk.{Walks}
+use Rattle.tables.specs.Walk.{Walks, endsNetwork}
 use Rattle.tables.specs.Order.{thenStations}
 use Rattle.tables.specs.Opens.{Columns}
 
@@ -34,8 +36,15 @@ endsOf a =
 abbrev pub totalsOf : (n : ℕ) (demand tec : List Kw) → Judgement
 totalsOf n demand tec = unless (soundTotals (totalOf n demand .0) (totalOf n tec .0)) BadTotal
 
-abbrev pub totalsIn : Opened → Judgement
-totalsIn a = totalsOf (a .counts .nodes) (a .nodes .demand) (a .tec .scaling)
+-- 13, of the column of n nodes' TEC that pays
+abbrev pub chargeableOf : (n : ℕ) (paying : List Kw) → Judgement
+chargeableOf n paying = unless (leb 1 (totalOf n paying .0)) NoChargeableTec
+
+-- 6, 7 and 13 of what was read
+abbrev pub gridIn : Opened → Judgement
+gridIn a =
+    reachStage (endsNetwork (endsOf a)) orElse totalsOf (a .counts .nodes) (a .nodes .demand) (a .tec .scaling)
+    orElse chargeableOf (a .counts .nodes) (a .tec .paying)
 
 -- what 6 is told: rows that are sound
 pub record SoundRows (a : Opened) : Type 0 where

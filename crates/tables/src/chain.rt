@@ -11,9 +11,7 @@ ghost use mathlib.Core.Bool.{_&&_};
 ghost use lib.Dec.{eqb};
 ghost use Rattle.meaning.specs.declared.Judgement.the-variants.{Passes};
 ghost use Rattle.meaning.specs.Answers.{_orElse_};
-ghost use Rattle.meaning.specs.Network.{reachStage};
-ghost use Rattle.tables.specs.Reads.{SoundRows, endsOf, totalsOf, totalsIn};
-ghost use Rattle.tables.specs.Walk.{endsNetwork};
+ghost use Rattle.tables.specs.Reads.{SoundRows, endsOf, totalsOf, chargeableOf, gridIn};
 
 // Whether the three runs have this length.
 pub fn same_lengths(base: usize, wider: usize, local: usize, count: usize) -> bool
@@ -51,25 +49,37 @@ pub fn totals_stage(n: usize, demand: [Kw; 256], tec: [Kw; 256]) -> Judgement
     Judgement::Stops(Refusal::BadTotal)
 }
 
-// 6 and 7.
+// 13: no TEC that pays.
+pub fn chargeable_stage(n: usize, paying: [Kw; 256]) -> Judgement
+    ensures { λ r. ⌜ r ≡ chargeableOf n paying ⌝ }
+{
+    if totals::chargeable(totals::total(n, paying)) {
+        return Judgement::Passes;
+    }
+    Judgement::Stops(Refusal::NoChargeableTec)
+}
+
+// 6, 7 and 13.
 pub fn grid_stage(all: Opened) -> Judgement
     requires { ⌜ SoundRows all ⌝ }
-    ensures { λ r. ⌜ r ≡ (reachStage (endsNetwork (endsOf all)) orElse totalsIn all) ⌝ }
+    ensures { λ r. ⌜ r ≡ gridIn all ⌝ }
 {
     let counts = all.counts;
     let nodes = all.nodes;
     let tec = all.tec;
     let demand = nodes.demand;
     let scaling = tec.scaling;
+    let paying = tec.paying;
     let reached = reach::stage(ends(all));
     let totalled = totals_stage(counts.nodes, demand, scaling);
-    or_else(reached, totalled)
+    let charged = chargeable_stage(counts.nodes, paying);
+    or_else(reached, or_else(totalled, charged))
 }
 
-// 1 to 7: what stops the rows that were read, else 6 and 7.
+// 1 to 7 and 13: what stops the rows that were read, else 6, 7 and 13.
 pub fn judgement(all: Opened) -> Judgement
     requires { ⌜ (all .judgement ≡ Passes → SoundRows all) ⌝ }
-    ensures { λ r. ⌜ r ≡ (all .judgement orElse reachStage (endsNetwork (endsOf all)) orElse totalsIn all) ⌝ }
+    ensures { λ r. ⌜ r ≡ (all .judgement orElse gridIn all) ⌝ }
 {
     let rows = all.judgement;
     match rows {

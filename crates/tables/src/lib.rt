@@ -1,4 +1,4 @@
-// The case file judged: refusals 1 to 7 of document 01, and the columns of a file.
+// The case file judged: refusals 1 to 7 of document 01, then 13 of document 02, and the columns of a file.
 mod chain;
 mod reach;
 mod read;
@@ -15,7 +15,7 @@ use meaning::Refusal;
 use node_table::NodeColumns;
 use station_table::TecColumns;
 
-// A case file opened: what stops it first among 1 to 7, and its columns.
+// A case file opened: what stops it first among 1 to 7 and 13, and its columns.
 pub struct Opened {
     pub judgement: Judgement,
     pub counts: RowCounts,

@@ -1,4 +1,4 @@
--- 7: what a total says, and what passes.
+-- 7 and 13: what a total says, and what passes.
 use mathlib.Core.Path.{_≡_, refl, sym, _∙_, ap}
 use mathlib.Core.Bool.{true}
 use mathlib.Core.List.{List}
@@ -6,6 +6,7 @@ use Prim.Native.Nat.{ℕ, _≤_, _<_}
 use native.Mathlib.Decide.{decLe}
 use native.Mathlib.Omega.{arith}
 use borrow.Author.Tests.{le-leb, lt-leb}
+use lib.Dec.{leb}
 use Rattle.integers.specs.Numbers.{sum}
 use Rattle.meaning.specs.declared.Kw.{Kw}
 use Rattle.meaning.specs.Grid.{soundTotals}
@@ -36,6 +37,14 @@ module _ (n : ℕ) (column : List Kw) where
       go (yes few) (yes small) = (few, ap (λ (k : Kw). k .0) (sym (added-up few small)))
       go (yes few) (no large) = absurd (omega (arith, h, ap (λ (k : Kw). k .0) (much few (omega arith))))
       go (no many) s = absurd (omega (arith, h, ap (λ (k : Kw). k .0) (many-rows (omega arith))))
+
+  -- what 13 tests: a total of few rows is above 0 where their sum is
+  pub some-total : n ≤ 256 → leb 1 (totalOf n column .0) ≡ leb 1 (sum n (kwAt column))
+  some-total few = go (decLe (sum n (kwAt column)) 100000000)
+    where
+      go : Dec (sum n (kwAt column) ≤ 100000000) → leb 1 (totalOf n column .0) ≡ leb 1 (sum n (kwAt column))
+      go (yes small) = rw (← added-up few small) refl
+      go (no large) = rw (← much few (omega arith)) (sym (le-leb 1 (sum n (kwAt column)) (omega arith)))
 
 -- ---- what 7 tests, of totals and of the sums
 module _ (n : ℕ) (demand tec : List Kw) where

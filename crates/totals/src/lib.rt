@@ -1,5 +1,6 @@
-// 01, 7: total demand and total TEC, added up as far as their range and judged.
+// 01, 7, and 02, 13: total demand, total TEC and the TEC that pays, added up as far as their range and judged.
 ghost use mathlib.Core.Path.{_≡_};
+ghost use lib.Dec.{leb};
 ghost use Rattle.meaning.specs.Grid.{soundTotals};
 ghost use Rattle.totals.specs.Totals.{totalOf};
 use meaning::Kw;
@@ -32,4 +33,11 @@ pub fn sound(demand: Kw, tec: Kw) -> bool
         & (demand.0 <= 100000000)
         & ((1 <= tec.0) & (tec.0 <= 100000000))
         & (demand.0 <= tec.0)
+}
+
+// Whether 13 passes the TEC that pays: some is chargeable.
+pub fn chargeable(paying: Kw) -> bool
+    ensures { λ r. ⌜ r ≡ leb 1 (paying .0) ⌝ }
+{
+    1 <= paying.0
 }

@@ -11,7 +11,7 @@ macro_rules! text_named {
     };
 }
 
-/// The folder of texts.
+/// The folder of texts, without those of `LINK_TEXTS`.
 pub const TEXTS: [(&str, &str); 10] = [
     text_named!("KILN"),
     text_named!("CUSC1421"),
@@ -25,9 +25,13 @@ pub const TEXTS: [(&str, &str); 10] = [
     text_named!("ALONE"),
 ];
 
+/// The texts of the folder with interconnectors (02, CR 1).
+pub const LINK_TEXTS: [(&str, &str); 2] = [text_named!("TUT1_IC"), text_named!("LINKS")];
+
 /// The case of a text of the folder.
 pub fn named_case(name: &str) -> Case {
-    let (_, text) = TEXTS.into_iter().find(|(known, _)| *known == name).expect("a text of the folder");
+    let (_, text) =
+        TEXTS.into_iter().chain(LINK_TEXTS).find(|(known, _)| *known == name).expect("a text of the folder");
     text::parse(text.as_bytes()).expect("a text without faults").case
 }
 

@@ -1,8 +1,8 @@
 //! A fixed list of labelled cases, the archive that holds their files, and the text the program prints for them.
 //!
 //! An archive is one entry a case: a u32 length, little-endian, and that many bytes, a case file, whole or damaged.
-//! The text is what the program prints for each entry, one after the other. Where 01 decides the answer of a case,
-//! it stands beside the case, written from 01's words and not from the judgement; a test compares the two.
+//! The text is what the program prints for each entry, one after the other. Where 01 or 02 decides the answer of a case,
+//! it stands beside the case, written from their words and not from the judgement; a test compares the two.
 
 pub mod bases;
 
@@ -11,6 +11,7 @@ mod chance;
 mod circuits;
 mod figures;
 mod files;
+mod interconnectors;
 mod names;
 mod network;
 mod nodes;
@@ -26,7 +27,7 @@ use std::fmt;
 /// The greatest length of an entry.
 pub const LONGEST: usize = 65_536;
 
-/// What 01 says of a case.
+/// What 01 and 02 say of a case.
 #[derive(Clone, Copy, Debug, PartialEq, Eq)]
 pub enum Told {
     Sheet,
@@ -69,6 +70,7 @@ pub fn cases() -> Vec<Labelled> {
         orders::add,
         figures::add,
         chance::add,
+        interconnectors::add,
     ];
     let mut list = List::default();
     groups.iter().for_each(|add| add(&mut list));

@@ -132,7 +132,7 @@ fn add_totals(list: &mut List) {
 }
 
 /// A hub with five stations and demand at five nodes around it, 20,000,000 kW each: both totals 100,000,000.
-fn greatest_totals() -> Case {
+pub(super) fn greatest_totals() -> Case {
     let texts = ["L1", "L2", "L3", "L4", "L5"];
     let mut case = pair(20_000_000, Vec::new());
     case.nodes = texts.map(|text| node(text, 20_000_000)).into();

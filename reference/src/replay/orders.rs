@@ -9,7 +9,7 @@ type Fault = ((u32, u32, u32), fn(&mut Case));
 
 /// One fault a number and system, in 01's order. An earlier one stands in a late row where it can, a later one in an
 /// early row.
-const FAULTS: [Fault; 16] = [
+pub(super) const FAULTS: [Fault; 16] = [
     ((2, 0, 0), |case| case.settings.p = 1_001),
     ((3, 0, 4), |case| case.nodes[3].demand_zone = 2),
     ((4, 0, 2), |case| case.circuits[1].x = 0),
@@ -45,7 +45,7 @@ pub fn add(list: &mut List) {
 }
 
 /// A fault's number, and its system where it has one.
-fn said((number, system, _): (u32, u32, u32)) -> String {
+pub(super) fn said((number, system, _): (u32, u32, u32)) -> String {
     match system {
         0 => number.to_string(),
         _ => format!("{number} of system {system}"),

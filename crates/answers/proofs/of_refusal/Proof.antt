@@ -87,6 +87,12 @@ enum-told-4 c = search needs
 refusal-requires-12 : tie.Need-refusal-requires-12
 refusal-requires-12 c κs = search needs
 
+enum-told-5 : tie.Need-enum-told-5
+enum-told-5 c = search needs
+
+refusal-requires-13 : tie.Need-refusal-requires-13
+refusal-requires-13 c κs = search needs
+
 returns : tie.Need-returns
 unfolding values
 returns c = c .refusal .ensures ∙ sym (ap (λ (r : Refusal). values (Refused r)) (c .before .enum-told .given .1))
@@ -135,6 +141,10 @@ returns-12 : tie.Need-returns-12
 unfolding values
 returns-12 c = c .refusal12 .ensures ∙ sym (ap (λ (r : Refusal). values (Refused r)) (c .before .enum-told4 .given .1))
 
+returns-13 : tie.Need-returns-13
+unfolding values
+returns-13 c = c .refusal13 .ensures ∙ sym (ap (λ (r : Refusal). values (Refused r)) (c .before .enum-told5 .given .1))
+
 pub of-refusal-spec : {M : Type 1} → statement M
 of-refusal-spec =
     tie.close
@@ -166,6 +176,8 @@ of-refusal-spec =
     refusal-requires-11
     enum-told-4
     refusal-requires-12
+    enum-told-5
+    refusal-requires-13
     returns
     returns-2
     returns-3
@@ -177,4 +189,5 @@ of-refusal-spec =
     returns-9
     returns-10
     returns-11
-    returns-12)
+    returns-12
+    returns-13)

@@ -1,0 +1,65 @@
+-- 02, request 1: who pays, and that 01's own figures stand where no interconnector is.
+use mathlib.Core.Path.{_≡_, refl, sym, _∙_, ap, ap₂}
+use mathlib.Core.Bool.{cond}
+use Prim.Native.Nat.{ℕ, suc, _+_, _≤_, _<_}
+use native.Mathlib.Omega.{arith}
+use lib.Dec.{eqb}
+use lib.IntN.{ℤ, pos, _*ℤ_}
+use lib.ListN.{length}
+use Rattle.integers.specs.Numbers.{sum, Σ}
+use Rattle.integers.proofs.Sum.{sum-same, Σ-same}
+use Rattle.meaning.specs.Study.{Study, Runs}
+use Rattle.meaning.specs.Grid.{Grid, gridOf, capacityOf, nodeTec, payingTec, totalTec, totalDemand}
+use Rattle.meaning.specs.declared.Side.the-variants.{Generation, Demand}
+use Rattle.meaning.specs.Figures.{zones, zoneOf, weight, paying, zoneWeight, zonePaying, totalPaying, overZones, C, localTariff, localIncome, rest, residual, remainder}
+use Rattle.meaning.specs.Conditions.{SoundTables, SoundStudy}
+use Rattle.meaning.specs.Demands.{Payers, AllButInterconnectorsPay, AllTecPays, AsIn01, NoInterconnectorNoChange}
+use Rattle.meaning.proofs.Plants.{capacityAt, capacity-at, all-weigh, all-but-three-pay}
+
+pub all-but-interconnectors-pay : AllButInterconnectorsPay
+unfolding gridOf
+all-but-interconnectors-pay S v h = record {
+  weigh = all-weigh (gridOf S) v ∙ sum-same 7 _ _ (λ t l. capacity-at S v t h l);
+  pay = rw (capacity-at S v 2 h (omega arith)) at (all-but-three-pay (gridOf S) v);
+}
+
+-- ---- a grid where all TEC pays
+module _ (G : Grid) (all : (v : ℕ) → v < length (G .nodes) → payingTec G v ≡ nodeTec G v) where
+  zone-same : (zone : ℕ) → zonePaying G Generation zone ≡ zoneWeight G Generation zone
+  unfolding zonePaying zoneWeight paying weight
+  zone-same zone = sum-same (length (G .nodes)) _ _ (λ v h. ap (λ (kw : ℕ). cond (eqb (zoneOf G Generation v) zone) kw 0) (all v h))
+
+  total-same : totalPaying G Generation ≡ totalTec G
+  unfolding totalPaying paying
+  total-same = sum-same (length (G .nodes)) _ _ all
+
+  total-demand : totalPaying G Demand ≡ totalDemand G
+  unfolding totalPaying paying
+  total-demand = refl
+
+  over-same : (f : ℕ → ℤ) → overZones G Generation f ≡ Σ (zones G Generation) (λ k. f (suc k) *ℤ pos (zoneWeight G Generation (suc k)))
+  unfolding overZones
+  over-same f = Σ-same (zones G Generation) _ _ (λ k h. ap (λ (kw : ℕ). f (suc k) *ℤ pos kw) (zone-same (suc k)))
+
+  local-same : (runs : Runs) → localIncome G runs Generation ≡ Σ (length (G .nodes)) (λ v. localTariff G runs v *ℤ pos (nodeTec G v))
+  unfolding localIncome
+  local-same runs = Σ-same (length (G .nodes)) _ _ (λ v h. ap (λ (kw : ℕ). localTariff G runs v *ℤ pos kw) (all v h))
+
+  all-tec-pays : (runs : Runs) → AllTecPays G runs
+  unfolding C rest residual remainder
+  all-tec-pays runs = record {
+    centre = rw (over-same, total-same, total-demand) refl;
+    generationRest = rw (over-same, local-same runs) refl;
+    generationResidual = rw total-same refl;
+    generationRemainder = rw total-same refl;
+  }
+
+pub no-interconnector-no-change : NoInterconnectorNoChange
+unfolding gridOf
+no-interconnector-no-change S runs none = record {
+  figures = all-tec-pays (gridOf S) all runs;
+  chargeable = λ s. record { tables = s; chargeable = omega (arith, sum-same (length (S .nodes)) (payingTec (gridOf S)) (nodeTec (gridOf S)) all, s .totals .tecTotal .least) };
+}
+  where
+    all : (v : ℕ) → v < length (S .nodes) → payingTec (gridOf S) v ≡ nodeTec (gridOf S) v
+    all v h = omega (arith, all-but-interconnectors-pay S v h .pay, none v h)
