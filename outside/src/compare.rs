@@ -49,9 +49,21 @@ impl Plan {
     };
 }
 
-/// Pairs whose order 01 is asked about most: number and system of each.
-const ORDERS: [((u64, u64), (u64, u64)); 6] =
-    [((3, 0), (4, 0)), ((6, 0), (7, 0)), ((3, 0), (3, 0)), ((10, 1), (11, 1)), ((11, 1), (8, 2)), ((9, 3), (12, 0))];
+/// Pairs whose order 01 and 02 are asked about most: number and system of each.
+const ORDERS: [((u64, u64), (u64, u64)); 8] = [
+    ((3, 0), (4, 0)),
+    ((6, 0), (7, 0)),
+    ((3, 0), (3, 0)),
+    ((7, 0), (13, 0)),
+    ((13, 0), (8, 1)),
+    ((10, 1), (11, 1)),
+    ((11, 1), (8, 2)),
+    ((9, 3), (12, 0)),
+];
+
+/// Of two faulty node rows, one that repeats a name.
+const REPEATED_FIRST: &str = "a name seen earlier before another faulty node row";
+const REPEATED_SECOND: &str = "a faulty node row before a name seen earlier";
 
 pub struct Compare {
     plan: Plan,
@@ -74,6 +86,7 @@ impl Compare {
         let faults = faults::all();
         faults.iter().for_each(|fault| tally.expect(&name(fault)));
         tally.expect_accepted();
+        asked_orders().iter().for_each(|order| tally.expect(order));
         Ok(Compare {
             plan,
             seed,
@@ -205,7 +218,7 @@ impl Compare {
         Ok(())
     }
 
-    /// Two faults at a time: the one that 01 puts first is answered.
+    /// Two faults at a time: the one that comes first in the order is answered.
     fn pairs(&mut self, draft: &Draft, each: usize) -> Result<()> {
         for turn in 0..each {
             let mut places = if turn % 2 == 0 { self.asked_pair() } else { [0, 1].map(|_| self.any_fault(|_| true)) };
@@ -219,7 +232,7 @@ impl Compare {
                 self.check(input, None, "two faults that may undo each other")?;
                 continue;
             }
-            let order = keys.map(|(number, system)| said(number, system)).join(" before ");
+            let order = order_said(keys);
             if turn % 2 == 0 {
                 self.tally
                     .met(&format!("two faults, {}", if keys[0] == keys[1] { which_row(&input, told) } else { &order }));
@@ -314,7 +327,7 @@ impl Compare {
             }
         }
         if told.is_some_and(|(number, system, row)| [number, system, row] != answer[..3]) {
-            self.differs(cause, &input.text(), &format!("01 tells {told:?} of this cause"), &outcome_said(&expected));
+            self.differs(cause, &input.text(), &format!("{told:?} is told of this cause"), &outcome_said(&expected));
         }
         self.tally.inputs += 1;
         if self.tally.inputs % 20_000 == 0 {
@@ -364,6 +377,18 @@ fn name(fault: &Fault) -> String {
     format!("{:>2}: {}", fault.number, fault.cause)
 }
 
+/// Two faults in their order.
+fn order_said(keys: [(u64, u64); 2]) -> String {
+    keys.map(|(number, system)| said(number, system)).join(" before ")
+}
+
+/// The causes that each pair asked about has to be met as; two faults of one number are told by their rows.
+fn asked_orders() -> Vec<String> {
+    let pairs = ORDERS.iter().filter(|(a, b)| a != b).map(|(a, b)| order_said([*a, *b]));
+    let rows = [REPEATED_FIRST, REPEATED_SECOND].map(String::from);
+    pairs.chain(rows).map(|order| format!("two faults, {order}")).collect()
+}
+
 /// A number, and its system where it has one.
 fn said(number: u64, system: u64) -> String {
     if system == 0 || number == 11 {
@@ -379,9 +404,9 @@ fn which_row(input: &Input, (_, _, row): Told) -> &'static str {
     let place = row as usize - 1;
     let repeated = case.nodes[..place].iter().any(|node| node.name == case.nodes[place].name);
     if repeated {
-        "a name seen earlier before another faulty node row"
+        REPEATED_FIRST
     } else {
-        "a faulty node row before a name seen earlier"
+        REPEATED_SECOND
     }
 }
 

@@ -1,4 +1,4 @@
-//! Every cause of every number of 01, "What stops a case", as a change of a case that is accepted.
+//! Every cause of every number of 01, "What stops a case", and of 02 as a change of a case that is accepted.
 
 mod files;
 mod proposals;
@@ -38,12 +38,13 @@ pub struct Fault {
 }
 
 impl Fault {
-    /// The place in 01's order: "1 to 7; 8, 9, 10 for system 1; 11; 8, 9, 10 for system 2, then 3; 12".
+    /// The place in the order: "1 to 7", 13 "after 7" (02, CR 1); "8, 9, 10 for system 1; 11; 8, 9, 10 for system 2, then 3; 12".
     pub fn order(&self) -> u64 {
         match (self.number, self.system) {
-            (8..=10, system) => self.number + 4 * (system - 1),
-            (11, _) => 11,
-            (12, _) => 20,
+            (13, _) => 8,
+            (8..=10, system) => self.number + 1 + 4 * (system - 1),
+            (11, _) => 12,
+            (12, _) => 21,
             (number, _) => number,
         }
     }

@@ -4,6 +4,7 @@ use reference::file::{padded, Case, CircuitRow, Name, NodeRow, Settings, Station
 use reference::judge_case;
 use reference::random::Chance;
 use reference::solver::solved;
+use reference::tables::INTERCONNECTOR;
 
 /// A name, and the ends of the circuits between so many nodes.
 pub type Shape = (&'static str, fn(&mut Chance, usize) -> Vec<(usize, usize)>);
@@ -19,7 +20,7 @@ pub const SHAPES: [Shape; 6] = [
 ];
 
 /// What the figures are like.
-pub const TASTES: [&str; 7] = [
+pub const TASTES: [&str; 8] = [
     "ordinary",
     "at the ends of ranges",
     "idle circuits",
@@ -27,7 +28,11 @@ pub const TASTES: [&str; 7] = [
     "TEC equal to demand",
     "least totals",
     "greatest totals",
+    "one chargeable kilowatt",
 ];
+
+/// 02, CR 1: the plant types that pay.
+pub const PAYING: [u32; 6] = [1, 2, 4, 5, 6, 7];
 
 /// Each node on an earlier one.
 fn tree(chance: &mut Chance, nodes: usize) -> Vec<(usize, usize)> {
@@ -128,7 +133,8 @@ impl Figures<'_> {
         StationRow {
             identifier: padded(format!("ST_{number}").as_bytes()),
             node,
-            plant: self.chance.within(1, 7) as u32,
+            // One in three, so that nodes and zones of type 3 alone are no rarity.
+            plant: if self.chance.within(0, 2) == 0 { INTERCONNECTOR } else { self.chance.of(&PAYING) },
             tec,
         }
     }
@@ -200,8 +206,40 @@ pub fn total_demand(case: &Case) -> u64 {
     case.nodes.iter().map(|row| row.demand as u64).sum()
 }
 
-/// Totals that 01 allows, by taste.
+/// Totals that 01 and 02 allow, by taste.
 fn set_totals(chance: &mut Chance, case: &mut Case, taste: &str) {
+    set_kilowatts(chance, case, taste);
+    while total_tec(case) > 100_000_000 {
+        case.stations.iter_mut().for_each(|row| row.tec /= 2);
+    }
+    if taste == "one chargeable kilowatt" {
+        leave_one_kilowatt(chance, case);
+    }
+    if total_demand(case) == 0 {
+        let last = case.nodes.len() - 1;
+        case.nodes[last].demand = 1;
+    }
+    if total_tec(case) == 0 {
+        case.stations[0].tec = 1;
+    }
+    while total_demand(case) > total_tec(case) {
+        case.nodes.iter_mut().for_each(|row| row.demand /= 2);
+    }
+    if total_demand(case) == 0 {
+        case.nodes[0].demand = 1;
+    }
+    if taste == "TEC equal to demand" {
+        spread_tec(case, total_demand(case));
+    }
+    let pays = |row: &StationRow| row.tec > 0 && row.plant != INTERCONNECTOR;
+    if !case.stations.iter().any(pays) {
+        let first = case.stations.iter_mut().find(|row| row.tec > 0);
+        first.expect("total TEC is above zero").plant = chance.of(&PAYING);
+    }
+}
+
+/// Demand and TEC of a taste, whatever their totals.
+fn set_kilowatts(chance: &mut Chance, case: &mut Case, taste: &str) {
     match taste {
         "idle circuits" => {
             let kept = chance.within(0, case.nodes.len() as u64 - 1) as usize;
@@ -225,25 +263,13 @@ fn set_totals(chance: &mut Chance, case: &mut Case, taste: &str) {
         }
         _ => (),
     }
-    while total_tec(case) > 100_000_000 {
-        case.stations.iter_mut().for_each(|row| row.tec /= 2);
-    }
-    if total_demand(case) == 0 {
-        let last = case.nodes.len() - 1;
-        case.nodes[last].demand = 1;
-    }
-    if total_tec(case) == 0 {
-        case.stations[0].tec = 1;
-    }
-    while total_demand(case) > total_tec(case) {
-        case.nodes.iter_mut().for_each(|row| row.demand /= 2);
-    }
-    if total_demand(case) == 0 {
-        case.nodes[0].demand = 1;
-    }
-    if taste == "TEC equal to demand" {
-        spread_tec(case, total_demand(case));
-    }
+}
+
+/// 02, CR 1: 1 kW of a type that pays, all else of type 3.
+fn leave_one_kilowatt(chance: &mut Chance, case: &mut Case) {
+    case.stations.iter_mut().for_each(|row| row.plant = INTERCONNECTOR);
+    let place = chance.within(0, case.stations.len() as u64 - 1) as usize;
+    (case.stations[place].plant, case.stations[place].tec) = (chance.of(&PAYING), 1);
 }
 
 /// Gives the stations so much TEC in all, the first ones first. False where they cannot hold it.

@@ -1,14 +1,15 @@
 //! How often each answer and each cause was met.
 
-use reference::file::Case;
-use std::collections::BTreeMap;
+use reference::file::{Case, Name, StationRow};
+use reference::tables::INTERCONNECTOR;
+use std::collections::{BTreeMap, BTreeSet};
 
 /// Counts of a run.
 #[derive(Default)]
 pub struct Tally {
     pub inputs: u64,
-    /// By number; 0 is accepted.
-    pub answers: [u64; 13],
+    /// By number, 1 to 13; 0 is accepted.
+    pub answers: [u64; 14],
     pub causes: BTreeMap<String, u64>,
     pub orders: BTreeMap<String, u64>,
 }
@@ -83,7 +84,29 @@ fn features(case: &Case, sheet: &[u8]) -> Vec<(String, bool)> {
         case.stations.iter().map(|row| row.tec as u64).sum::<u64>()
             == case.nodes.iter().map(|row| row.demand as u64).sum(),
     );
+    list.extend(interconnectors(case).map(|(name, met)| (format!("accepted with {name}"), met)));
     list
+}
+
+/// 02, CR 1: what a case may have of type 3, by name, and whether it has it.
+fn interconnectors(case: &Case) -> [(&'static str, bool); 6] {
+    let of = |links: bool| move |row: &&StationRow| row.tec > 0 && (row.plant == INTERCONNECTOR) == links;
+    let places = |links: bool| case.stations.iter().filter(of(links)).map(|row| row.node).collect::<BTreeSet<_>>();
+    let (links, paying) = (places(true), places(false));
+    let zones = |places: &BTreeSet<Name>| {
+        let nodes = case.nodes.iter().filter(|row| places.contains(&row.name));
+        nodes.map(|row| row.generation_zone).collect::<BTreeSet<u32>>()
+    };
+    let chargeable: u64 = case.stations.iter().filter(of(false)).map(|row| row.tec as u64).sum();
+    let zero = |row: &StationRow| row.tec == 0 && row.plant == INTERCONNECTOR;
+    [
+        ("type 3 TEC", !links.is_empty()),
+        ("a zone of type 3 alone", !zones(&links).is_subset(&zones(&paying))),
+        ("a node of type 3 alone", !links.is_subset(&paying)),
+        ("a node of type 3 and another type", !links.is_disjoint(&paying)),
+        ("a station of type 3 with 0 kW", case.stations.iter().any(zero)),
+        ("one chargeable kilowatt beside type 3", chargeable == 1 && !links.is_empty()),
+    ]
 }
 
 /// Each quantity of 01 with the ends of its range, and what a case has of it. No sheet has 0 stations or 0 kilowatts.

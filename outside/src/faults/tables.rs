@@ -1,10 +1,17 @@
-//! 01, 6 and 7: nodes out of reach, totals.
+//! 01, 6 and 7: nodes out of reach, totals. 02, CR 1, 13: no chargeable TEC.
 
 use super::{any, Faults};
-use crate::networks::{spread_tec, total_demand};
-use reference::file::{Case, Name};
+use crate::networks::{spread_tec, total_demand, PAYING};
+use reference::file::{padded, Case, Name, StationRow};
+use reference::tables::INTERCONNECTOR;
 
 pub fn add(list: &mut Faults) {
+    add_reach(list);
+    add_totals(list);
+    add_chargeable(list);
+}
+
+fn add_reach(list: &mut Faults) {
     list.case(6, 0, "a node without circuits", |case, chance| {
         let place = any(chance, case.nodes.len()).filter(|place| *place != reference(case))?;
         (case.nodes.len() > 2 && !case.circuits.is_empty()).then(|| move_circuits(case, place, reference(case)))?;
@@ -21,6 +28,9 @@ pub fn add(list: &mut Faults) {
         case.runs.iter_mut().for_each(|run| run.truncate(nodes));
         Some(first_other(case)? as u64 + 1)
     });
+}
+
+fn add_totals(list: &mut Faults) {
     list.case(7, 0, "total demand 0", |case, _| {
         case.nodes.iter_mut().for_each(|row| row.demand = 0);
         Some(0)
@@ -48,6 +58,34 @@ pub fn add(list: &mut Faults) {
         let total = total_demand(case);
         (total > 1 && spread_tec(case, total - 1)).then_some(0)
     });
+}
+
+/// 13: the totals stay within 01's ranges, and all kilowatts are of type 3.
+fn add_chargeable(list: &mut Faults) {
+    list.case(13, 0, "type 3 alone", |case, _| {
+        make_all_links(case);
+        Some(0)
+    });
+    list.case(13, 0, "type 3, and other types with 0 kW", |case, chance| {
+        make_all_links(case);
+        case.stations.iter_mut().filter(|row| row.tec == 0).for_each(|row| row.plant = chance.of(&PAYING));
+        let identifier = padded(format!("NONE_{}", case.stations.len()).as_bytes());
+        let node = case.nodes[any(chance, case.nodes.len())?].name;
+        case.stations.push(StationRow { identifier, node, plant: chance.of(&PAYING), tec: 0 });
+        (case.stations.len() <= 512).then_some(0)
+    });
+    list.case(13, 0, "type 3 alone, total TEC equal to total demand", |case, _| {
+        make_all_links(case);
+        spread_tec(case, total_demand(case)).then_some(0)
+    });
+    list.case(13, 0, "type 3 alone, total TEC 100,000,000", |case, _| {
+        make_all_links(case);
+        spread_tec(case, 100_000_000).then_some(0)
+    });
+}
+
+fn make_all_links(case: &mut Case) {
+    case.stations.iter_mut().for_each(|row| row.plant = INTERCONNECTOR);
 }
 
 /// The reference's place, from 0.
