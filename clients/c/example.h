@@ -32,6 +32,7 @@ static inline const char *reason(uint64_t number) {
         "the misses sum up too high",
         "a circuit's direction is in doubt",
         "the buffer is shorter than the sheet",
+        "no TEC is chargeable: all of it is of interconnectors (plant type 3)",
     };
     return number < sizeof REASONS / sizeof REASONS[0] ? REASONS[number] : "a reason this program does not know";
 }

@@ -1,4 +1,4 @@
-/* Tests what the header says of counts of 0, and the example's words. Case KILN is on standard input.
+/* Tests what the header says of counts of 0 and of interconnectors, and the example's words. Case KILN is on standard input.
  *
  * Exit status: 0 all is as it should be, 1 something is not (printed). A library that used a pointer whose count is 0 would end this
  * program by a signal: no memory is at NULL. */
@@ -6,6 +6,10 @@
 
 enum { BASE, WIDER, LOCAL, RUNS };
 enum { KILN_SHEET = 117, ROOM = 200, UNTOUCHED = 7 };
+/* Where KILN's two station rows stand in the file, how long a row is, and where plant type and TEC stand in it. */
+enum { STATIONS = 268, STATION = 32, TYPE = 24, TEC = 28 };
+enum { NODA, NODB };
+enum { INTERCONNECTOR = 3, OTHER = 7 };
 
 /* What a call is given, but for the answer. */
 struct lent {
@@ -17,7 +21,7 @@ struct lent {
     size_t room;
 };
 
-static uint8_t file[LONGEST_FILE], sheet[ROOM];
+static uint8_t file[LONGEST_FILE], changed_file[LONGEST_FILE], sheet[ROOM];
 static struct run runs[RUNS];
 static int failures;
 
@@ -41,6 +45,23 @@ static struct lent kiln(size_t length) {
     lent.sheet = sheet;
     lent.room = sizeof sheet;
     return lent;
+}
+
+/* KILN with other plant types for the stations at NODA and NODB, which are both of type 7. */
+static struct lent kiln_of_types(size_t length, uint8_t at_noda, uint8_t at_nodb) {
+    struct lent lent = kiln(length);
+    memcpy(changed_file, file, length);
+    changed_file[STATIONS + NODA * STATION + TYPE] = at_noda;
+    changed_file[STATIONS + NODB * STATION + TYPE] = at_nodb;
+    lent.file = changed_file;
+    return lent;
+}
+
+/* Gives a station of the changed file so few kilowatts that they fit one byte. */
+static void set_tec(unsigned station, uint8_t kw) {
+    uint8_t *tec = changed_file + STATIONS + station * STATION + TEC;
+    memset(tec, 0, 4);
+    tec[0] = kw;
 }
 
 static void no_file(struct lent *lent) {
@@ -133,6 +154,49 @@ static void test_no_sheet(size_t length) {
     refused("a number out of range, without a sheet", &lent, 8, 2, 6);
 }
 
+static void test_no_chargeable_tec(size_t length) {
+    struct lent lent = kiln_of_types(length, INTERCONNECTOR, INTERCONNECTOR);
+    refused("interconnectors alone", &lent, 13, 0, 0);
+    no_sheet(&lent);
+    refused("interconnectors alone, without a sheet", &lent, 13, 0, 0);
+    lent = kiln_of_types(length, INTERCONNECTOR, OTHER);
+    set_tec(NODB, 0);
+    refused("interconnectors and a station without TEC", &lent, 13, 0, 0);
+    set_tec(NODB, 1);
+    refused("one chargeable kilowatt, and solutions of other tables", &lent, 9, 1, 1);
+}
+
+/* 13 comes after 7 and before 8 of the base solution. */
+static void test_order_of_13(size_t length) {
+    struct run base = runs[BASE];
+    base.numbers[0] = INT64_MIN;
+    struct lent lent = kiln(length);
+    lent.run[BASE] = base.numbers;
+    refused("a base number out of range", &lent, 8, 1, 1);
+    lent = kiln_of_types(length, INTERCONNECTOR, INTERCONNECTOR);
+    lent.run[BASE] = base.numbers;
+    refused("interconnectors alone, and a base number out of range", &lent, 13, 0, 0);
+    set_tec(NODA, 0);
+    refused("interconnectors alone, and less TEC than demand", &lent, 7, 0, 0);
+}
+
+/* KILN with an interconnector at NODB: C, generation's income and its residual go by NODA's 200,000 kW and not by all 300,000. */
+static void test_one_interconnector(size_t length) {
+    static const char EXPECTED[] = "C -17990\n"
+                                   "G 1 28333 10343 186174 63826 250000\n"
+                                   "D 1 -4200 13790 248220 85113 333333\n"
+                                   "L NODA 0 0\n"
+                                   "L NODB 0 0\n"
+                                   "R 0 50000\n";
+    enum { LENGTH = 113 };
+    uint64_t answer[WIREPULLEY_ANSWER];
+    struct lent lent = kiln_of_types(length, OTHER, INTERCONNECTOR);
+    check(call_judge(&lent, answer) == 0 && is_answer(answer, 0, 0, 0, LENGTH), "one interconnector is judged");
+    check(call_write(&lent, answer) == 0 && is_answer(answer, 0, 0, 0, LENGTH), "one interconnector is accepted");
+    check(sizeof EXPECTED == LENGTH + 1 && memcmp(sheet, EXPECTED, LENGTH) == 0, "an interconnector does not pay");
+    check(untouched(sheet + LENGTH, ROOM - LENGTH), "the bytes behind its sheet are as they were");
+}
+
 /* What the example prints for a refusal, both files in one. */
 static int prints(uint64_t number, const char *expected) {
     const uint64_t answer[WIREPULLEY_ANSWER] = {number, 2, 7, 0};
@@ -149,9 +213,9 @@ static int prints(uint64_t number, const char *expected) {
 
 static void test_words(void) {
     static const char UNKNOWN[] = "a reason this program does not know";
-    static const uint64_t BEYOND[] = {13, 16, 255, UINT64_MAX / 8 + 1, UINT64_MAX};
-    for (uint64_t number = 0; number <= 12; number++) {
-        check(strcmp(reason(number), UNKNOWN) != 0, "numbers to 12 are known");
+    static const uint64_t BEYOND[] = {14, 16, 255, UINT64_MAX / 8 + 1, UINT64_MAX};
+    for (uint64_t number = 0; number <= 13; number++) {
+        check(strcmp(reason(number), UNKNOWN) != 0, "numbers to 13 are known");
         for (uint64_t other = 0; other < number; other++)
             check(strcmp(reason(number), reason(other)) != 0, "each number has words of its own");
     }
@@ -159,7 +223,9 @@ static void test_words(void) {
         check(strcmp(reason(BEYOND[i]), UNKNOWN) == 0, "a number beyond the table is not known");
     check(prints(1, "refused 1 2 7\nexample: the file is not whole\n"), "the words of 1");
     check(prints(12, "refused 12 2 7\nexample: the buffer is shorter than the sheet\n"), "the words of 12");
-    check(prints(13, "refused 13 2 7\nexample: a reason this program does not know\n"), "the words of 13");
+    check(prints(13, "refused 13 2 7\nexample: no TEC is chargeable: all of it is of interconnectors (plant type 3)\n"),
+          "the words of 13");
+    check(prints(14, "refused 14 2 7\nexample: a reason this program does not know\n"), "the words of 14");
     check(prints(UINT64_MAX, "refused 18446744073709551615 2 7\nexample: a reason this program does not know\n"),
           "the words of the last number");
 }
@@ -175,6 +241,9 @@ int main(void) {
     test_kiln(length);
     test_no_file_and_no_runs(length);
     test_no_sheet(length);
+    test_no_chargeable_tec(length);
+    test_order_of_13(length);
+    test_one_interconnector(length);
     test_words();
     return failures == 0 ? 0 : 1;
 }

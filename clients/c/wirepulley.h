@@ -10,8 +10,8 @@
  *   - runs (int64_t) and `answer` (uint64_t) are aligned for their type, as in any C call; bytes may stand anywhere;
  *   - `sheet` and `answer` overlap neither each other nor anything else that the call is given.
  *
- * An answer is four numbers. Rows count from 1. A newer library may have refusals above 12, so look a number up in a table of your own
- * only where the table has it.
+ * An answer is four numbers. Rows count from 1. A newer library may have refusals above 13, so look a number up in a table of your own
+ * only where the table has it. This table goes by number; the order of judging stands below it, and has 13 after 7 and before 8.
  *
  *   number                          system     row                           length
  *   0  accepted                     0          0                             bytes of the sheet
@@ -27,7 +27,7 @@
  *   6  a node out of reach of the   0          the lowest such node          0
  *      reference
  *   7  a total out of its range, or 0          0                             0
- *      total TEC below total demand
+ *      total TEC below total demand (TEC of every plant type counts here, interconnectors' too)
  *   8  a proposed number out of     the system the number's place in its     0
  *      range, or the reference's               run, circuits after nodes
  *      potential not 0
@@ -36,9 +36,15 @@
  *   11 a direction in doubt         1          the lowest such circuit       0
  *   12 `sheet` shorter than the     0          0                             0
  *      sheet (never of wirepulley_judge)
+ *   13 no chargeable TEC: all of it 0          0                             0
+ *      is of interconnectors (plant type 3); at least one kilowatt has to be of another type
  *
- * Systems: 1 base, 2 wider, 3 local. The first that holds is answered, in this order: 1 to 7; 8, 9, 10 of the base solution; 11;
+ * Systems: 1 base, 2 wider, 3 local. The first that holds is answered, in this order: 1 to 7; 13; 8, 9, 10 of the base solution; 11;
  * 8, 9, 10 of the wider one, then of the local one; 12.
+ *
+ * Interconnectors do not pay. Their TEC counts in scaling and in zonal averages, and not in C, generation's income and its residual.
+ * So what the sheet charges on chargeable TEC and on demand, plus its two remainders, is the allowed revenue. A generation zone or a
+ * node whose TEC is all of interconnectors still has its line, and nobody pays by it.
  */
 #ifndef WIREPULLEY_H
 #define WIREPULLEY_H

@@ -10,7 +10,7 @@ fn main() {
     let target = env::var("TARGET").unwrap_or_default();
     // What `rt staticlib` writes is for x86-64; a folder that is named may hold another build.
     if named.is_none() && !(target.starts_with("x86_64-") && target.contains("linux")) {
-        fail(&format!("the library is for x86-64 Linux, and this build is for {target}: give cargo --target x86_64-unknown-linux-gnu"));
+        fail(&format!("the library is for x86-64 Linux, and this build is for {target}: give cargo --target x86_64-unknown-linux-gnu, or set WIREPULLEY_LIB_DIR to a folder with a build for this one"));
     }
     let folder = named.unwrap_or(here.join("../../target/staticlib"));
     let library = folder.join("libwirepulley.a");

@@ -11,6 +11,11 @@
 //! }
 //! ```
 //!
+//! # Who pays
+//!
+//! Interconnectors (plant type 3) do not: their TEC counts in scaling and in zonal averages, and not in C, generation's income and
+//! its residual. What the sheet charges on chargeable TEC and on demand, plus its two remainders, is the allowed revenue.
+//!
 //! # Stack
 //!
 //! A call takes at most [`STACK`] bytes of stack: leave a thread that calls the library so much beside its own.
@@ -57,7 +62,7 @@ extern "C" {
 /// What the library answers, as document 01 numbers it.
 #[derive(Clone, Copy, Debug, PartialEq, Eq)]
 pub struct Answer {
-    /// 0 where the case is accepted, else a refusal's: 1 to 12, or more from a newer library.
+    /// 0 where the case is accepted, else a refusal's: 1 to 13, or more from a newer library.
     pub number: u64,
     /// 1 base, 2 wider, 3 local; 0 where the answer is about none of them.
     pub system: u64,
@@ -122,7 +127,7 @@ impl Case<'_> {
         Answer::of(answer)
     }
 
-    /// Judges the case and writes no sheet: the length that a buffer for its sheet needs, or what stops it first among 1 to 11.
+    /// Judges the case and writes no sheet: the length that a buffer for its sheet needs, or what stops it, never [`Refusal::Buffer`].
     pub fn judge(&self) -> Result<usize, Refusal> {
         self.judgement().result()
     }

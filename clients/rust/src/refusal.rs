@@ -35,6 +35,9 @@ impl System {
 }
 
 /// What stopped a case. Rows count from 1. A newer client may have more reasons, so a match has an arm for those to come.
+///
+/// The first that holds is told, in this order: 1 to 7; 13; 8, 9, 10 of the base solution; 11; 8, 9, 10 of the wider one, then of
+/// the local one; 12.
 #[derive(Clone, Copy, Debug, PartialEq, Eq)]
 #[non_exhaustive]
 pub enum Refusal {
@@ -50,7 +53,7 @@ pub enum Refusal {
     Station { row: u64 },
     /// 6: a node out of reach of the reference.
     Unreached { row: u64 },
-    /// 7: a total out of its range, or total TEC below total demand.
+    /// 7: a total out of its range, or total TEC below total demand. TEC of every plant type counts.
     Total,
     /// 8: a proposed number out of range, or the reference's potential not 0. Circuits count after nodes.
     Number { system: System, row: u64 },
@@ -62,6 +65,8 @@ pub enum Refusal {
     Direction { row: u64 },
     /// 12: the buffer shorter than the sheet. `Case::judge` never says so.
     Buffer,
+    /// 13: no chargeable TEC, since all of it is of interconnectors (plant type 3), which do not pay.
+    ChargeableTec,
     /// A reason that this client does not know: another number, or one of these numbers with a system or row that it never has.
     /// A newer client may have a variant of its own for it; what `number`, `system` and `row` say stays the same.
     Unknown { number: u64, system: u64, row: u64 },
@@ -92,6 +97,7 @@ impl Refusal {
             (10, _, 0) => Refusal::Misses { system: proposed? },
             (11, 1, row) => Refusal::Direction { row },
             (12, 0, 0) => Refusal::Buffer,
+            (13, 0, 0) => Refusal::ChargeableTec,
             _ => return None,
         })
     }
@@ -111,6 +117,7 @@ impl Refusal {
             Refusal::Misses { system } => (10, system.number(), 0),
             Refusal::Direction { row } => (11, 1, row),
             Refusal::Buffer => (12, 0, 0),
+            Refusal::ChargeableTec => (13, 0, 0),
             Refusal::Unknown { number, system, row } => (number, system, row),
         }
     }
@@ -173,6 +180,9 @@ impl fmt::Display for Refusal {
             Refusal::Misses { system } => write!(to, "{system} solution: the misses sum up too high"),
             Refusal::Direction { row } => write!(to, "the direction of circuit {row} is in doubt"),
             Refusal::Buffer => write!(to, "the buffer is shorter than the sheet"),
+            Refusal::ChargeableTec => {
+                write!(to, "no TEC is chargeable: all of it is of interconnectors (plant type 3)")
+            }
             Refusal::Unknown { .. } => write!(to, "a reason this client does not know; use a newer client"),
         }
     }

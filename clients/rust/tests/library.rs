@@ -100,6 +100,60 @@ fn empty_slices_are_judged() {
     assert_eq!(unbalanced.write(&mut []), Err(Refusal::Balance { system: System::Base, row: 1 }));
 }
 
+/// KILN with other plant types for the stations at NODA and NODB, which are both of type 7.
+fn kiln_of_types(types: [u8; 2]) -> Vec<u8> {
+    let mut file = KILN.to_vec();
+    // station rows of 32 bytes stand from 268 on; a row has its plant type at 24
+    file[268 + 24] = types[0];
+    file[268 + 32 + 24] = types[1];
+    file
+}
+
+#[test]
+fn interconnectors_alone_are_refused() {
+    let file = kiln_of_types([3, 3]);
+    let solutions = Solutions::of_file(&file);
+    let case = solutions.with(&file);
+    let mut sheet = [7; 200];
+    assert_eq!(case.judge(), Err(Refusal::ChargeableTec));
+    assert_eq!(case.write(&mut sheet), Err(Refusal::ChargeableTec));
+    assert_eq!(case.write(&mut []), Err(Refusal::ChargeableTec));
+    assert_eq!(case.answer(&mut sheet), Answer { number: 13, system: 0, row: 0, length: 0 });
+    assert_eq!(sheet, [7; 200]);
+    assert_eq!(
+        case.judge().unwrap_err().to_string(),
+        "refused (13): no TEC is chargeable: all of it is of interconnectors (plant type 3)"
+    );
+}
+
+#[test]
+fn chargeable_tec_is_judged_after_totals_and_before_numbers() {
+    let mut file = kiln_of_types([3, 3]);
+    let solutions = Solutions::of_file(&file);
+    let mut base = solutions.base.clone();
+    base[0] = i64::MIN;
+    let number = Refusal::Number { system: System::Base, row: 1 };
+    assert_eq!(Case { base: &base, ..solutions.with(KILN) }.judge(), Err(number));
+    assert_eq!(Case { base: &base, ..solutions.with(&file) }.judge(), Err(Refusal::ChargeableTec));
+    // no TEC at NODA: what is left is below demand
+    file[268 + 28..268 + 32].fill(0);
+    assert_eq!(Case { base: &base, ..solutions.with(&file) }.judge(), Err(Refusal::Total));
+}
+
+#[test]
+fn an_interconnector_does_not_pay() {
+    // C, generation's income and its residual go by NODA's 200,000 kW and not by all 300,000 as in KILN
+    let expected = "C -17990\nG 1 28333 10343 186174 63826 250000\nD 1 -4200 13790 248220 85113 333333\n\
+                    L NODA 0 0\nL NODB 0 0\nR 0 50000\n";
+    let file = kiln_of_types([7, 3]);
+    let solutions = Solutions::of_file(&file);
+    let mut sheet = [7; 200];
+    assert_eq!(solutions.with(&file).judge(), Ok(113));
+    assert_eq!(solutions.with(&file).write(&mut sheet), Ok(113));
+    assert_eq!(&sheet[..113], expected.as_bytes());
+    assert_eq!(sheet[113..], [7; 200 - 113]);
+}
+
 /// A file of this many zeros before a trailer that says of each section: offset, count.
 fn claiming(zeros: usize, offset: u32, count: u32) -> Vec<u8> {
     let entry = [offset.to_le_bytes(), count.to_le_bytes()].concat();
@@ -129,7 +183,7 @@ fn a_trailer_may_claim_anything() {
 #[deny(unreachable_patterns)]
 fn sort_of(refusal: Refusal) -> &'static str {
     match refusal {
-        Refusal::File | Refusal::Setting | Refusal::Total | Refusal::Buffer => "known",
+        Refusal::File | Refusal::Setting | Refusal::Total | Refusal::Buffer | Refusal::ChargeableTec => "known",
         Refusal::Node { .. } | Refusal::Circuit { .. } | Refusal::Station { .. } | Refusal::Unreached { .. } => "known",
         Refusal::Number { .. } | Refusal::Balance { .. } | Refusal::Misses { .. } | Refusal::Direction { .. } => {
             "known"
@@ -142,5 +196,5 @@ fn sort_of(refusal: Refusal) -> &'static str {
 #[test]
 fn a_match_has_an_arm_for_reasons_to_come() {
     assert_eq!(sort_of(Refusal::File), "known");
-    assert_eq!(sort_of(Refusal::Unknown { number: 13, system: 0, row: 0 }), "unknown");
+    assert_eq!(sort_of(Refusal::Unknown { number: 14, system: 0, row: 0 }), "unknown");
 }

@@ -6,7 +6,7 @@ use crate::Answer;
 /// What the library answers (number, system, row), which refusal that is, and its words.
 type Known = ((u64, u64, u64), Refusal, &'static str);
 
-const ROW_FREE: [Known; 7] = [
+const ROW_FREE: [Known; 8] = [
     ((1, 0, 0), Refusal::File, "the file is not whole, or a solution has another length than nodes plus circuits"),
     ((2, 0, 0), Refusal::Setting, "a setting is out of its range"),
     ((7, 0, 0), Refusal::Total, "total demand or total TEC is out of its range, or TEC is below demand"),
@@ -14,6 +14,7 @@ const ROW_FREE: [Known; 7] = [
     ((10, 2, 0), Refusal::Misses { system: System::Wider }, "wider solution: the misses sum up too high"),
     ((10, 3, 0), Refusal::Misses { system: System::Local }, "local solution: the misses sum up too high"),
     ((12, 0, 0), Refusal::Buffer, "the buffer is shorter than the sheet"),
+    ((13, 0, 0), Refusal::ChargeableTec, "no TEC is chargeable: all of it is of interconnectors (plant type 3)"),
 ];
 
 const OF_A_ROW: [Known; 5] = [
@@ -90,14 +91,14 @@ fn each_known_answer_is_its_own_refusal_in_its_own_words() {
 
 #[test]
 fn every_number_of_the_table_is_tried() {
-    for number in 1..=12 {
+    for number in 1..=13 {
         assert!(known().any(|((tried, ..), ..)| tried == number), "{number}");
     }
 }
 
 #[test]
 fn a_number_outside_the_table_is_unknown() {
-    for number in [13, 16, 255, 256 + 1, (1 << 32) + 1, u64::MAX - 1, u64::MAX] {
+    for number in [14, 16, 255, 256 + 1, (1 << 32) + 1, u64::MAX - 1, u64::MAX] {
         for system in ENDS {
             for row in ENDS {
                 let refusal = Refusal::Unknown { number, system, row };
@@ -137,6 +138,10 @@ fn a_known_number_with_a_strange_system_or_row_is_unknown() {
         (11, 2, 1),
         (12, 0, 1),
         (12, 1, 0),
+        (13, 0, 1),
+        (13, 0, u64::MAX),
+        (13, 1, 0),
+        (13, 3, 1),
     ];
     for (number, system, row) in strange {
         assert_eq!(Refusal::of(answer(number, system, row)), Some(Refusal::Unknown { number, system, row }));
@@ -145,12 +150,12 @@ fn a_known_number_with_a_strange_system_or_row_is_unknown() {
 
 #[test]
 fn every_answer_is_carried_as_it_came() {
-    for number in (1..=300).chain([1 << 32, (1 << 32) + 12, u64::MAX]) {
+    for number in (1..=300).chain([1 << 32, (1 << 32) + 12, (1 << 32) + 13, u64::MAX]) {
         for system in ENDS {
             for row in ENDS {
                 let refusal = Refusal::of(answer(number, system, row)).expect("a number other than 0 is a refusal");
                 assert_eq!(carried(refusal), (number, system, row));
-                assert!(number <= 12 || matches!(refusal, Refusal::Unknown { .. }));
+                assert!(number <= 13 || matches!(refusal, Refusal::Unknown { .. }));
             }
         }
     }
