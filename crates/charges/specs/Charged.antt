@@ -17,7 +17,7 @@ unfoldable pub figuresBy : Judgement → Figures → Figures
 figuresBy Passes figures = figures
 figuresBy (Stops r) figures = noFigures
 
--- What stops a case, "Order", 1 to 11; and the figures of steps 6 to 10 where nothing does
+-- What stops a case, "Order", 1 to 11 and 13; and the figures of steps 6 to 10 where nothing does
 unfoldable pub chargedOf : (file : List ℕ) → Runs → Charged
 chargedOf file runs =
     record {

@@ -5,7 +5,7 @@ ghost use mathlib.Core.Path.{_≡_};
 ghost use Rattle.meaning.specs.Study.{runsOf};
 ghost use Rattle.charges.specs.Charged.{chargedOf};
 
-// What 1 to 11 make of a case, and its figures: all zero where it is stopped.
+// What 1 to 11 and 13 make of a case, and its figures: all zero where it is stopped.
 pub struct Charged {
     pub judgement: Judgement,
     pub figures: Figures,
@@ -46,7 +46,7 @@ fn of_columns(file: &[u8], base: &[i64], wider: &[i64], local: &[i64]) -> Charge
     }
 }
 
-// What 1 to 11 make of a case, and its figures. A file that is not whole, or a bad setting, is answered before any table is read.
+// What 1 to 11 and 13 make of a case, and its figures. A file that is not whole, or a bad setting, is answered before any table is read.
 pub fn charge(file: &[u8], base: &[i64], wider: &[i64], local: &[i64]) -> Charged
     ensures { λ r. ⌜ r ≡ chargedOf (now (file .entry)) (runsOf (now (base .entry)) (now (wider .entry)) (now (local .entry))) ⌝ }
 {

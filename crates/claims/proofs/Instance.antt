@@ -20,7 +20,7 @@ use Rattle.meaning.specs.Grid.{gridOf, capacityOf}
 use Rattle.meaning.specs.Outcome.{judged, sheetOf, settle}
 use Rattle.meaning.specs.Conditions.{InRange, Acceptable}
 use Rattle.meaning.specs.Demands
-use Rattle.meaning.specs.Demands.{IsWritten, IsRefused, Recovered, SameButStations, Parts, Rearranged, exchanged, below, then, StationsRearranged, Agree, PassesToFive, AsIn01}
+use Rattle.meaning.specs.Demands.{IsWritten, IsRefused, Recovered, SameButStations, Parts, Rearranged, exchanged, below, then, StationsRearranged, Agree, PassesToFive, AsIn01, Balances}
 use Rattle.meaning.proofs.Write.{fileOf}
 use Rattle.meaning.proofs.Kiln.{kiln, kilnRuns, kilnBase, kilnWider, kilnLocal, kilnSettings, kilnNodes, kilnCircuits, kilnStations, kilnSheet, kiln-judged, stationOf}
 use Rattle.meaning.proofs.Links.{half, half-judged}
@@ -30,7 +30,7 @@ use Rattle.meaning.proofs.Whole.{judge-file}
 use Rattle.meaning.proofs.Tables.{judge-rows}
 use Rattle.meaning.proofs.Judged.{judged-pass}
 use Rattle.claims.proofs.Stations.{rearranged}
-use Rattle.claims.proofs.Theorems.{accepted-exactly-when, refused-exactly-when, one-answer, revenue-recovered, solvers-agree, stations-hidden, no-interconnector-no-change}
+use Rattle.claims.proofs.Theorems.{accepted-exactly-when, refused-exactly-when, one-answer, revenue-recovered, centre-balances, solvers-agree, stations-hidden, no-interconnector-no-change}
 
 -- ---- KILN is acceptable, and settled in either way
 kiln-acceptable : Acceptable kiln kilnRuns
@@ -165,3 +165,6 @@ kiln-as-in-01 = no-interconnector-no-change (studyOf kiln) kilnRuns kiln-without
 
 half-recovered : Recovered (gridOf (studyOf half)) (sheetOf half kilnRuns)
 half-recovered = revenue-recovered half kilnRuns (judged-pass half kilnRuns .0 half-judged)
+
+half-balances : Balances (gridOf (studyOf half)) kilnRuns
+half-balances = centre-balances half kilnRuns (judged-pass half kilnRuns .0 half-judged)

@@ -1,11 +1,11 @@
 -- The figures bring in the targets: of each side, the zones' totals, the local income and the remainder are the target.
 use mathlib.Core.Path.{_≡_, sym, _∙_, ap}
-use Prim.Native.Nat.{ℕ, zero, suc, _+_, _*_, _-_, _≤_}
+use Prim.Native.Nat.{ℕ, suc, _+_, _*_, _-_, _≤_}
 use native.Mathlib.Omega.{arith}
 use native.Mathlib.Nat.{mul-add, add-mul}
 use lib.IntN.{ℤ, pos, _+ℤ_, _-ℤ_, _*ℤ_}
-use Rattle.integers.specs.Numbers.{sum, Σ}
 use Rattle.integers.proofs.Core.{Z}
+use Rattle.integers.proofs.Sum.{Σ-raised}
 use Rattle.meaning.specs.Study.{Runs}
 use Rattle.meaning.specs.Grid.{Grid}
 use Rattle.meaning.specs.declared.Side.{Side}
@@ -13,23 +13,13 @@ use Rattle.meaning.specs.declared.Side.the-variants.{Generation, Demand}
 use Rattle.meaning.specs.Figures.{remainderOf, zones, zonePaying, totalPaying, overZones, target, zoneTariff, localIncome, rest, residual, remainder, zoneTotal}
 use Rattle.sizes.specs.Bounds.{KilowattsFit}
 
--- a price raised by r brings in r times the kilowatts more
-raised : (t : ℕ → ℤ) (r : ℤ) (kw : ℕ → ℕ) (n : ℕ)
-    → Σ n (λ k. (t k +ℤ r) *ℤ pos (kw k)) ≡ Σ n (λ k. t k *ℤ pos (kw k)) +ℤ r *ℤ pos (sum n kw)
-unfolding Σ sum
-raised t r kw zero = simp Z (omega arith)
-raised t r kw (suc n) = rw (raised t r kw n) (step (Σ n (λ k. t k *ℤ pos (kw k))) (t n) r (sum n kw) (kw n))
-  where
-    step : (a b r : ℤ) (m k : ℕ) → a +ℤ r *ℤ pos m +ℤ (b +ℤ r) *ℤ pos k ≡ a +ℤ b *ℤ pos k +ℤ r *ℤ pos (m + k)
-    step a b r m k = simp Z (omega arith)
-
 module _ (G : Grid) (fit : KilowattsFit G) (runs : Runs) where
   -- the residual is paid by each kilowatt, and the zones have all of them
   income-is : (side : Side)
       → overZones G side (zoneTotal G runs side) ≡ overZones G side (zoneTariff G runs side) +ℤ residual G runs side *ℤ pos (totalPaying G side)
   unfolding overZones zoneTotal
   income-is side =
-      raised (λ k. zoneTariff G runs side (suc k)) (residual G runs side) (λ k. zonePaying G side (suc k)) (zones G side)
+      Σ-raised (λ k. zoneTariff G runs side (suc k)) (residual G runs side) (λ k. zonePaying G side (suc k)) (zones G side)
       ∙ ap (λ (m : ℕ). overZones G side (zoneTariff G runs side) +ℤ residual G runs side *ℤ pos m) (fit .zonesAll side)
 
   pub side-recovered : (side : Side) → overZones G side (zoneTotal G runs side) +ℤ localIncome G runs side +ℤ remainder G runs side ≡ target G side

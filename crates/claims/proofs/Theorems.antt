@@ -1,5 +1,5 @@
 -- The user's demands, proved: each statement is a type of meaning/specs/Demands.antt, and its proof is in the file named here.
-use Rattle.meaning.specs.Demands.{EveryInputSettled, AcceptedExactlyWhen, RefusedExactlyWhen, OneAnswer, JudgeIsWrite, RevenueRecovered, SolversAgree, StationsHidden, CapacityKept, SheetsFit, AllButInterconnectorsPay, NoInterconnectorNoChange}
+use Rattle.meaning.specs.Demands.{EveryInputSettled, AcceptedExactlyWhen, RefusedExactlyWhen, OneAnswer, JudgeIsWrite, RevenueRecovered, CentreBalances, SolversAgree, StationsHidden, CapacityKept, SheetsFit, AllButInterconnectorsPay, NoInterconnectorNoChange}
 use Rattle.sizes.proofs.Accepted as Sizes
 use Rattle.claims.proofs.Accepted
 use Rattle.claims.proofs.Recovered
@@ -31,6 +31,10 @@ judge-is-write = Hidden.judge-is-write
 -- demand 2: read back from its bytes, the sheet of an accepted case brings in the allowed revenue, less two printed remainders
 pub revenue-recovered : RevenueRecovered
 revenue-recovered = Recovered.revenue-recovered
+
+-- step 8: with C, generation's and demand's zones balance by their shares, over the kilowatts that pay
+pub centre-balances : CentreBalances
+centre-balances = Recovered.centre-balances
 
 -- demand 3: whatever the solver, an accepted case has its directions, its metres to within one, and with equal proposals its sheet
 pub solvers-agree : SolversAgree

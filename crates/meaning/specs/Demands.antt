@@ -23,7 +23,7 @@ use Rattle.meaning.specs.Grid.{Grid, gridOf, capacityOf, nodeTec, paying
 use Rattle.meaning.specs.Direction.{direction}
 use Rattle.meaning.specs.Proposal.{potential}
 use Rattle.meaning.specs.Systems.{baseFlow, runOf}
-use Rattle.meaning.specs.Figures.{residualOf, remainderOf, widerMetres, localMetres, zones, zoneWeight, totalPaying, overZones, target, zonalMetres, C, zoneTariff, localTariff, rest, residual, remainder}
+use Rattle.meaning.specs.Figures.{residualOf, remainderOf, widerMetres, localMetres, zones, zoneWeight, totalPaying, overZones, target, zonalMetres, C, afterC, zoneTariff, localTariff, rest, residual, remainder}
 use Rattle.meaning.specs.Outcome.{sheetOf, answerOf, refused, written, settle}
 use Rattle.meaning.specs.Read.{field, readWhole, hasLetter, lineAt, sideIncome, printedIncome, printedRemainder}
 use Rattle.meaning.specs.Sheet.{letter}
@@ -121,6 +121,16 @@ pub record Recovered (G : Grid) (sheet : List ℕ) : Type 0 where
 
 abbrev pub RevenueRecovered : Type 0
 RevenueRecovered = (file : List ℕ) (runs : Runs) → Acceptable file runs → Recovered (gridOf (studyOf file)) (sheetOf file runs)
+
+-- step 8, what C is for: with it, demand's zones by 1000 - p and generation's by p come to the same over the kilowatts that pay, to half of C's divisor
+abbrev pub Balances : Grid → Runs → Type 0
+Balances G runs =
+    let p = G .settings .p in
+    natAbs (pos 2 *ℤ (pos (1000 - p) *ℤ overZones G Demand (afterC G runs Demand) -ℤ pos p *ℤ overZones G Generation (afterC G runs Generation)))
+    ≤ p * totalPaying G Generation + (1000 - p) * totalPaying G Demand
+
+abbrev pub CentreBalances : Type 0
+CentreBalances = (file : List ℕ) (runs : Runs) → Acceptable file runs → Balances (gridOf (studyOf file)) runs
 
 -- ---- demand 3
 -- "equal settings, nodes and circuits, and equal capacity at every node for every plant type"

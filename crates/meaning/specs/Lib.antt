@@ -1,4 +1,4 @@
--- What document 01 says. Read the files in this order, with 01 beside them. Quotation marks hold 01's words.
+-- What document 01 says, and what the landed requests of 02 change in it. Read the files in this order, with 01 beside them. Quotation marks hold their words.
 -- CUSC paragraphs are those of the 2011 text of section 14; 14.15.7 alone is of the later edition.
 pub mod Rows
 pub mod Name

@@ -1,4 +1,4 @@
--- From a file that was opened to the judgement of 1 to 11: where the tables stop the case, and where the proposals decide.
+-- From a file that was opened to the judgement of 1 to 11 and 13: where the tables stop the case, and where the proposals decide.
 use mathlib.Core.Path.{_≡_, _∙_, ap}
 use mathlib.Core.List.{List}
 use Prim.Native.Nat.{ℕ, _+_, _≤_}

@@ -1,4 +1,4 @@
-// A case judged: refusals 1 to 11 of document 01, in its order. Proposed solutions are judged once over supply and offset.
+// A case judged: refusals 1 to 11 of document 01 and 13 of 02, in their order. Proposed solutions are judged once over supply and offset.
 mod case;
 mod kernel;
 mod order;

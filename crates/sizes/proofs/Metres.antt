@@ -41,7 +41,7 @@ module _ (G : Grid) (r : Ranged G) (f : ℕ → ℤ) (b : ℕ) (fits : (zone : �
 mixed : (q p k l : ℕ) (x y : ℤ) → natAbs x ≤ 10000000 * k → natAbs y ≤ 10000000 * l → natAbs (pos q *ℤ x -ℤ pos p *ℤ y) ≤ 10000000 * (p * l + q * k)
 mixed q p k l x y h j = omega (arith, abs-sub (pos q *ℤ x) (pos p *ℤ y), abs-mul-le (pos q) x (le-refl q) h, abs-mul-le (pos p) y (le-refl p) j)
 
-shared : (p k l : ℕ) → p ≤ 1000 → InRange k 1 100000000 → InRange l 1 100000000 → InRange (p * k + (1000 - p) * l) 1 100000000000
+pub shared : (p k l : ℕ) → p ≤ 1000 → InRange k 1 100000000 → InRange l 1 100000000 → InRange (p * k + (1000 - p) * l) 1 100000000000
 shared p k l h a b = record {
   least = omega (arith, mul-le-mul-left p (a .least), mul-le-mul-left (1000 - p) (b .least));
   most = omega (arith, mul-le-mul-left p (a .most), mul-le-mul-left (1000 - p) (b .most));
