@@ -7,6 +7,9 @@ use std::fmt::Write;
 
 type Name = [u8; 12];
 
+/// Plant type 3 weighs and does not pay.
+const INTERCONNECTOR: u32 = 3;
+
 struct Settings {
     generation_zones: u32,
     demand_zones: u32,
@@ -36,7 +39,15 @@ struct Circuit {
 
 struct Station {
     node: usize,
+    plant: u32,
     tec: i64,
+}
+
+/// The TEC of a node: all of it weighs, and interconnectors' does not pay.
+#[derive(Clone, Copy, Default)]
+struct Tec {
+    all: i64,
+    paying: i64,
 }
 
 struct Study {
@@ -154,9 +165,9 @@ fn circuit(row: &[u8], settings: &Settings, places: &HashMap<Name, usize>) -> Op
 
 fn station(row: &[u8], places: &HashMap<Name, usize>) -> Option<Station> {
     let node = *places.get(&name_at(row, 12))?;
-    let tec = u32_at(row, 28);
-    let sound = well_formed(&name_at(row, 0)) && (1..=7).contains(&u32_at(row, 24)) && tec <= 20_000_000;
-    sound.then_some(Station { node, tec: tec as i64 })
+    let (plant, tec) = (u32_at(row, 24), u32_at(row, 28));
+    let sound = well_formed(&name_at(row, 0)) && (1..=7).contains(&plant) && tec <= 20_000_000;
+    sound.then_some(Station { node, plant, tec: tec as i64 })
 }
 
 /// Refusals 1 to 5.
@@ -214,11 +225,11 @@ fn unreached(study: &Study) -> Option<usize> {
     reached.iter().position(|reached| !reached)
 }
 
-fn scaled(tec: &[i64], demand: i64, total: i64) -> Vec<i64> {
-    let mut scaled: Vec<i64> = tec.iter().map(|tec| tec * demand / total).collect();
+fn scaled(tec: &[Tec], demand: i64, total: i64) -> Vec<i64> {
+    let mut scaled: Vec<i64> = tec.iter().map(|tec| tec.all * demand / total).collect();
     let mut missing = demand - scaled.iter().sum::<i64>();
     for (kw, tec) in scaled.iter_mut().zip(tec) {
-        if missing > 0 && tec * demand % total != 0 {
+        if missing > 0 && tec.all * demand % total != 0 {
             *kw += 1;
             missing -= 1;
         }
@@ -260,7 +271,7 @@ fn system(study: &Study, number: u64, limit: i64, supply: &[i64], offset: &[i64]
 }
 
 /// Refusals 8 to 11.
-fn proposals(study: &Study, tec: &[i64], demand: i64, total: i64, runs: [&[i64]; 3]) -> Result<(), Answer> {
+fn proposals(study: &Study, tec: &[Tec], demand: i64, total: i64, runs: [&[i64]; 3]) -> Result<(), Answer> {
     let generation = scaled(tec, demand, total);
     let net = generation.iter().zip(&study.nodes).map(|(scaled, node)| 1_000_000 * (scaled - node.demand));
     let supply: Vec<i64> = net.collect();
@@ -290,16 +301,18 @@ fn nearest(z: i64, d: i64) -> i64 {
 #[derive(Default)]
 struct Zone {
     kw: i64,
+    paying: i64,
     sum: i64,
     metres: i64,
 }
 
-fn zones(rows: impl Iterator<Item = (u32, i64, i64)>) -> HashMap<u32, Zone> {
+fn zones(rows: impl Iterator<Item = (u32, i64, Tec)>) -> HashMap<u32, Zone> {
     let mut zones: HashMap<u32, Zone> = HashMap::new();
     for (number, metres, kw) in rows {
         let zone = zones.entry(number).or_default();
-        zone.kw += kw;
-        zone.sum += metres * kw;
+        zone.kw += kw.all;
+        zone.paying += kw.paying;
+        zone.sum += metres * kw.all;
     }
     zones.retain(|_, zone| zone.kw > 0);
     for zone in zones.values_mut() {
@@ -324,7 +337,7 @@ fn side(
     total: i64,
 ) -> i64 {
     let price = |zone: &Zone| tariff(zone.metres + shift, settings.constant, settings.wider_factor);
-    let income: i64 = zones.values().map(|zone| price(zone) * zone.kw).sum();
+    let income: i64 = zones.values().map(|zone| price(zone) * zone.paying).sum();
     let rest = target - income;
     let residual = rest.div_euclid(total);
     for number in 1..=count {
@@ -341,21 +354,22 @@ fn side(
 }
 
 /// Steps 6 to 10 and the sheet.
-fn sheet(study: &Study, tec: &[i64], demand: i64, total: i64, wider: &[i64], local: &[i64]) -> String {
+fn sheet(study: &Study, tec: &[Tec], demand: i64, paying: i64, wider: &[i64], local: &[i64]) -> String {
     let settings = &study.settings;
     let metres = |potential: i64| nearest(potential, 1_000_000_000);
     let rows = || study.nodes.iter().zip(tec).zip(wider);
     let generation = zones(rows().map(|((node, tec), wider)| (node.generation_zone, metres(*wider), *tec)));
-    let load = zones(rows().map(|((node, _), wider)| (node.demand_zone, -metres(*wider), node.demand)));
-    let over = |zones: &HashMap<u32, Zone>| zones.values().map(|zone| zone.metres * zone.kw).sum::<i64>();
+    let all_pays = |kw: i64| Tec { all: kw, paying: kw };
+    let load = zones(rows().map(|((node, _), wider)| (node.demand_zone, -metres(*wider), all_pays(node.demand))));
+    let over = |zones: &HashMap<u32, Zone>| zones.values().map(|zone| zone.metres * zone.paying).sum::<i64>();
     let (p, q) = (settings.p, 1000 - settings.p);
-    let c = nearest(q * over(&load) - p * over(&generation), p * total + q * demand);
+    let c = nearest(q * over(&load) - p * over(&generation), p * paying + q * demand);
     let mut local_lines = String::new();
     let mut income = 0;
     for ((node, tec), local) in study.nodes.iter().zip(tec).zip(local) {
-        if *tec > 0 {
+        if tec.all > 0 {
             let price = tariff(metres(*local), settings.constant, settings.local_factor);
-            income += price * tec;
+            income += price * tec.paying;
             let name = std::str::from_utf8(&node.name).unwrap().trim_end();
             writeln!(local_lines, "L {name} {} {price}", metres(*local)).unwrap();
         }
@@ -363,7 +377,7 @@ fn sheet(study: &Study, tec: &[i64], demand: i64, total: i64, wider: &[i64], loc
     let target = |share: i64| (settings.revenue * share as u64 * 1000) as i64;
     let mut text = format!("C {c}\n");
     let to_generation = target(q) - income;
-    let left = side(&mut text, 'G', settings.generation_zones, &generation, settings, c, to_generation, total);
+    let left = side(&mut text, 'G', settings.generation_zones, &generation, settings, c, to_generation, paying);
     let over = side(&mut text, 'D', settings.demand_zones, &load, settings, -c, target(p), demand);
     text += &local_lines;
     text += &format!("R {left} {over}\n");
@@ -375,17 +389,24 @@ fn judged(file: &[u8], runs: [&[i64]; 3]) -> Result<String, Answer> {
     if let Some(node) = unreached(&study) {
         return Err(refused(6, 0, node + 1));
     }
-    let mut tec = vec![0; study.nodes.len()];
+    let mut tec = vec![Tec::default(); study.nodes.len()];
     for station in &study.stations {
-        tec[station.node] += station.tec;
+        tec[station.node].all += station.tec;
+        if station.plant != INTERCONNECTOR {
+            tec[station.node].paying += station.tec;
+        }
     }
     let demand: i64 = study.nodes.iter().map(|node| node.demand).sum();
-    let total: i64 = tec.iter().sum();
+    let total: i64 = tec.iter().map(|tec| tec.all).sum();
+    let paying: i64 = tec.iter().map(|tec| tec.paying).sum();
     if !(1..=100_000_000).contains(&demand) || !(1..=100_000_000).contains(&total) || total < demand {
         return Err(refused(7, 0, 0));
     }
+    if paying == 0 {
+        return Err(refused(13, 0, 0));
+    }
     proposals(&study, &tec, demand, total, runs)?;
-    Ok(sheet(&study, &tec, demand, total, runs[1], runs[2]))
+    Ok(sheet(&study, &tec, demand, paying, runs[1], runs[2]))
 }
 
 /// Judges a case and writes its sheet into the lent buffer.

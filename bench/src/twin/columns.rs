@@ -164,6 +164,9 @@ fn read_stations(c: &Columns, s: &mut Stations, file: &[u8]) {
     }
 }
 
+/// Plant type 3 weighs and does not pay.
+const INTERCONNECTOR: usize = 3;
+
 /// TEC by node v and plant type t at 7 v + t - 1, then through the types by node.
 fn add_tec(c: &mut Columns, s: &Stations) {
     let mut by_type = [0; 1792];
@@ -175,6 +178,8 @@ fn add_tec(c: &mut Columns, s: &Stations) {
     }
     for cell in 0..1792 {
         c.scaling[cell / 7] += by_type[cell];
-        c.paying[cell / 7] += by_type[cell];
+        if cell % 7 + 1 != INTERCONNECTOR {
+            c.paying[cell / 7] += by_type[cell];
+        }
     }
 }

@@ -1,4 +1,4 @@
-//! The case file judged: refusals 1 to 7.
+//! The case file judged: refusals 1 to 7 and 13.
 
 use super::columns::{Columns, Settings, Stations};
 use super::fields::{key_at, name_at, name_formed, repeated, u32_at};
@@ -23,7 +23,8 @@ pub fn judge(file: &[u8], c: &Columns, s: &Stations, runs: [usize; 3]) -> Judged
     circuit?;
     station?;
     reach(c)?;
-    totals(c)
+    totals(c)?;
+    chargeable(c)
 }
 
 fn sound_settings(s: &Settings, nodes: usize) -> bool {
@@ -128,4 +129,11 @@ fn totals(c: &Columns) -> Judged {
         return Ok(());
     }
     refuse(7, 0)
+}
+
+fn chargeable(c: &Columns) -> Judged {
+    if c.paying[..c.nodes].iter().any(|kw| *kw > 0) {
+        return Ok(());
+    }
+    refuse(13, 0)
 }
