@@ -23,7 +23,7 @@ use Rattle.meaning.specs.Demands
 use Rattle.meaning.specs.Demands.{IsWritten, IsRefused, Recovered, SameButStations, Parts, Rearranged, exchanged, below, then, StationsRearranged, Agree, PassesToFive, AsIn01, Balances}
 use Rattle.meaning.proofs.Write.{fileOf}
 use Rattle.meaning.proofs.Kiln.{kiln, kilnRuns, kilnBase, kilnWider, kilnLocal, kilnSettings, kilnNodes, kilnCircuits, kilnStations, kilnSheet, kiln-judged, stationOf}
-use Rattle.meaning.proofs.Links.{half, half-judged}
+use Rattle.meaning.proofs.Links.{half}
 use Rattle.meaning.proofs.Opened.{opened}
 use Rattle.meaning.proofs.Rows.{rows-at}
 use Rattle.meaning.proofs.Whole.{judge-file}
@@ -163,8 +163,12 @@ kiln-as-in-01 : AsIn01 (studyOf kiln) kilnRuns
 unfolding opened
 kiln-as-in-01 = no-interconnector-no-change (studyOf kiln) kilnRuns kiln-without
 
+half-acceptable : Acceptable half kilnRuns
+unfolding opened
+half-acceptable = judged-pass half kilnRuns .0 refl
+
 half-recovered : Recovered (gridOf (studyOf half)) (sheetOf half kilnRuns)
-half-recovered = revenue-recovered half kilnRuns (judged-pass half kilnRuns .0 half-judged)
+half-recovered = revenue-recovered half kilnRuns half-acceptable
 
 half-balances : Balances (gridOf (studyOf half)) kilnRuns
-half-balances = centre-balances half kilnRuns (judged-pass half kilnRuns .0 half-judged)
+half-balances = centre-balances half kilnRuns half-acceptable

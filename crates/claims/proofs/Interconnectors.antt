@@ -1,20 +1,19 @@
 -- 02, request 1: who pays, and that 01's own figures stand where no interconnector is.
-use mathlib.Core.Path.{_≡_, refl, sym, _∙_, ap, ap₂}
+use mathlib.Core.Path.{_≡_, refl, _∙_, ap}
 use mathlib.Core.Bool.{cond}
-use Prim.Native.Nat.{ℕ, suc, _+_, _≤_, _<_}
+use Prim.Native.Nat.{ℕ, suc, _<_}
 use native.Mathlib.Omega.{arith}
 use lib.Dec.{eqb}
 use lib.IntN.{ℤ, pos, _*ℤ_}
 use lib.ListN.{length}
-use Rattle.integers.specs.Numbers.{sum, Σ}
+use Rattle.integers.specs.Numbers.{Σ}
 use Rattle.integers.proofs.Sum.{sum-same, Σ-same}
-use Rattle.meaning.specs.Study.{Study, Runs}
-use Rattle.meaning.specs.Grid.{Grid, gridOf, capacityOf, nodeTec, payingTec, totalTec, totalDemand}
+use Rattle.meaning.specs.Study.{Runs}
+use Rattle.meaning.specs.Grid.{Grid, gridOf, nodeTec, payingTec, totalTec, totalDemand}
 use Rattle.meaning.specs.declared.Side.the-variants.{Generation, Demand}
 use Rattle.meaning.specs.Figures.{zones, zoneOf, weight, paying, zoneWeight, zonePaying, totalPaying, overZones, C, localTariff, localIncome, rest, residual, remainder}
-use Rattle.meaning.specs.Conditions.{SoundTables, SoundStudy}
-use Rattle.meaning.specs.Demands.{Payers, AllButInterconnectorsPay, AllTecPays, AsIn01, NoInterconnectorNoChange}
-use Rattle.meaning.proofs.Plants.{capacityAt, capacity-at, all-weigh, all-but-three-pay}
+use Rattle.meaning.specs.Demands.{AllButInterconnectorsPay, AllTecPays, NoInterconnectorNoChange}
+use Rattle.meaning.proofs.Plants.{capacity-at, all-weigh, all-but-three-pay}
 
 pub all-but-interconnectors-pay : AllButInterconnectorsPay
 unfolding gridOf

@@ -4,3 +4,5 @@ pub mod Mended
 -- a middling case, and cases at the limits of their numbers
 pub mod Dale
 pub mod Limits
+-- interconnectors: what they bring in, and 13 in its place
+pub mod Links

@@ -3,7 +3,7 @@ use mathlib.Core.Path.{_≡_, _∙_, ap}
 use Prim.Native.Nat.{ℕ, suc, _+_, _*_, _-_, _≤_}
 use native.Mathlib.Omega.{arith}
 use lib.IntN.{ℤ, pos, negℤ, natAbs, _+ℤ_, _-ℤ_, _*ℤ_}
-use Rattle.integers.specs.Numbers.{sum, Σ}
+use Rattle.integers.specs.Numbers.{sum}
 use Rattle.integers.proofs.Core.{Z}
 use Rattle.integers.proofs.Sum.{Σ-same, Σ-raised}
 use Rattle.integers.proofs.Div.{nearest-error}

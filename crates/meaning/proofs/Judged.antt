@@ -13,7 +13,7 @@ use Rattle.meaning.specs.Answers.{_orElse_}
 use Rattle.meaning.specs.Grid.{gridOf}
 use Rattle.meaning.specs.Network.{networkOf}
 use Rattle.meaning.specs.Outcome.{fileStage, runsStage, rowsStage, gridStage, tablesStage, judged, sheetOf, bufferStage}
-use Rattle.meaning.specs.Conditions.{WholeFile, SoundTables, Acceptable}
+use Rattle.meaning.specs.Conditions.{WholeFile, Acceptable}
 use Rattle.meaning.specs.Refusals.{whole, AllMet, rowsOrder, gridOrder, proposalsOrder, caseOrder, order}
 use Rattle.meaning.proofs.Says.{says-le}
 use Rattle.meaning.proofs.Answers.{orElse-assoc}

@@ -1,29 +1,22 @@
--- 02, request 1: two small cases with interconnectors, plant type 3, by hand; and 13 in its place.
+-- 02, request 1: two small cases with interconnectors, plant type 3, by hand.
 use mathlib.Core.Path.{_≡_, refl}
 use mathlib.Core.List.{List, [], _∷_}
-use Prim.Native.Nat.{ℕ, _*_, _-_}
+use Prim.Native.Nat.{ℕ}
 use Prim.Native.String.{String}
 use lib.IntN.{pos}
-use lib.ListN.{replicate, set}
+use lib.ListN.{replicate}
 use Rattle.meaning.specs.Text.{text}
-use Rattle.meaning.specs.Study.{Station, Study, Runs}
-use Rattle.meaning.specs.declared.System.the-variants.{Base}
-use Rattle.meaning.specs.declared.Refusal.the-variants.{BadTotal, NoChargeableTec, BadNumber}
-use Rattle.meaning.specs.declared.Judgement.{Judgement}
-use Rattle.meaning.specs.declared.Judgement.the-variants.{Passes, Stops}
-use Rattle.meaning.specs.File.{studyOf}
-use Rattle.meaning.specs.Grid.{gridOf}
-use Rattle.meaning.specs.Outcome.{judged, prints}
-use Rattle.meaning.specs.Read.{printedIncome}
+use Rattle.meaning.specs.Study.{Station, Study}
+use Rattle.meaning.specs.Outcome.{prints}
 use Rattle.meaning.proofs.Write.{name, fileOf}
 use Rattle.meaning.proofs.Opened.{opened}
-use Rattle.meaning.proofs.Kiln.{nodeOf, stationOf, kilnSettings, kilnNodes, kilnCircuits, kilnBase, kilnWider, kilnLocal, kilnRuns}
+use Rattle.meaning.proofs.Kiln.{nodeOf, stationOf, kilnSettings, kilnNodes, kilnCircuits, kilnRuns}
 
 -- a station of type 3
 abbrev pub linkOf : String → String → ℕ → Station
 linkOf i n kw = record { identifier = name i; node = name n; plantType = 3; tec = kw }
 
-abbrev kilnWith : List Station → Study
+abbrev pub kilnWith : List Station → Study
 kilnWith stations = record { settings = kilnSettings; nodes = kilnNodes; circuits = kilnCircuits; stations = stations }
 
 -- KILN with NODB's 100,000 kW an interconnector: they weigh (28,333 m as before) and have their line, and do not pay. C is (-4,200 x 150,000 - 28,333 x 200,000) / 350,000,
@@ -31,37 +24,12 @@ kilnWith stations = record { settings = kilnSettings; nodes = kilnNodes; circuit
 abbrev pub half : List ℕ
 half = fileOf (kilnWith (stationOf "GEN_1" "NODA" 200000 ∷ linkOf "GEN_2" "NODB" 100000 ∷ [])) kilnRuns
 
-abbrev halfSheet : List ℕ
+abbrev pub halfSheet : List ℕ
 halfSheet = text "C -17990\nG 1 28333 10343 186174 63826 250000\nD 1 -4200 13790 248220 85113 333333\nL NODA 0 0\nL NODB 0 0\nR 0 50000\n"
 
 half-prints : prints half ≡ halfSheet
 unfolding opened
 half-prints = refl
-
-pub half-judged : judged half kilnRuns ≡ Passes
-unfolding opened
-half-judged = refl
-
--- read back over the 200,000 kW that pay, and demand's, the sheet brings in 100,000 pounds less its remainders
-half-income : printedIncome (gridOf (studyOf half)) halfSheet ≡ pos (100000 * 1000000 - 50000)
-unfolding opened
-half-income = refl
-
--- ---- 13 after 7 and before 8: KILN with interconnectors alone, and potential 1 at the reference
-abbrev linked : List Station → Judgement
-linked stations =
-    let runs : Runs = record { base = set kilnBase 2 (pos 1); wider = kilnWider; local = kilnLocal } in
-    judged (fileOf (kilnWith stations) runs) runs
-
--- too little TEC; enough, all of type 3; the same beside 0 kW that would pay; and beside 1 kW that pays
-in-place : linked (linkOf "GEN_1" "NODA" 100000 ∷ linkOf "GEN_2" "NODB" 49999 ∷ [])
-    ∷ linked (linkOf "GEN_1" "NODA" 100000 ∷ linkOf "GEN_2" "NODB" 50000 ∷ [])
-    ∷ linked (linkOf "GEN_1" "NODA" 200000 ∷ stationOf "GEN_2" "NODB" 0 ∷ [])
-    ∷ linked (linkOf "GEN_1" "NODA" 200000 ∷ stationOf "GEN_2" "NODB" 1 ∷ [])
-    ∷ []
-    ≡ Stops BadTotal ∷ Stops NoChargeableTec ∷ Stops NoChargeableTec ∷ Stops (BadNumber Base 3) ∷ []
-unfolding opened
-in-place = refl
 
 -- ---- a zone and a node of interconnectors alone, a node with one beside another type, and local income.
 -- A, zone 1: 300 kW that pay and 101 kW that don't; B, zone 2: 401 kW that don't. A marked circuit of 10 m carries 401 kW from A to B
