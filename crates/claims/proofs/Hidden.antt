@@ -25,11 +25,11 @@ use Rattle.meaning.proofs.Whole.{judge-file}
 use Rattle.claims.proofs.Same.{same-grid}
 
 -- what is answered after 1 to 5 is a function of the grid, the runs and the buffer's length
-afterFive : Grid → Runs → Judgement
+abbrev pub afterFive : Grid → Runs → Judgement
 afterFive G runs = gridStage G orElse proposalsStage G runs
 
-judged-after : (file : List ℕ) (runs : Runs) → PassesToFive file runs → judged file runs ≡ afterFive (gridOf (studyOf file)) runs
-unfolding judged tablesStage afterFive
+pub judged-after : (file : List ℕ) (runs : Runs) → PassesToFive file runs → judged file runs ≡ afterFive (gridOf (studyOf file)) runs
+unfolding judged tablesStage
 judged-after file runs p =
     let w = passes-orElse _ _ .0 (judge-file file runs .passes .1 (p .0, tt)) in
     ap (λ (a : Judgement). a orElse proposalsStage (gridOf (studyOf file)) runs)
@@ -42,11 +42,11 @@ pub judged-alike : (file file′ : List ℕ) (runs : Runs) → PassesToFive file
 judged-alike file file′ runs p p′ same =
     judged-after file runs p ∙ ap (λ (G : Grid). afterFive G runs) (same-grid same) ∙ sym (judged-after file′ runs p′)
 
-answered : Judgement → (sheet buffer : ℕ) → Answer
+pub answered : Judgement → (sheet buffer : ℕ) → Answer
 answered Passes sheet buffer = cond (leb sheet buffer) (Accepted sheet) (Refused ShortBuffer)
 answered (Stops r) sheet buffer = Refused r
 
-settled-answer : (file : List ℕ) (runs : Runs) (buffer : List ℕ)
+pub settled-answer : (file : List ℕ) (runs : Runs) (buffer : List ℕ)
     → settle file runs buffer .answer ≡ answered (judged file runs) (length (sheetOf file runs)) (length buffer)
 unfolding settle settledBy bufferStage unless _orElse_ refused written answered
 settled-answer file runs buffer = go (judged file runs) (leb (length (sheetOf file runs)) (length buffer)) refl

@@ -1,4 +1,4 @@
--- The demands are not empty: KILN, KILN with its stations divided and listed differently and with another proposal, and KILN with an interconnector.
+-- The demands are not empty: KILN, KILN with its stations divided and listed differently and with another proposal, with an interconnector, and with other plant types.
 use mathlib.Core.Path.{_≡_, refl, sym, _∙_, ap}
 use mathlib.Core.List.{List, [], _∷_}
 use Prim.Native.Nat.{ℕ, zero, suc, _+_, _≤_, _<_}
@@ -16,12 +16,12 @@ use Rattle.meaning.specs.Answers.{refusal, values}
 use Rattle.meaning.specs.Refusals.{Stopped}
 use Rattle.meaning.specs.declared.Judgement.the-variants.{Passes}
 use Rattle.meaning.specs.declared.Answer.the-variants.{Refused}
-use Rattle.meaning.specs.Grid.{gridOf, capacityOf}
+use Rattle.meaning.specs.Grid.{gridOf, capacityOf, nodeTec}
 use Rattle.meaning.specs.Outcome.{judged, sheetOf, settle}
 use Rattle.meaning.specs.Conditions.{InRange, Acceptable}
 use Rattle.meaning.specs.Demands
-use Rattle.meaning.specs.Demands.{IsWritten, IsRefused, Recovered, SameButStations, Parts, Rearranged, exchanged, below, then, StationsRearranged, Agree, PassesToFive, AsIn01, Balances}
-use Rattle.meaning.proofs.Write.{fileOf}
+use Rattle.meaning.specs.Demands.{IsWritten, IsRefused, Recovered, SameButStations, Parts, Rearranged, exchanged, below, then, StationsRearranged, Agree, PassesToFive, AsIn01, Balances, SameTotals}
+use Rattle.meaning.proofs.Write.{name, fileOf}
 use Rattle.meaning.proofs.Kiln.{kiln, kilnRuns, kilnBase, kilnWider, kilnLocal, kilnSettings, kilnNodes, kilnCircuits, kilnStations, kilnSheet, kiln-judged, stationOf}
 use Rattle.meaning.proofs.Links.{half}
 use Rattle.meaning.proofs.Opened.{opened}
@@ -30,7 +30,7 @@ use Rattle.meaning.proofs.Whole.{judge-file}
 use Rattle.meaning.proofs.Tables.{judge-rows}
 use Rattle.meaning.proofs.Judged.{judged-pass}
 use Rattle.claims.proofs.Stations.{rearranged}
-use Rattle.claims.proofs.Theorems.{accepted-exactly-when, refused-exactly-when, one-answer, revenue-recovered, centre-balances, solvers-agree, stations-hidden, no-interconnector-no-change}
+use Rattle.claims.proofs.Theorems.{accepted-exactly-when, refused-exactly-when, one-answer, revenue-recovered, centre-balances, solvers-agree, stations-hidden, no-interconnector-no-change, types-hidden}
 
 -- ---- KILN is acceptable, and settled in either way
 kiln-acceptable : Acceptable kiln kilnRuns
@@ -172,3 +172,31 @@ half-recovered = revenue-recovered half kilnRuns half-acceptable
 
 half-balances : Balances (gridOf (studyOf half)) kilnRuns
 half-balances = centre-balances half kilnRuns half-acceptable
+
+-- and KILN with a nuclear and a hydro station in place of two others: one sheet
+abbrev typed : String → String → (plantType tec : ℕ) → Station
+typed i n t kw = record { identifier = name i; node = name n; plantType = t; tec = kw }
+
+abbrev retyped : List ℕ
+retyped =
+    fileOf (record { settings = kilnSettings; nodes = kilnNodes; circuits = kilnCircuits; stations = typed "GEN_1" "NODA" 2 200000 ∷ typed "GEN_2" "NODB" 4 100000 ∷ [] })
+    kilnRuns
+
+retyped-totals : SameTotals (studyOf kiln) (studyOf retyped)
+unfolding opened
+retyped-totals = record { settings = refl; nodes = refl; circuits = refl; tec = tec; interconnectors = none }
+  where
+    tec : (v : ℕ) → v < 3 → nodeTec (gridOf (studyOf kiln)) v ≡ nodeTec (gridOf (studyOf retyped)) v
+    tec zero h = refl
+    tec (suc zero) h = refl
+    tec (suc (suc zero)) h = refl
+    tec (suc (suc (suc v))) h = absurd (omega arith)
+
+    none : (v : ℕ) → v < 3 → capacityOf (studyOf kiln) v 3 ≡ capacityOf (studyOf retyped) v 3
+    none zero h = refl
+    none (suc zero) h = refl
+    none (suc (suc zero)) h = refl
+    none (suc (suc (suc v))) h = absurd (omega arith)
+
+retyped-sheet : sheetOf kiln kilnRuns ≡ sheetOf retyped kilnRuns
+retyped-sheet = types-hidden kiln retyped kilnRuns retyped-totals .sheets

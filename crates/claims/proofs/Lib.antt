@@ -17,8 +17,9 @@ pub mod Pays
 pub mod ReadBack
 pub mod Money
 pub mod Recovered
--- 02, request 1: who pays
+-- 02, request 1: who pays, and what is seen of plant types
 pub mod Interconnectors
+pub mod Types
 -- a refusal read back from its line
 pub mod Told
 -- nothing of it is vacuous

@@ -1,5 +1,5 @@
 -- The user's demands, proved: each statement is a type of meaning/specs/Demands.antt, and its proof is in the file named here.
-use Rattle.meaning.specs.Demands.{EveryInputSettled, AcceptedExactlyWhen, RefusedExactlyWhen, OneAnswer, JudgeIsWrite, RevenueRecovered, CentreBalances, SolversAgree, StationsHidden, CapacityKept, SheetsFit, AllButInterconnectorsPay, NoInterconnectorNoChange}
+use Rattle.meaning.specs.Demands.{EveryInputSettled, AcceptedExactlyWhen, RefusedExactlyWhen, OneAnswer, JudgeIsWrite, RevenueRecovered, CentreBalances, SolversAgree, StationsHidden, CapacityKept, SheetsFit, AllButInterconnectorsPay, NoInterconnectorNoChange, TypesHidden}
 use Rattle.sizes.proofs.Accepted as Sizes
 use Rattle.claims.proofs.Accepted
 use Rattle.claims.proofs.Recovered
@@ -7,6 +7,7 @@ use Rattle.claims.proofs.Agree
 use Rattle.claims.proofs.Hidden
 use Rattle.claims.proofs.Stations
 use Rattle.claims.proofs.Interconnectors
+use Rattle.claims.proofs.Types
 
 -- demand 1: any bytes, runs and buffer give the sheet, or a refusal of 01's table with the buffer untouched
 pub every-input-settled : EveryInputSettled
@@ -59,3 +60,7 @@ all-but-interconnectors-pay = Interconnectors.all-but-interconnectors-pay
 -- and a case without interconnectors has 01's own C, rest, residual and remainder, and is never refused as 13
 pub no-interconnector-no-change : NoInterconnectorNoChange
 no-interconnector-no-change = Interconnectors.no-interconnector-no-change
+
+-- and of the stations no answer and no sheet shows more than each node's TEC and its interconnectors': other plant types stay hidden
+pub types-hidden : TypesHidden
+types-hidden = Types.types-hidden

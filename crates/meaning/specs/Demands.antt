@@ -235,3 +235,20 @@ pub record AsIn01 (S : Study) (runs : Runs) : Type 0 where
 abbrev pub NoInterconnectorNoChange : Type 0
 NoInterconnectorNoChange =
     (S : Study) (runs : Runs) → ((v : ℕ) → v < length (S .nodes) → capacityOf S v 3 ≡ 0) → AsIn01 S runs
+
+-- what is seen of the stations: of each node its TEC, and how much of it is interconnectors'
+pub record SameTotals (S S′ : Study) : Type 0 where
+  pub settings : S .settings ≡ S′ .settings
+  pub nodes : S .nodes ≡ S′ .nodes
+  pub circuits : S .circuits ≡ S′ .circuits
+  pub tec : (v : ℕ) → v < length (S .nodes) → nodeTec (gridOf S) v ≡ nodeTec (gridOf S′) v
+  pub interconnectors : (v : ℕ) → v < length (S .nodes) → capacityOf S v 3 ≡ capacityOf S′ v 3
+
+-- cases that pass 1 to 5 and agree in these get one answer, and with equal proposals one sheet, whatever the other plant types
+pub record OneOutcome (file file′ : List ℕ) (runs : Runs) : Type 0 where
+  pub sheets : sheetOf file runs ≡ sheetOf file′ runs
+  pub answers : PassesToFive file runs → PassesToFive file′ runs → (buffer buffer′ : List ℕ) → length buffer ≡ length buffer′
+      → settle file runs buffer .answer ≡ settle file′ runs buffer′ .answer
+
+abbrev pub TypesHidden : Type 0
+TypesHidden = (file file′ : List ℕ) (runs : Runs) → SameTotals (studyOf file) (studyOf file′) → OneOutcome file file′ runs

@@ -23,7 +23,7 @@ use Rattle.meaning.specs.declared.Figures.{Figures}
 use Rattle.meaning.specs.Columns.{noLine, noLocal}
 use Rattle.lines.specs.LineText.{zoneText, emptyZone, fullZone, localText, fullNode, constantText, remainderText}
 use Rattle.text.specs.SheetText.{zoneTexts, localTexts, sheetText, nameOf}
-use Rattle.text.proofs.Joined.{joined-same}
+use Rattle.meaning.proofs.Rows.{joined-same}
 use Rattle.lines.proofs.Lined.{zone-empty, zone-full, node-empty, node-full}
 
 module _ (G : Grid) (runs : Runs) where

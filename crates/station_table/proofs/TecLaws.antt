@@ -2,7 +2,7 @@
 use mathlib.Core.Path.{_≡_, refl, sym, _∙_, ap}
 use mathlib.Core.Logic.{_≢_}
 use mathlib.Core.Bool.{Bool, true, false, cond, _&&_}
-use mathlib.Core.List.{List, []}
+use mathlib.Core.List.{List}
 use Prim.Native.Nat.{ℕ, suc, _+_, _*_, _-_, _/_, _%_, _^_, _≤_, _<_, min}
 use native.Mathlib.Decide.{decLt}
 use native.Mathlib.Omega.{arith}
@@ -12,13 +12,13 @@ use lib.ListN.{length, getD, set, replicate, List·getD-eq-default}
 use Rattle.integers.specs.Numbers.{sum}
 use Rattle.integers.proofs.Sum.{sum-zero, sum-suc, sum-more, sum-same, sum-bound, sum-none}
 use Rattle.meaning.specs.Rows.{_between_and_, rows}
-use Rattle.meaning.specs.Study.{Study, Station, station, noStation}
+use Rattle.meaning.specs.Study.{Study, station, noStation}
 use Rattle.meaning.specs.File.{u32, stationAt}
-use Rattle.meaning.specs.Grid.{Grid, plantOf, scales, pays, place, tecAt, capacityOf, gridOf, tecOf as tecOfTest}
+use Rattle.meaning.specs.Grid.{plantOf, scales, pays, place, tecAt, capacityOf, gridOf, tecOf as tecOfTest}
 use Rattle.meaning.specs.declared.Kw.{Kw}
 use Rattle.meaning.specs.declared.Plant.{Plant}
 use Rattle.meaning.proofs.Rows.{rows-at, rows-past, rows-same, rows-set, rows-none}
-use Rattle.meaning.proofs.Plants.{capacityAt, capacity-at}
+use Rattle.meaning.proofs.Plants.{capacityAt, capacity-at, capacity-past}
 use Rattle.meaning.proofs.Says.{Says, says-as, _also_, says-eq, says-lt, says-between, agree}
 use Rattle.layout.specs.Readable.{readable}
 use Rattle.meaning.specs.Columns.{kilowatts, numberAt, kwAt}
@@ -178,10 +178,6 @@ module _ (S : Study) where
   abbrev capacity : ℕ → ℕ → ℕ
   capacity v t = capacityAt (gridOf S) v t
 
-  capacity-past : (v t : ℕ) → length (S .nodes) ≤ v → capacity v t ≡ 0
-  unfolding gridOf
-  capacity-past v t h = rw (rows-past [] (length (S .nodes)) (λ v. rows 7 (λ t. capacityOf S v (suc t))) v h) refl
-
   abbrev C : StationColumns
   C = stationsOf S
 
@@ -206,7 +202,7 @@ module _ (S : Study) where
       go (yes m) = sum-same _ _ _ (λ k h. part k (omega arith) c l m) ∙ sym (capacity-at S (c / 7) (c % 7) m (omega arith))
       go (no m) =
           sum-none _ _ (λ k h. simp (cell-out (length (S .nodes)) (numberAt (C .node) k) (numberAt (C .plant) k) c l (omega arith)))
-          ∙ sym (capacity-past (c / 7) (c % 7) (omega arith))
+          ∙ sym (capacity-past S (c / 7) (c % 7) (omega arith))
 
   pub by-type-is : (nodes count : ℕ) (columns : StationColumns) (by : List Kw) → nodes ≡ length (S .nodes) → count ≡ length (S .stations) → columns ≡ C
       → count ≤ 512 → by ≡ cells nodes (columns .node) (columns .plant) (columns .tec) count → by ≡ typesOf S
