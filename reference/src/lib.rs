@@ -1,4 +1,5 @@
-//! Independent reference for document 01 and change request 1 of 02: one study case in, a tariff sheet or a refusal out.
+//! Independent reference for document 01 and change requests 1 and 2 of 02: one study case in, a tariff sheet or a
+//! refusal out.
 //!
 //! Written from their words for clarity, not for speed: `i128` for every sum, one function for each
 //! sentence, and each function names its place. `judge_case` is the library entry, `program_output` what the

@@ -1,4 +1,5 @@
-//! 01 "Quantities": the units that may not stand for one another, the ranges, and the two roundings.
+//! 01 "Quantities": the units that may not stand for one another, the ranges, and the two roundings, of which 02, CR 2
+//! changes one.
 
 /// 01 "Quantities": kilowatts, of demand, of TEC, of scaled generation and of net.
 #[derive(Clone, Copy, Debug, Default, PartialEq, Eq, PartialOrd, Ord)]
@@ -57,13 +58,16 @@ pub fn within<T: PartialOrd>(number: T, range: (T, T)) -> bool {
     range.0 <= number && number <= range.1
 }
 
-/// 01 "Quantities": "nearest whole number, a half going up towards plus infinity". The divisor is above zero.
+/// 01 "Quantities": "Nearest means nearest whole number". 02, CR 2: "Nearest now always sends a half away from zero": the
+/// magnitude is rounded with a half going up, and has the number's sign. The divisor is above zero.
 pub fn nearest(number: i128, divisor: i128) -> i128 {
     assert!(divisor > 0);
-    (2 * number + divisor).div_euclid(2 * divisor)
+    let magnitude = rounded_down(2 * number.abs() + divisor, 2 * divisor);
+    number.signum() * magnitude
 }
 
-/// 01 steps 1 and 10: "rounded down (also below zero)". The divisor is above zero.
+/// 01 steps 1 and 10: "rounded down (also below zero)". 02, CR 2: "Residuals are still rounded down". The divisor is
+/// above zero.
 pub fn rounded_down(number: i128, divisor: i128) -> i128 {
     assert!(divisor > 0);
     number.div_euclid(divisor)

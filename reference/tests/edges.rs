@@ -1,4 +1,4 @@
-//! 01 "Figures on the edges", and the steps' roundings.
+//! 01 "Figures on the edges", and the steps' roundings; halves by 02, CR 2.
 
 mod common;
 
@@ -10,8 +10,17 @@ use reference::solutions::{direction, signed_length, Direction};
 use reference::tables::Circuit;
 
 #[test]
-fn metres_round_a_half_up() {
-    let edges = [(499_999_999, 0), (500_000_000, 1), (-500_000_000, 0), (-500_000_001, -1)];
+fn metres_round_a_half_away_from_zero() {
+    let edges = [
+        (499_999_999, 0),
+        (500_000_000, 1),
+        (500_000_001, 1),
+        (-499_999_999, 0),
+        (-500_000_000, -1),
+        (-500_000_001, -1),
+        (-1_499_999_999, -1),
+        (-1_500_000_000, -2),
+    ];
     for (nanometres, metres) in edges {
         assert_eq!(nodal_metres(nanometres), Metres(metres), "{nanometres}");
     }
@@ -22,7 +31,7 @@ fn nearest_of_small_numbers() {
     let threes: Vec<i128> = (-6..=6).map(|number| nearest(number, 3)).collect();
     assert_eq!(threes, [-2, -2, -1, -1, -1, 0, 0, 0, 1, 1, 1, 2, 2]);
     let fours: Vec<i128> = (-6..=6).map(|number| nearest(number, 4)).collect();
-    assert_eq!(fours, [-1, -1, -1, -1, 0, 0, 0, 0, 1, 1, 1, 1, 2]);
+    assert_eq!(fours, [-2, -1, -1, -1, -1, 0, 0, 0, 1, 1, 1, 1, 2]);
 }
 
 #[test]
@@ -100,9 +109,11 @@ fn tariffs() {
         (100_000, 1_007, 1_000, 1_007_000),
         (5_000_000, 1_000, 1_200, 60_000_000),
         (8_044, 1_000, 1_800, 144_792),
-        // Halves go up: 50,000 / 100,000 and its negative.
+        // Halves go away from zero: 50,000 / 100,000 and its negative.
+        (49, 1, 1_000, 0),
         (50, 1, 1_000, 1),
-        (-50, 1, 1_000, 0),
+        (-49, 1, 1_000, 0),
+        (-50, 1, 1_000, -1),
         (-51, 1, 1_000, -1),
     ];
     for (metres, constant, factor, expected) in edges {
@@ -114,22 +125,28 @@ fn tariffs() {
 fn residuals_round_down() {
     assert_eq!(residual(-1, Kw(3)), (MicroPerKw(-1), 2));
     assert_eq!(residual(-3, Kw(3)), (MicroPerKw(-1), 0));
+    // Halves too: 02, CR 2 changes nothing here.
+    assert_eq!(residual(-1, Kw(2)), (MicroPerKw(-1), 1));
+    assert_eq!(residual(1, Kw(2)), (MicroPerKw(0), 1));
+    assert_eq!(residual(-3, Kw(2)), (MicroPerKw(-2), 1));
+    assert_eq!(residual(3, Kw(2)), (MicroPerKw(1), 1));
     assert_eq!(residual(8, Kw(3)), (MicroPerKw(2), 2));
     assert_eq!(residual(218_000_000_000_000, Kw(65_000_000)), (MicroPerKw(3_353_846), 10_000_000));
     assert_eq!(residual(649_000_000_000_000, Kw(50_000_000)), (MicroPerKw(12_980_000), 0));
 }
 
 #[test]
-fn zone_averages_round_a_half_up_as_signed_numbers() {
+fn zone_averages_round_a_half_away_from_zero() {
     let row = |metres, kw| ZoneRow { zone: 1, metres: Metres(metres), weight: Kw(kw), chargeable: Kw(kw) };
     let average = |rows: &[ZoneRow]| zones(1, rows)[0].metres;
     assert_eq!(average(&[row(1, 5), row(0, 5)]), Some(Metres(1)));
-    assert_eq!(average(&[row(-1, 5), row(0, 5)]), Some(Metres(0)));
+    assert_eq!(average(&[row(-1, 5), row(0, 5)]), Some(Metres(-1)));
     assert_eq!(average(&[row(-1, 6), row(0, 5)]), Some(Metres(-1)));
+    assert_eq!(average(&[row(-1, 5), row(0, 6)]), Some(Metres(0)));
     assert_eq!(average(&[row(7, 0), row(9, 0)]), None);
-    // Demand: rounded first, then turned round: 500,000,000 nm is 1 m, and -1 m for demand.
+    // Demand: 500,000,000 nm is 1 m, and -1 m for demand; and the other way round.
     assert_eq!(demand_metres(nodal_metres(500_000_000)), Metres(-1));
-    assert_eq!(demand_metres(nodal_metres(-500_000_000)), Metres(0));
+    assert_eq!(demand_metres(nodal_metres(-500_000_000)), Metres(1));
 }
 
 #[test]
@@ -174,20 +191,21 @@ fn one_node_and_no_circuits_may_pass() {
 }
 
 #[test]
-fn metres_are_rounded_before_demand_turns_them_round() {
+fn demand_has_the_metres_of_generation_seen_from_the_other_end() {
     let mut case = pair(1_000, vec![circuit("GENR", "LOAD", 1, 1)]);
     case.circuits[0].voltage = 275;
     case.settings.factors[2] = 1_500;
-    // From GENR, LOAD stands at -1.5 m: -1, and so 1 for demand; turned round first it would be 2. C is a half: 1.
+    // From GENR, LOAD stands at -1.5 m: -2, and so 2 for demand. C is half of that.
     case.runs[0] = vec![0, -1_000_000_000, 1_000_000_000];
     case.runs[1] = vec![0, -1_500_000_000, 0];
     assert!(accepted(&case, |_| ()).starts_with("C 1\nG 1 0 1 "));
-    assert!(accepted(&case, |_| ()).contains("\nD 1 1 0 "));
-    // From LOAD, GENR stands at 1.5 m: 2 for generation.
+    assert!(accepted(&case, |_| ()).contains("\nD 1 2 1 "));
+    // From LOAD, GENR stands at 1.5 m: 2 for generation, and C is -1.
     case.settings.reference = 2;
     case.runs[0] = vec![1_000_000_000, 0, 1_000_000_000];
     case.runs[1] = vec![1_500_000_000, 0, 0];
-    assert!(accepted(&case, |_| ()).contains("\nG 1 2 "));
+    assert!(accepted(&case, |_| ()).starts_with("C -1\nG 1 2 1 "));
+    assert!(accepted(&case, |_| ()).contains("\nD 1 0 1 "));
 }
 
 #[test]

@@ -6,21 +6,15 @@ use common::*;
 use reference::charges::{node_chargeable, node_tec};
 use reference::file::{Case, StationRow};
 use reference::quantities::Kw;
-use reference::replay::{cases, Labelled};
+use reference::replay::cases;
 use reference::tables::{judge_chargeable, sound_tables, INTERCONNECTOR};
-use reference::{judge_case, judge_into, program_output, Answer, Refusal};
+use reference::{judge_case, judge_into, Answer, Refusal};
 
 const THIRTEEN: Refusal = Refusal { number: 13, system: 0, row: 0 };
 
 /// Makes interconnectors of all stations.
 fn make_all_links(case: &mut Case) {
     case.stations.iter_mut().for_each(|row| row.plant = INTERCONNECTOR);
-}
-
-/// The sheet of a case of the replay's list.
-fn sheet_of(list: &[Labelled], label: &str) -> String {
-    let case = list.iter().find(|case| case.label == label).unwrap_or_else(|| panic!("no case {label}"));
-    String::from_utf8(program_output(&case.file)).unwrap()
 }
 
 #[test]

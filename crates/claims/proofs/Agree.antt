@@ -24,6 +24,7 @@ use Rattle.meaning.specs.Figures.{metres, widerMetres, localMetres}
 use Rattle.meaning.specs.Sheet.{sheet}
 use Rattle.meaning.specs.Conditions.{SoundTables, HasLength}
 use Rattle.meaning.specs.Demands.{SolversAgree}
+use Rattle.meaning.proofs.Mirror.{metres-near}
 use Rattle.meaning.proofs.Tables.{placed, rowwise}
 use Rattle.network.specs.Statements.{Sound, SolvedTwice}
 use Rattle.network.proofs.Theorems.{directions-agree, potentials-close, metres-agree}
@@ -111,8 +112,10 @@ module _ (S : Study) (sound : SoundTables S) (runs runs′ : Runs) (s : Solved (
 
   metre : (system : System) (v : ℕ) → v < length (S .nodes)
       → natAbs (metres (potential (runOf runs system) v) -ℤ metres (potential (runOf runs′ system) v)) ≤ 1
-  unfolding metres
-  metre system v h = metres-agree _ _ _ _ _ (twice system (same-offset system)) v (sound .reached v h)
+  metre system v h =
+      let z = potential (runOf runs system) v in
+      let z′ = potential (runOf runs′ system) v in
+      metres-agree _ _ _ _ _ (twice system (same-offset system)) v (sound .reached v h) (metres z) (metres z′) (metres-near z) (metres-near z′)
 
 -- ---- demand 3
 pub solvers-agree : SolversAgree

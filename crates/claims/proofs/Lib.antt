@@ -20,7 +20,10 @@ pub mod Recovered
 -- 02, request 1: who pays, and what is seen of plant types
 pub mod Interconnectors
 pub mod Types
+-- 02, request 2: generation and demand mirror each other
+pub mod Mirrored
 -- a refusal read back from its line
 pub mod Told
 -- nothing of it is vacuous
 pub mod Instance
+pub mod Halves

@@ -1,7 +1,7 @@
 -- The lines of a sheet, each as its fields: what F of a line's fields adds to the whole.
-use mathlib.Core.Path.{_≡_, refl}
+use mathlib.Core.Path.{_≡_, refl, sym}
 use mathlib.Core.List.{List, [], _∷_}
-use mathlib.Core.Bool.{Bool, true, false, cond}
+use mathlib.Core.Bool.{Bool, true, false, cond, true≢false}
 use Prim.Native.Nat.{ℕ, suc, _<_}
 use native.Mathlib.Omega.{arith}
 use lib.Dec.{eqb}
@@ -51,7 +51,7 @@ module _ (G : Grid) (runs : Runs) where
   pub record Worth (F : Line → ℤ) (zone : Side → ℕ → ℤ) (local : ℕ → ℤ) (left : ℤ) : Type 0 where
     pub start : F firstLine ≡ pos 0
     pub empty : (side : Side) (z : ℕ) → zoneWeight G side z ≡ 0 → F (emptyZone side z) ≡ zone side z
-    pub full : (side : Side) (z : ℕ) → F (fullZone side z) ≡ zone side z
+    pub full : (side : Side) (z : ℕ) → (zoneWeight G side z ≡ 0 → ⊥) → F (fullZone side z) ≡ zone side z
     pub silent : (v : ℕ) → nodeTec G v ≡ 0 → pos 0 ≡ local v
     pub printed : (v : ℕ) → v < length (G .nodes) → F (nodeLine v) ≡ local v
     pub last : F lastLine ≡ left
@@ -66,9 +66,9 @@ number : (z : ℤ) {fs : Line} → Fields fs → Fields (decimal z ∷ fs)
 number z t = field (decimal-from z) t
 
 -- one of two texts, by a test
-adds-either : {F : Line → ℤ} {s t : List ℕ} {v : ℤ} {P : Type 0} (b : Bool) → Says b P → (P → Adds F s v) → Adds F t v → Adds F (cond b s t) v
-adds-either true e f a = f (e .0 refl)
-adds-either false e f a = a
+adds-either : {F : Line → ℤ} {s t : List ℕ} {v : ℤ} {P : Type 0} (b : Bool) → Says b P → (P → Adds F s v) → ((P → ⊥) → Adds F t v) → Adds F (cond b s t) v
+adds-either true e f g = f (e .0 refl)
+adds-either false e f g = g (λ p. true≢false (sym (e .1 p)))
 
 worth : {F : Line → ℤ} {t : List ℕ} {v w : ℤ} → Adds F t v → v ≡ w → Adds F t w
 worth a e = rw e at a
@@ -82,7 +82,7 @@ module _ (G : Grid) (runs : Runs) (F : Line → ℤ) (named : (v : ℕ) → v < 
       let k = from-lower {low = 45} (omega arith) (natural-from z) in
       adds-either (eqb (zoneWeight G side z) 0) says-eq
       (λ e. worth (adds-line F l (field k (field (more 45 (omega arith) none) end))) (w .empty side z e))
-      (worth (adds-line F l (field k (number _ (number _ (number _ (number _ (number _ end))))))) (w .full side z))
+      (λ e. worth (adds-line F l (field k (number _ (number _ (number _ (number _ (number _ end))))))) (w .full side z e))
 
   add-zones : (side : Side) → Adds F (zoneLines G runs side) (Σ (zones G side) (λ k. zone side (suc k)))
   unfolding zoneLines
@@ -93,7 +93,7 @@ module _ (G : Grid) (runs : Runs) (F : Line → ℤ) (named : (v : ℕ) → v < 
   add-local v h =
       let n = from-lower {low = 45} (omega arith) (name-from (named v h)) in
       adds-either (eqb (nodeTec G v) 0) says-eq (λ e. worth (adds-none F) (w .silent v e))
-      (worth (adds-line F (more 76 (omega arith) none) (field n (number _ (number _ end)))) (w .printed v h))
+      (λ e. worth (adds-line F (more 76 (omega arith) none) (field n (number _ (number _ end)))) (w .printed v h))
 
   pub add-sheet : Adds F (sheet G runs)
       (pos 0

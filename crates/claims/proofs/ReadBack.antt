@@ -1,5 +1,5 @@
 -- Read back from its bytes, a sheet brings in the totals of its zones and the local tariffs of its nodes, and shows its two remainders.
-use mathlib.Core.Path.{_≡_, refl, sym, _∙_, ap}
+use mathlib.Core.Path.{_≡_, refl, sym, _∙_, ap, ap₂}
 use mathlib.Core.List.{List, [], _∷_}
 use mathlib.Core.Bool.{true, cond}
 use Prim.Native.Nat.{ℕ, suc, _≤_, _<_}
@@ -52,15 +52,14 @@ module _ (G : Grid) where
   income-over Generation t = refl
   income-over Demand t = refl
 
--- how far a zone's total is from its tariff and its residual
-gap : Side → Line → ℕ
-gap side fs =
-    cond (sameName (getD fs 0 []) (letter side)) (natAbs (readWhole (getD fs 6 []) -ℤ (readWhole (getD fs 4 []) +ℤ readWhole (getD fs 5 [])))) 0
+-- how far two numbers of a zone's line are apart
+gap : Side → (a b : Line → ℤ) → Line → ℕ
+gap side a b fs = cond (sameName (getD fs 0 []) (letter side)) (natAbs (a fs -ℤ b fs)) 0
 
-no-gap : (side : Side) → gap side ([] ∷ []) ≡ 0
+no-gap : (side : Side) (a b : Line → ℤ) → gap side a b ([] ∷ []) ≡ 0
 unfolding gap sameName letter
-no-gap Generation = refl
-no-gap Demand = refl
+no-gap Generation a b = refl
+no-gap Demand a b = refl
 
 left : Side → Line → ℤ
 left side fs = cond (sameName (getD fs 0 []) (text "R")) (readWhole (getD fs (remainderField side) [])) (pos 0)
@@ -139,38 +138,16 @@ module _ (S : Study) (sound : SoundTables S) (runs : Runs) where
   income-worth : (side : Side) → Worth G runs (ofSide G side) (zoneTo side) (nodeTo side) (pos 0)
   unfolding ofSide ofZone ofNode sameName letter gridOf
   income-worth Generation =
-      record { start = refl; empty = empty-zone Generation; full = full-zone Generation; silent = no-line Generation; printed = node-line Generation; last = refl }
+      record { start = refl; empty = empty-zone Generation; full = λ s z e. full-zone Generation s z; silent = no-line Generation; printed = node-line Generation; last = refl }
   income-worth Demand =
-      record { start = refl; empty = empty-zone Demand; full = full-zone Demand; silent = no-line Demand; printed = node-line Demand; last = refl }
+      record { start = refl; empty = empty-zone Demand; full = λ s z e. full-zone Demand s z; silent = no-line Demand; printed = node-line Demand; last = refl }
 
-  -- a zone's line has no gap
-  closed : (side : Side) (z : ℕ)
-      → natAbs (readWhole (decimal (zoneTotal G runs side z)) -ℤ (readWhole (decimal (zoneTariff G runs side z)) +ℤ readWhole (decimal (residual G runs side)))) ≡ 0
+  total-added : (side : Side) (z : ℕ)
+      → readWhole (decimal (zoneTotal G runs side z)) ≡ readWhole (decimal (zoneTariff G runs side z)) +ℤ readWhole (decimal (residual G runs side))
   unfolding zoneTotal
-  closed side z =
-      rw (read-decimal (zoneTotal G runs side z), read-decimal (zoneTariff G runs side z), read-decimal (residual G runs side))
-      (zero-apart (zoneTariff G runs side z +ℤ residual G runs side))
-
-  empty-gap : (side s : Side) (z : ℕ) → gap side (emptyZone G runs s z) ≡ 0
-  unfolding gap sameName letter readWhole
-  empty-gap Generation Generation z = refl
-  empty-gap Generation Demand z = refl
-  empty-gap Demand Generation z = refl
-  empty-gap Demand Demand z = refl
-
-  full-gap : (side s : Side) (z : ℕ) → gap side (fullZone G runs s z) ≡ 0
-  unfolding gap sameName letter zoneTotal
-  full-gap Generation Generation z = closed Generation z
-  full-gap Generation Demand z = refl
-  full-gap Demand Generation z = refl
-  full-gap Demand Demand z = closed Demand z
-
-  gap-worth : (side : Side) → Worth G runs (λ fs. pos (gap side fs)) (λ s z. pos 0) (λ v. pos 0) (pos 0)
-  unfolding gap sameName letter readWhole gridOf
-  gap-worth Generation =
-      record { start = refl; empty = λ s z e. ap pos (empty-gap Generation s z); full = λ s z. ap pos (full-gap Generation s z); silent = λ v e. refl; printed = λ v h. refl; last = refl }
-  gap-worth Demand =
-      record { start = refl; empty = λ s z e. ap pos (empty-gap Demand s z); full = λ s z. ap pos (full-gap Demand s z); silent = λ v e. refl; printed = λ v h. refl; last = refl }
+  total-added side z =
+      read-decimal (zoneTariff G runs side z +ℤ residual G runs side)
+      ∙ sym (ap₂ _+ℤ_ (read-decimal (zoneTariff G runs side z)) (read-decimal (residual G runs side)))
 
   last-line : (side : Side) → left side (lastLine G runs) ≡ remainder G runs side
   unfolding left sameName remainderField
@@ -182,7 +159,7 @@ module _ (S : Study) (sound : SoundTables S) (runs : Runs) where
   left-worth side = record {
     start = refl;
     empty = λ s z e. no-letter side s (drop 1 (emptyZone G runs s z));
-    full = λ s z. no-letter side s (drop 1 (fullZone G runs s z));
+    full = λ s z e. no-letter side s (drop 1 (fullZone G runs s z));
     silent = λ v e. refl;
     printed = λ v h. refl;
     last = last-line side;
@@ -210,22 +187,56 @@ module _ (S : Study) (sound : SoundTables S) (runs : Runs) where
       of Generation = rw (none (zones G Demand)) (simp Z (omega arith))
       of Demand = rw (none (zones G Generation), none (length (G .nodes))) (simp Z (omega arith))
 
+  -- ---- two numbers that are equal on the line of every zone of a side are equal on every line with its letter
+  module _ (a b : Line → ℤ) where
+    abbrev OnEmpty : Side → Type 0
+    OnEmpty side = (z : ℕ) → zoneWeight G side z ≡ 0 → a (emptyZone G runs side z) ≡ b (emptyZone G runs side z)
+
+    abbrev OnFull : Side → Type 0
+    OnFull side = (z : ℕ) → (zoneWeight G side z ≡ 0 → ⊥) → a (fullZone G runs side z) ≡ b (fullZone G runs side z)
+
+    closed : (y z : ℤ) → y ≡ z → natAbs (y -ℤ z) ≡ 0
+    closed y z e = rw e (zero-apart z)
+
+    empty-gap : (side s : Side) → OnEmpty side → (z : ℕ) → zoneWeight G s z ≡ 0 → gap side a b (emptyZone G runs s z) ≡ 0
+    unfolding gap sameName letter
+    empty-gap Generation Generation h z e = closed _ _ (h z e)
+    empty-gap Generation Demand h z e = refl
+    empty-gap Demand Generation h z e = refl
+    empty-gap Demand Demand h z e = closed _ _ (h z e)
+
+    full-gap : (side s : Side) → OnFull side → (z : ℕ) → (zoneWeight G s z ≡ 0 → ⊥) → gap side a b (fullZone G runs s z) ≡ 0
+    unfolding gap sameName letter
+    full-gap Generation Generation h z e = closed _ _ (h z e)
+    full-gap Generation Demand h z e = refl
+    full-gap Demand Generation h z e = refl
+    full-gap Demand Demand h z e = closed _ _ (h z e)
+
+    gap-worth : (side : Side) → OnEmpty side → OnFull side → Worth G runs (λ fs. pos (gap side a b fs)) (λ s z. pos 0) (λ v. pos 0) (pos 0)
+    unfolding gap sameName letter gridOf
+    gap-worth Generation h k =
+        record { start = refl; empty = λ s z e. ap pos (empty-gap Generation s h z e); full = λ s z e. ap pos (full-gap Generation s k z e); silent = λ v e. refl; printed = λ v l. refl; last = refl }
+    gap-worth Demand h k =
+        record { start = refl; empty = λ s z e. ap pos (empty-gap Demand s h z e); full = λ s z e. ap pos (full-gap Demand s k z e); silent = λ v e. refl; printed = λ v l. refl; last = refl }
+
+    pub lines-agree : (side : Side) → OnEmpty side → OnFull side → (i : ℕ) → hasLetter (letter side) (lineAt i (sheet G runs)) ≡ true
+        → a (pieces 32 (lineAt i (sheet G runs))) ≡ b (pieces 32 (lineAt i (sheet G runs)))
+    unfolding hasLetter field gap pieces
+    lines-agree side h k i l = not-apart _ _ (open-gap (each-none (λ t. gap side a b (pieces 32 t)) (no-gap side a b) (pieces 10 (sheet G runs)) all-closed i))
+      where
+        all-closed : over (λ fs. pos (gap side a b fs)) (sheet G runs) ≡ pos 0
+        all-closed =
+            adds-all (λ fs. pos (gap side a b fs)) (add-sheet G runs (λ fs. pos (gap side a b fs)) named _ _ (pos 0) (gap-worth side h k)) (ap pos (no-gap side a b))
+            ∙ rw (none (zones G Generation), none (zones G Demand), none (length (G .nodes))) refl
+
+        open-gap : gap side a b (pieces 32 (lineAt i (sheet G runs))) ≡ 0 → natAbs (a (pieces 32 (lineAt i (sheet G runs))) -ℤ b (pieces 32 (lineAt i (sheet G runs)))) ≡ 0
+        open-gap e = rw l at e
+
+  -- a printed total is its tariff and its residual
   pub total-read : (side : Side) (k : ℕ) → hasLetter (letter side) (lineAt k (sheet G runs)) ≡ true
       → readWhole (field 6 (lineAt k (sheet G runs))) ≡ readWhole (field 4 (lineAt k (sheet G runs))) +ℤ readWhole (field 5 (lineAt k (sheet G runs)))
-  unfolding hasLetter field gap pieces
-  total-read side k h = not-apart _ _ (open-gap (each-none (λ l. gap side (pieces 32 l)) nothing (pieces 10 (sheet G runs)) all-closed k))
-    where
-      all-closed : over (λ fs. pos (gap side fs)) (sheet G runs) ≡ pos 0
-      all-closed =
-          adds-all (λ fs. pos (gap side fs)) (add-sheet G runs (λ fs. pos (gap side fs)) named _ _ (pos 0) (gap-worth side)) (ap pos (no-gap side))
-          ∙ rw (none (zones G Generation), none (zones G Demand), none (length (G .nodes))) refl
-
-      nothing : gap side (pieces 32 []) ≡ 0
-      nothing = no-gap side
-
-      open-gap : gap side (pieces 32 (lineAt k (sheet G runs))) ≡ 0
-          → natAbs (readWhole (field 6 (lineAt k (sheet G runs))) -ℤ (readWhole (field 4 (lineAt k (sheet G runs))) +ℤ readWhole (field 5 (lineAt k (sheet G runs))))) ≡ 0
-      open-gap e = rw h at e
+  unfolding field readWhole
+  total-read side = lines-agree (λ fs. readWhole (getD fs 6 [])) (λ fs. readWhole (getD fs 4 []) +ℤ readWhole (getD fs 5 [])) side (λ z e. refl) (λ z e. total-added side z)
 
   pub remainder-read : (side : Side) → printedRemainder side (sheet G runs) ≡ remainder G runs side
   remainder-read side =

@@ -1,5 +1,7 @@
--- The user's demands, proved: each statement is a type of meaning/specs/Demands.antt, and its proof is in the file named here.
+-- The user's demands, proved: each statement is a type of meaning/specs/Demands.antt or, for request 2, Mirror.antt, and its proof is in the file named here.
 use Rattle.meaning.specs.Demands.{EveryInputSettled, AcceptedExactlyWhen, RefusedExactlyWhen, OneAnswer, JudgeIsWrite, RevenueRecovered, CentreBalances, SolversAgree, StationsHidden, CapacityKept, SheetsFit, AllButInterconnectorsPay, NoInterconnectorNoChange, TypesHidden}
+use Rattle.meaning.specs.Mirror.{NearestMirrors, OnlyNegativeHalvesMove, AveragesMirror, ZonesMirror, PrintedMirror, SidesMirror, MoneyMirrors}
+use Rattle.meaning.proofs.Mirror as Mirror
 use Rattle.sizes.proofs.Accepted as Sizes
 use Rattle.claims.proofs.Accepted
 use Rattle.claims.proofs.Recovered
@@ -8,6 +10,7 @@ use Rattle.claims.proofs.Hidden
 use Rattle.claims.proofs.Stations
 use Rattle.claims.proofs.Interconnectors
 use Rattle.claims.proofs.Types
+use Rattle.claims.proofs.Mirrored
 
 -- demand 1: any bytes, runs and buffer give the sheet, or a refusal of 01's table with the buffer untouched
 pub every-input-settled : EveryInputSettled
@@ -64,3 +67,31 @@ no-interconnector-no-change = Interconnectors.no-interconnector-no-change
 -- and of the stations no answer and no sheet shows more than each node's TEC and its interconnectors': other plant types stay hidden
 pub types-hidden : TypesHidden
 types-hidden = Types.types-hidden
+
+-- 02, request 2: a number's negative has the negative nearest
+pub nearest-mirrors : NearestMirrors
+nearest-mirrors = Mirror.nearest-mirrors
+
+-- and of the roundings of 01 only a half below zero moved, by one
+pub only-negative-halves-move : OnlyNegativeHalvesMove
+only-negative-halves-move = Mirror.only-negative-halves-move
+
+-- negating metres and then averaging is averaging and then negating
+pub averages-mirror : AveragesMirror
+averages-mirror = Mirror.averages-mirror
+
+-- a generation zone and a demand zone with the same nodes and weights have opposite metres, before and after C, and opposite tariffs
+pub zones-mirror : ZonesMirror
+zones-mirror = Mirror.zones-mirror
+
+-- and print them
+pub printed-mirror : PrintedMirror
+printed-mirror = Mirrored.printed-mirrors
+
+-- a case whose sides are exchanged and whose potentials are turned round has C and the local figures turned round, and its `G` and `D` figures exchanged
+pub sides-mirror : SidesMirror
+sides-mirror = Mirror.sides-mirror
+
+-- and with the same revenue and no local income residuals, totals and remainders too: all of the sheet but its `L` lines
+pub money-mirrors : MoneyMirrors
+money-mirrors = Mirror.money-mirrors

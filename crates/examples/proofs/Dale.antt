@@ -1,6 +1,6 @@
 -- A middling case, DALE: five nodes, seven circuits at 400, 275 and 132 kV with overhead and cable, two of them marked, six stations of five plant types,
 -- an empty zone on each side, p 270. Two kilowatts are missing and three nodes have something over; one circuit is idle and two flow backward;
--- the average of demand zone 2 is -33,006.5. LINK is an interconnector and all the TEC of generation zone 3, whose line nobody pays.
+-- the average of demand zone 2 is -33,006.5, a half, and so -33,007. LINK is an interconnector and all the TEC of generation zone 3, whose line nobody pays.
 -- Its proposals come from a solver outside, and its sheet from an independent reference.
 use mathlib.Core.Path.{_≡_, refl}
 use mathlib.Core.List.{List, [], _∷_, _++_}
@@ -95,7 +95,7 @@ dale-judged = refl
 
 abbrev daleSheet : List ℕ
 daleSheet =
-    text "C -29144\n" ++ text "G 1 44783 15639 283473 13964032 14247505\n" ++ text "G 2 -\n" ++ text "G 3 18591 -10553 -191284 13964032 13772748\n" ++ text "D 1 0 29144 528264 4724681 5252945\n" ++ text "D 2 -33006 -3862 -70003 4724681 4654678\n" ++ text "D 3 -\n" ++ text "L FELL 799 8167\n" ++ text "L QUAY 406 4150\n" ++ text "L VALE 10010 102313\n" ++ text "R 26610 40305\n"
+    text "C -29145\n" ++ text "G 1 44783 15638 283454 13964051 14247505\n" ++ text "G 2 -\n" ++ text "G 3 18591 -10554 -191302 13964051 13772749\n" ++ text "D 1 0 29145 528282 4724676 5252958\n" ++ text "D 2 -33007 -3862 -70003 4724676 4654673\n" ++ text "D 3 -\n" ++ text "L FELL 799 8167\n" ++ text "L QUAY 406 4150\n" ++ text "L VALE 10010 102313\n" ++ text "R 26610 41342\n"
 
 dale-prints : prints dale ≡ daleSheet
 unfolding opened

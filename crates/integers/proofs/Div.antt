@@ -1,5 +1,5 @@
 -- Division of a whole number by a natural above 0: rounded down (its laws are in Floor.antt), and to the nearest.
--- All that is said here of the nearest follows from `nearest-error`, and holds whatever happens to a half.
+-- All that is said here of the nearest follows from `nearest-error`, and holds whatever happens to a half; only `nearest-mirror` and `nearest-moved` know where it goes.
 use mathlib.Core.Path.{_≡_}
 use mathlib.Core.Logic.{_⊎_, inl, inr}
 use Prim.Native.Nat.{ℕ, zero, suc, _*_, _^_, _≤_, _<_}
@@ -10,23 +10,18 @@ use lib.Pow.{pow-pos}
 use lib.Signed.{_≤ℤ_, _<ℤ_}
 use mir.Syntax.{Width}
 use mir.Val.{SFits, hbits}
-use Rattle.integers.specs.Numbers.{nearest}
+use Rattle.integers.specs.Numbers.{rounded, nearest, Near}
 use Rattle.integers.proofs.Core.{Z}
 use Rattle.integers.proofs.Laws.{lt-of-mul-lt, le-or-lt, le-antisymm, le-refl}
-use Rattle.integers.proofs.Half.{nearest-is, nearest-none}
-pub use Rattle.integers.proofs.Floor.{IsFloor, floor-is, floor-unique, floor-mono, floor-add, floor-exact, floor-floor, floor-le, floor-ge, floor-within, floor-abs, floor-fits}
+use Rattle.integers.proofs.Half.{nearest-none}
+pub use Rattle.integers.proofs.Half.{nearest-error, nearest-mirror, nearest-moved}
+pub use Rattle.integers.proofs.Floor.{IsFloor, floor-is, floor-unique, floor-mono, floor-add, floor-exact, floor-floor, floor-le, floor-ge, floor-within, floor-abs}
 
--- 2·|z − q·d| ≤ d
-pub nearest-error : (z : ℤ) (d : ℕ) → 0 < d → natAbs (pos 2 *ℤ (z -ℤ nearest z d *ℤ pos d)) ≤ d
-nearest-error z d p = simp Z (omega (arith, simp Z at (nearest-is z d p .low), simp Z at (nearest-is z d p .high)))
-
--- numbers less than d apart have nearest ones at most 1 apart
-pub nearest-apart : (y z : ℤ) (d : ℕ) → 0 < d → natAbs (y -ℤ z) < d → natAbs (nearest y d -ℤ nearest z d) ≤ 1
-nearest-apart y z d p h =
-    let f = nearest-error y d p in
-    let g = nearest-error z d p in
-    let above = lt-of-mul-lt d (nearest y d) (nearest z d +ℤ pos 2) (simp Z (omega (arith, simp Z at f, simp Z at g, simp Z at h))) in
-    let below = lt-of-mul-lt d (nearest z d) (nearest y d +ℤ pos 2) (simp Z (omega (arith, simp Z at f, simp Z at g, simp Z at h))) in
+-- nearest numbers k and l, however each was chosen, of numbers less than d apart are at most 1 apart
+pub near-apart : (y z : ℤ) (d : ℕ) (k l : ℤ) → Near y d k → Near z d l → natAbs (y -ℤ z) < d → natAbs (k -ℤ l) ≤ 1
+near-apart y z d k l f g h =
+    let above = lt-of-mul-lt d k (l +ℤ pos 2) (simp Z (omega (arith, simp Z at f, simp Z at g, simp Z at h))) in
+    let below = lt-of-mul-lt d l (k +ℤ pos 2) (simp Z (omega (arith, simp Z at f, simp Z at g, simp Z at h))) in
     simp Z (omega (arith, simp Z at above, simp Z at below))
 
 pub nearest-mono : (x y : ℤ) (d : ℕ) → 0 < d → x ≤ℤ y → nearest x d ≤ℤ nearest y d
@@ -56,7 +51,7 @@ nearest-ge z k d p h = rw (nearest-exact k d p) at (nearest-mono (k *ℤ pos d) 
 
 -- at every d
 pub nearest-within : (z : ℤ) (b d : ℕ) → natAbs z ≤ b * d → natAbs (nearest z d) ≤ b
-nearest-within z b zero h = rw (nearest-none z) (omega (arith, floor-abs z 0))
+nearest-within z b zero h = rw (nearest-none z) (omega arith)
 nearest-within z b (suc d) h =
     let most = nearest-le z (pos b) (suc d) (omega arith) (simp Z (omega (arith, simp Z at h))) in
     let least = nearest-ge z (negℤ (pos b)) (suc d) (omega arith) (simp Z (omega (arith, simp Z at h))) in
@@ -66,11 +61,16 @@ pub nearest-zero : (d : ℕ) → nearest (pos 0) d ≡ pos 0
 nearest-zero d = let h = nearest-within (pos 0) 0 d (omega arith) in simp Z (omega (arith, simp Z at h))
 
 pub nearest-abs : (z : ℤ) (d : ℕ) → natAbs (nearest z d) ≤ natAbs z
-nearest-abs z zero = rw (nearest-none z) (floor-abs z 0)
+nearest-abs z zero = rw (nearest-none z) (omega arith)
 nearest-abs z (suc d) = nearest-within z (natAbs z) (suc d) (omega arith)
 
+-- of naturals
+pub rounded-most : (a d : ℕ) → rounded a d ≤ a
+unfolding nearest
+rounded-most a d = nearest-abs (pos a) d
+
 pub nearest-fits : (w : Width) (z : ℤ) (d : ℕ) → SFits w z → SFits w (nearest z d)
-nearest-fits w z zero h = rw (nearest-none z) (floor-fits w z 0 h)
+nearest-fits w z zero h = rw (nearest-none z) (record { sfits = pow-pos (hbits w) })
 nearest-fits w z (suc d) h =
     let room = mul-le-mul-right d (pow-pos (hbits w)) in
     let most = nearest-le z (pos (2 ^ hbits w) -ℤ pos 1) (suc d) (omega arith) (simp Z (omega (arith, simp Z at h, room))) in

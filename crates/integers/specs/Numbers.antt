@@ -1,6 +1,6 @@
 -- Whole numbers: sums over an index, and the two roundings of document 01.
-use Prim.Native.Nat.{ℕ, zero, suc, _+_, _*_, _/_}
-use lib.IntN.{ℤ, pos, negsuc, _+ℤ_, _*ℤ_}
+use Prim.Native.Nat.{ℕ, zero, suc, _+_, _*_, _/_, _≤_}
+use lib.IntN.{ℤ, pos, negsuc, negℤ, natAbs, _+ℤ_, _-ℤ_, _*ℤ_}
 
 -- f 0 + .. + f (n − 1)
 unfoldable pub sum : ℕ → (ℕ → ℕ) → ℕ
@@ -17,6 +17,15 @@ unfoldable pub floorDiv : ℤ → ℕ → ℤ
 floorDiv (pos a) d = pos (a / d)
 floorDiv (negsuc a) d = negsuc (a / d)
 
--- 01, Quantities: the nearest whole number to z / d, a half going up: the floor of (2z + d) / 2d
+-- a / d to the nearest, of a natural number, a half going up: the floor of (2a + d) / 2d
+unfoldable pub rounded : ℕ → ℕ → ℕ
+rounded a d = (2 * a + d) / (2 * d)
+
+-- 01, Quantities: the nearest whole number to z / d. 02, request 2: "Nearest now always sends a half away from zero": the magnitude rounded, with its sign put back
 unfoldable pub nearest : ℤ → ℕ → ℤ
-nearest z d = floorDiv (pos 2 *ℤ z +ℤ pos d) (2 * d)
+nearest (pos a) d = pos (rounded a d)
+nearest (negsuc a) d = negℤ (pos (rounded (suc a) d))
+
+-- k is a nearest whole number to z / d, whatever happens to a half: 2·|z − k·d| ≤ d
+abbrev pub Near : (z : ℤ) (d : ℕ) (k : ℤ) → Type 0
+Near z d k = natAbs (pos 2 *ℤ (z -ℤ k *ℤ pos d)) ≤ d

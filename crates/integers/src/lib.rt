@@ -3,7 +3,7 @@ ghost use mathlib.Core.Path.{_≡_};
 ghost use Prim.Native.Nat.{_/_};
 ghost use lib.IntN.{natAbs};
 ghost use lib.Signed.{mag};
-ghost use Rattle.integers.specs.Numbers.{floorDiv, nearest as nearestOf};
+ghost use Rattle.integers.specs.Numbers.{floorDiv, rounded as roundedOf, nearest as nearestOf};
 
 // The magnitude of every number: -2^63 has one too.
 pub fn magnitude(z: i64) -> u64
@@ -47,25 +47,30 @@ pub fn floor_div(z: i64, d: u64) -> i64
     whole
 }
 
-// z / d to the nearest, a half going up. What z is above the floor is held to what it lacks of d: nothing is doubled, so nothing wraps.
-pub fn nearest(z: i64, d: u64) -> i64
-    ensures { λ r. ⌜ r ≡ nearestOf z d ⌝ }
+// a / d to the nearest, a half going up. What is left over is held to what it lacks of d: nothing is doubled, so nothing wraps.
+fn rounded(a: u64, d: u64) -> u64
+    ensures { λ r. ⌜ r ≡ roundedOf a d ⌝ }
 {
     if d == 0 {
-        return floor_div(z, d);
-    }
-    let a = without_sign(z);
-    let q = (a / d) as i64;
-    if z < 0 {
-        let above = d - 1 - a % d;
-        if above < d - above {
-            return -1 - q;
-        }
-        return 0 - q;
+        return 0;
     }
     let left = a % d;
     if left < d - left {
-        return q;
+        return a / d;
     }
-    q + 1
+    a / d + 1
+}
+
+// z / d to the nearest, a half going away from zero: the magnitude rounded, with its sign put back. -2^63 has a magnitude, and fits again.
+pub fn nearest(z: i64, d: u64) -> i64
+    ensures { λ r. ⌜ r ≡ nearestOf z d ⌝ }
+{
+    let whole = rounded(magnitude(z), d);
+    if z >= 0 {
+        return whole as i64;
+    }
+    if whole == 0 {
+        return 0;
+    }
+    -1 - (whole - 1) as i64
 }

@@ -1,4 +1,4 @@
--- 01, Figures on the edges: the starred rows, as one list with one claim.
+-- 01, Figures on the edges: the starred rows, as one list with one claim. The third is 02's, request 2: "-500,000,000 nm gives -1".
 use mathlib.Core.Path.{_≡_}
 use mathlib.Core.List.{List, [], _∷_}
 use Prim.Native.Nat.{ℕ}
@@ -36,7 +36,7 @@ abbrev pub starred : List Edge
 starred =
     metresEdge (pos 499999999) (pos 0)
     ∷ metresEdge (pos 500000000) (pos 1)
-    ∷ metresEdge (negℤ (pos 500000000)) (pos 0)
+    ∷ metresEdge (negℤ (pos 500000000)) (negℤ (pos 1))
     ∷ metresEdge (negℤ (pos 500000001)) (negℤ (pos 1))
     ∷ flowEdge (pos 200000000) Idle
     ∷ flowEdge (pos 200000001) InDoubt

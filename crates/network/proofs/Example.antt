@@ -7,7 +7,8 @@ use Prim.Native.Nat.{ℕ, zero, suc, _≤_, _<_}
 use native.Mathlib.Omega.{arith}
 use lib.IntN.{ℤ, pos, negℤ, natAbs, _-ℤ_}
 use lib.ListN.{getD}
-use Rattle.integers.specs.Numbers.{sum, Σ, floorDiv, nearest}
+use Rattle.integers.specs.Numbers.{sum, Σ, rounded, nearest}
+use Rattle.integers.proofs.Div.{nearest-error}
 use Rattle.meaning.specs.Network.{Network, Reached, here, ahead}
 use Rattle.meaning.specs.Proposal.{flowOut, flowIn, miss, missSum}
 use Rattle.meaning.specs.Conditions.{Solves}
@@ -31,26 +32,26 @@ ring =
 abbrev row : List ℤ → ℕ → ℤ
 row l i = getD l i (pos 0)
 
--- 2,250,000,000 in at node 0 and out at node 2
+-- 2,205,000,000 in at node 0 and out at node 2
 abbrev supply : ℕ → ℤ
-supply = row (pos 2250000000 ∷ pos 0 ∷ negℤ (pos 2250000000) ∷ [])
+supply = row (pos 2205000000 ∷ pos 0 ∷ negℤ (pos 2205000000) ∷ [])
 
 abbrev offset : ℕ → ℤ
 offset c = pos 0
 
 -- the exact solution
 abbrev u : ℕ → ℤ
-u = row (pos 0 ∷ negℤ (pos 750000000) ∷ negℤ (pos 1500000000) ∷ [])
+u = row (pos 0 ∷ negℤ (pos 735000000) ∷ negℤ (pos 1470000000) ∷ [])
 
 abbrev f : ℕ → ℤ
-f = row (pos 750000000 ∷ pos 750000000 ∷ pos 1500000000 ∷ [])
+f = row (pos 735000000 ∷ pos 735000000 ∷ pos 1470000000 ∷ [])
 
 -- another, with a miss of 90,000,000 on the last circuit
 abbrev u′ : ℕ → ℤ
-u′ = row (pos 0 ∷ negℤ (pos 780000000) ∷ negℤ (pos 1560000000) ∷ [])
+u′ = row (pos 0 ∷ negℤ (pos 765000000) ∷ negℤ (pos 1530000000) ∷ [])
 
 abbrev f′ : ℕ → ℤ
-f′ = row (pos 780000000 ∷ pos 780000000 ∷ pos 1470000000 ∷ [])
+f′ = row (pos 765000000 ∷ pos 765000000 ∷ pos 1440000000 ∷ [])
 
 -- what holds at 0, 1 and 2 holds below 3
 three : (P : ℕ → Type 0) → P 0 → P 1 → P 2 → (c : ℕ) → c < 3 → P c
@@ -125,9 +126,11 @@ ring-directions : (c : ℕ) → c < 3 → direction (f c) ≡ direction (f′ c)
 ring-directions c h = directions-agree ring u f u′ f′ limited c h (clear c h) (clear′ c h)
 
 ring-metres : (v : ℕ) → v < 3 → natAbs (nearest (u v) 1000000000 -ℤ nearest (u′ v) 1000000000) ≤ 1
-ring-metres v h = metres-agree ring u f u′ f′ limited v (reached v h)
+ring-metres v h =
+    metres-agree ring u f u′ f′ limited v (reached v h) (nearest (u v) 1000000000) (nearest (u′ v) 1000000000) (nearest-error (u v) 1000000000 (omega arith))
+    (nearest-error (u′ v) 1000000000 (omega arith))
 
--- metres are a rounding, so one metre of difference does happen: -1.5 and -1.56
+-- metres are a rounding, so one metre of difference does happen: -1.47 and -1.53
 metre-differs : natAbs (nearest (u 2) 1000000000 -ℤ nearest (u′ 2) 1000000000) ≡ 1
-unfolding nearest floorDiv
+unfolding nearest rounded
 metre-differs = refl

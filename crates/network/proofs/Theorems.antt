@@ -1,8 +1,6 @@
 -- The four statements of specs/Statements.antt, proved.
-use Prim.Native.Nat.{_<_}
 use native.Mathlib.Omega.{arith}
-use lib.IntN.{natAbs, _-ℤ_}
-use Rattle.integers.proofs.Div.{nearest-apart}
+use Rattle.integers.proofs.Div.{near-apart}
 use Rattle.network.specs.Statements.{FlowsClose, PotentialsClose, DirectionsAgree, MetresAgree}
 use Rattle.network.proofs.Close.{flows-near, potentials-near}
 use Rattle.network.proofs.Bands.{direction-same}
@@ -17,7 +15,4 @@ pub directions-agree : DirectionsAgree
 directions-agree N u f u′ f′ two c h = direction-same (f c) (f′ c) (omega (arith, flows-near two c h))
 
 pub metres-agree : MetresAgree
-metres-agree N u f u′ f′ two v walk =
-    -- the law holds whichever way a half goes
-    let near : natAbs (u v -ℤ u′ v) < 1000000000 = omega (arith, potentials-near two v walk) in
-    omega (arith, nearest-apart (u v) (u′ v) 1000000000 (omega arith) near)
+metres-agree N u f u′ f′ two v walk k k′ near near′ = near-apart (u v) (u′ v) 1000000000 k k′ near near′ (omega (arith, potentials-near two v walk))

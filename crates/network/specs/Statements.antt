@@ -3,7 +3,7 @@ use mathlib.Core.Path.{_≡_}
 use mathlib.Core.Logic.{_≢_}
 use Prim.Native.Nat.{ℕ, _+_, _≤_, _<_}
 use lib.IntN.{ℤ, natAbs, _-ℤ_}
-use Rattle.integers.specs.Numbers.{nearest}
+use Rattle.integers.specs.Numbers.{Near}
 use Rattle.meaning.specs.Network.{Network, Reached}
 use Rattle.meaning.specs.Conditions.{Solves}
 use Rattle.meaning.specs.declared.Direction.the-variants.{InDoubt}
@@ -40,7 +40,7 @@ abbrev pub DirectionsAgree : Type 0
 DirectionsAgree = (N : Network) (u f u′ f′ : ℕ → ℤ) → SolvedTwice N 100000000 100000000 u f u′ f′
     → (c : ℕ) → c < N .circuits → direction (f c) ≢ InDoubt → direction (f′ c) ≢ InDoubt → direction (f c) ≡ direction (f′ c)
 
--- Wider and local potentials, with 01's bound on misses: a node's marginal distance (01, step 6) is the same in both, or one metre apart.
+-- Wider and local potentials, with 01's bound on misses: whole metres nearest to them (01, step 6), wherever a half goes, are the same in both, or one metre apart.
 abbrev pub MetresAgree : Type 0
 MetresAgree = (N : Network) (u f u′ f′ : ℕ → ℤ) → SolvedTwice N 100000000 100000000 u f u′ f′
-    → (v : ℕ) → Reached N v → natAbs (nearest (u v) 1000000000 -ℤ nearest (u′ v) 1000000000) ≤ 1
+    → (v : ℕ) → Reached N v → (k k′ : ℤ) → Near (u v) 1000000000 k → Near (u′ v) 1000000000 k′ → natAbs (k -ℤ k′) ≤ 1

@@ -136,6 +136,49 @@ pub fn pair(kw: u32, circuits: Vec<CircuitRow>) -> Case {
     }
 }
 
+/// UP sends to HUB, the reference, and HUB to DOWN, with so much TEC and demand at UP and DOWN, each in zones of its own.
+/// On each way two circuits side by side, of which one has so many metres, share them: UP stands half of them above HUB,
+/// and DOWN half of them below.
+pub fn both_ways(metres: u32, tec: [u32; 2], demand: [u32; 2]) -> Case {
+    let way = |first, second| [circuit(first, second, 1, metres), circuit(first, second, 1, 0)];
+    let mut case = pair(0, [way("UP", "HUB"), way("HUB", "DOWN")].concat());
+    (case.settings.generation_zones, case.settings.demand_zones, case.settings.reference) = (2, 2, 2);
+    case.nodes = vec![zoned_node("UP", 1, 1, demand[0]), node("HUB", 0), zoned_node("DOWN", 2, 2, demand[1])];
+    case.stations = vec![station("GEN_1", "UP", tec[0]), station("GEN_2", "DOWN", tec[1])];
+    solved(&case)
+}
+
+/// `both_ways` with UP's TEC and DOWN's demand alike, and UP's demand and DOWN's TEC: with p 500 C is 0, and the case is
+/// its own mirror.
+pub fn balanced(metres: u32) -> Case {
+    both_ways(metres, [30_000, 10_000], [10_000, 30_000])
+}
+
+/// A case in a mirror: TEC and demand exchanged at every node, and with them zones and shares; every flow and potential
+/// turned round. Solutions of the one are solutions of the other where total TEC is total demand.
+pub fn mirrored(case: &Case) -> Case {
+    let tec = |row: &NodeRow| case.stations.iter().filter(|at| at.node == row.name).map(|at| at.tec).sum();
+    let node = |row: &NodeRow| NodeRow {
+        name: row.name,
+        generation_zone: row.demand_zone,
+        demand_zone: row.generation_zone,
+        demand: tec(row),
+    };
+    let station = |row: &NodeRow| StationRow { identifier: row.name, node: row.name, plant: 7, tec: row.demand };
+    Case {
+        settings: Settings {
+            generation_zones: case.settings.demand_zones,
+            demand_zones: case.settings.generation_zones,
+            p: 1_000 - case.settings.p,
+            ..case.settings.clone()
+        },
+        nodes: case.nodes.iter().map(node).collect(),
+        circuits: case.circuits.clone(),
+        stations: case.nodes.iter().filter(|row| row.demand > 0).map(station).collect(),
+        runs: case.runs.clone().map(|run| run.iter().map(|number| -number).collect()),
+    }
+}
+
 /// A well-formed name.
 pub fn name(text: &str) -> Name {
     padded(text.as_bytes())

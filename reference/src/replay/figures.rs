@@ -111,9 +111,9 @@ fn add_halves_of_metres(list: &mut List) {
     }
 }
 
-/// A sends over 1 m to B, both in zone 1, and B without length to S in zone 2.
-pub(super) fn one_metre(reference: u32, tec: [u32; 2], demand: [u32; 2]) -> Case {
-    let mut case = pair(0, vec![circuit("A", "B", 100, 1), circuit("B", "S", 100, 0)]);
+/// A sends over so many metres to B, both in zone 1, and B without length to S in zone 2.
+pub(super) fn apart(metres: u32, reference: u32, tec: [u32; 2], demand: [u32; 2]) -> Case {
+    let mut case = pair(0, vec![circuit("A", "B", 100, metres), circuit("B", "S", 100, 0)]);
     (case.settings.generation_zones, case.settings.demand_zones) = (2, 2);
     case.settings.reference = reference;
     case.nodes = vec![node("A", demand[0]), node("B", demand[1]), zoned_node("S", 2, 2, 70_000)];
@@ -124,7 +124,7 @@ pub(super) fn one_metre(reference: u32, tec: [u32; 2], demand: [u32; 2]) -> Case
 /// Step 7: averages of a half, just below and just above, weighted by kilowatts and not by nodes.
 fn add_halves_of_averages(list: &mut List) {
     for (reference, side) in [(2, "0.5"), (1, "-0.5")] {
-        let of = |tec, demand| one_metre(reference, tec, demand);
+        let of = |tec, demand| apart(1, reference, tec, demand);
         let label = |what: &str| format!("averages around {side} m: {what}");
         list.accepted(label("halves"), &of([50_000, 50_000], [10_000, 10_000]), |_| ());
         list.accepted(label("A heavier"), &of([50_001, 50_000], [10_001, 10_000]), |_| ());

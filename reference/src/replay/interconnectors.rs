@@ -1,7 +1,7 @@
 //! 02, CR 1, "Interconnectors don't pay": what type 3 TEC counts for and what not, and 13.
 
 use super::bases::{kiln, kiln_with_a_spur, kiln_zoned, name, named_case, station, LINK_TEXTS};
-use super::figures::{greatest_figures, long_sheet, one_metre, star};
+use super::figures::{apart, greatest_figures, long_sheet, star};
 use super::network::greatest_totals;
 use super::orders::{said, FAULTS};
 use super::{changed, solved, List, Told, ONE};
@@ -144,7 +144,7 @@ fn add_weights(list: &mut List) {
     list.accepted("KILN with NODA of type 3", &kiln(), |case| make_links(case, &[0]));
     // Weighed by what pays, averages of 0.5 and -0.5 m would be 0 and -1 m.
     for reference in [2, 1] {
-        let case = one_metre(reference, [50_000, 50_000], [10_000, 10_000]);
+        let case = apart(1, reference, [50_000, 50_000], [10_000, 10_000]);
         let label = format!("an average of half a metre from row {reference}, A of type 3");
         list.accepted(label, &case, |case| make_links(case, &[0]));
     }

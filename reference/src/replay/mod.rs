@@ -11,6 +11,7 @@ mod chance;
 mod circuits;
 mod figures;
 mod files;
+mod halves;
 mod interconnectors;
 mod names;
 mod network;
@@ -71,6 +72,7 @@ pub fn cases() -> Vec<Labelled> {
         figures::add,
         chance::add,
         interconnectors::add,
+        halves::add,
     ];
     let mut list = List::default();
     groups.iter().for_each(|add| add(&mut list));

@@ -2,9 +2,12 @@
 #![allow(dead_code, unused_imports)]
 
 use reference::file::{Case, Settings};
+use reference::replay::Labelled;
 use reference::{judge_case, program_output};
 
-pub use reference::replay::bases::{circuit, kiln, kiln_with_a_spur, name, named_case, node, pair, station};
+pub use reference::replay::bases::{
+    balanced, both_ways, circuit, kiln, kiln_with_a_spur, mirrored, name, named_case, node, pair, station,
+};
 
 /// The bytes of a file in the folder of texts.
 pub fn folder_file(name: &str) -> Vec<u8> {
@@ -21,6 +24,12 @@ pub fn printed(case: &Case) -> String {
 pub fn printed_bytes(file: &[u8]) -> String {
     let output = String::from_utf8(program_output(file)).unwrap();
     output.strip_suffix('\n').expect("lines end with a line feed").to_string()
+}
+
+/// The sheet of a case of the replay's list.
+pub fn sheet_of(list: &[Labelled], label: &str) -> String {
+    let case = list.iter().find(|case| case.label == label).unwrap_or_else(|| panic!("no case {label}"));
+    String::from_utf8(program_output(&case.file)).unwrap()
 }
 
 /// A changed case is refused so.

@@ -1,119 +1,108 @@
--- `integers::nearest` meets its contract: the floor where less than half of d is left above it, else one more.
+-- `integers::nearest` meets its contract: of the magnitude rounded, w, the number is w, or -w as -1 - (w - 1), which fits at w = 2^63 too.
 use borrow.Author.Needs.{needs}
-use mathlib.Core.Path.{_≡_, sym, _∙_}
-use Prim.Native.Nat.{ℕ, _/_, _<_}
-use native.Mathlib.Nat.{mod-lt}
+use mathlib.Core.Path.{_≡_, sym, _∙_, ap}
+use Prim.Native.Nat.{ℕ, _-_, _^_, _≤_, _<_}
 use native.Mathlib.Omega.{arith}
-use lib.IntN.{ℤ, pos, negsuc, _+ℤ_, _-ℤ_}
-use lib.Signed.{mag, _≤ℤ_, _<ℤ_}
+use lib.IntN.{ℤ, pos, negsuc, negℤ, natAbs, _-ℤ_}
+use lib.Signed.{_≤ℤ_, _<ℤ_}
 use mir.Facts.{toZ-ofZ}
 use mir.Syntax.{w64}
-use mir.Val.{toZ}
-use Rattle.integers.specs.Numbers.{nearest}
-use Rattle.integers.proofs.Div.{nearest-fits}
-use Rattle.integers.proofs.Half.{nearest-none}
-use Rattle.integers.proofs.Machine.{Back, fit-back, back, of-nat, lt-true, lt-false}
-use Rattle.integers.proofs.Sign.{mag-over, neg-down, neg-up, pos-down, pos-up}
+use mir.Val.{SFits, toZ}
+use Rattle.integers.specs.Numbers.{rounded, nearest}
+use Rattle.integers.proofs.Core.{Z}
+use Rattle.integers.proofs.Laws.{abs-of-nonneg, abs-of-neg}
+use Rattle.integers.proofs.Div.{rounded-most, nearest-fits}
+use Rattle.integers.proofs.Half.{nearest-nonneg, nearest-neg}
+use Rattle.integers.proofs.Machine.{Back, fit-back, of-nat, le-true, le-false}
 use Rattle.integers.proofs.nearest.Statement.{statement}
 use Rattle.integers.proofs.nearest.Tie as tie
 
+-- ---- the mathematics
+module _ (z : ℤ) (d : ℕ) (f : SFits w64 z) where
+  abbrev w : ℕ
+  w = rounded (natAbs z) d
+
+  above-fits : pos 0 ≤ℤ z → w < 2 ^ 63
+  above-fits h = omega (arith, rounded-most (natAbs z) d, simp Z at (abs-of-nonneg z h), simp Z at f)
+
+  below-fits : z <ℤ pos 0 → w ≤ 2 ^ 63
+  below-fits h = omega (arith, rounded-most (natAbs z) d, simp Z at (abs-of-neg z (simp Z (omega (arith, simp Z at h)))), simp Z at f)
+
+  minus : z <ℤ pos 0 → 0 < w → negsuc 0 -ℤ pos (w - 1) ≡ nearest z d
+  minus h s = turned w s ∙ sym (nearest-neg z d h)
+    where
+      turned : (w : ℕ) → 0 < w → negsuc 0 -ℤ pos (w - 1) ≡ negℤ (pos w)
+      turned w s = simp Z (omega arith)
+
+-- ---- the calls
 bz : (s : tie.Start) → Back (s .args .z)
 bz s = fit-back (s .fits .z)
 
-floor-div-requires : tie.Need-floor-div-requires
-floor-div-requires c κs = search needs
+module _ (c : tie.After-rounded) where
+  abbrev s : tie.Start
+  s = c .before .before
+
+  abbrev whole : ℕ
+  whole = w (s .args .z) (s .args .d) (s .fits .z)
+
+  called : c .rounded .result ≡ whole
+  called = c .rounded .ensures ∙ ap (λ (a : ℕ). rounded a (s .args .d)) (simp bz at (c .before .magnitude .ensures))
+
+magnitude-requires : tie.Need-magnitude-requires
+magnitude-requires c κs = search needs
+
+rounded-requires : tie.Need-rounded-requires
+rounded-requires c κs = search needs
+
+-- ---- z is not negative
+nonneg : (c : tie.Then1) → pos 0 ≤ℤ s (c .before) .args .z
+nonneg c = le-true (simp bz at (c .if1 .taken))
+
+room : (c : tie.Then1) → whole (c .before) < 2 ^ 63
+room c = above-fits _ _ (s (c .before) .fits .z) (nonneg c)
+
+cast-result : tie.Need-cast-result
+cast-result c = record { sfits = rw (called (c .before)) (room c) }
 
 returns : tie.Need-returns
-returns c =
-    back _ (c .floor-div .ok)
-    ∙ simp bz at (c .floor-div .ensures)
-    ∙ rw (c .before .if1 .taken) (sym (nearest-none _))
+returns c = ap (toZ w64) (called (c .before)) ∙ of-nat _ (room c) ∙ sym (nearest-nonneg _ _ (nonneg c))
 
--- ---- d is above 0
-module _ (c : tie.After-without-sign) where
-  abbrev z : ℤ
-  z = c .before .before .args .z
-
-  abbrev d : ℕ
-  d = c .before .before .args .d
-
-  some : 0 < d
-  some = omega arith
-
-  ba : c .without-sign .result ≡ mag z
-  ba = simp bz at (c .without-sign .ensures)
-
-  bq : toZ w64 (mag z / d) ≡ pos (mag z / d)
-  bq = of-nat _ (mag-over z d (c .before .before .fits .z))
-
-without-sign-requires : tie.Need-without-sign-requires
-without-sign-requires c κs = search needs
-
-div-q : tie.Need-div-q
-div-q c = search needs
-
-cast-q : tie.Need-cast-q
-cast-q c = record { sfits = rw (ba c) (mag-over _ _ (c .before .before .fits .z)) }
-
-sub-above : tie.Need-sub-above
-sub-above c = search needs
-
-rem-above : tie.Need-rem-above
-rem-above c = search needs
-
-sub-above-2 : tie.Need-sub-above-2
-sub-above-2 c = omega (arith, mod-lt (c .before .without-sign .result) (some (c .before)))
-
-sub-if3 : tie.Need-sub-if3
-sub-if3 c = search needs
-
--- z is negative
-module _ (c : tie.Then2) where
-  below : z (c .before) <ℤ pos 0
-  below = lt-true (simp bz at (c .if2 .taken))
-
-down : (c : tie.Then3) → let t = c .before .before in negsuc 0 -ℤ pos (mag (z t) / d t) ≡ nearest (z t) (d t)
-down c = let t = c .before .before in neg-down (z t) (d t) (some t) (below (c .before)) (simp ba at (c .if3 .taken))
-
-sub-result : tie.Need-sub-result
-sub-result c = simp (ba, bq, down) (nearest-fits w64 _ _ (c .before .before .before .before .fits .z))
+-- ---- z is negative
+neg : (c : tie.Else1) → s (c .before) .args .z <ℤ pos 0
+neg c = le-false (simp bz at (c .if1 .left))
 
 returns-2 : tie.Need-returns-2
-returns-2 c = toZ-ofZ (sub-result c) ∙ simp (ba, bq) (down c)
+returns-2 c =
+    let t = s (c .before .before) in
+    sym (nearest-neg (t .args .z) (t .args .d) (neg (c .before)) ∙ ap (λ (q : ℕ). negℤ (pos q)) (sym (called (c .before .before)) ∙ c .if2 .taken))
 
-up : (c : tie.Else3) → let t = c .before .before in pos 0 -ℤ pos (mag (z t) / d t) ≡ nearest (z t) (d t)
-up c = let t = c .before .before in neg-up (z t) (d t) (some t) (below (c .before)) (simp ba at (c .if3 .left))
+module _ (c : tie.Else2) where
+  abbrev e : tie.After-rounded
+  e = c .before .before
+
+  some : 0 < whole e
+  some = omega (arith, called e)
+
+  lower : whole e - 1 < 2 ^ 63
+  lower = omega (arith, below-fits (s e .args .z) (s e .args .d) (s e .fits .z) (neg (c .before)), some)
+
+  less : toZ w64 (e .rounded .result - 1) ≡ pos (whole e - 1)
+  less = ap (λ (q : ℕ). toZ w64 (q - 1)) (called e) ∙ of-nat _ lower
+
+  result : negsuc 0 -ℤ pos (whole e - 1) ≡ nearest (s e .args .z) (s e .args .d)
+  result = minus (s e .args .z) (s e .args .d) (s e .fits .z) (neg (c .before)) some
+
+sub-result : tie.Need-sub-result
+sub-result c = search needs
+
+cast-result-2 : tie.Need-cast-result-2
+cast-result-2 c = record { sfits = rw (called (e c)) (lower c) }
 
 sub-result-2 : tie.Need-sub-result-2
-sub-result-2 c = simp (ba, bq, up) (nearest-fits w64 _ _ (c .before .before .before .before .fits .z))
+sub-result-2 c = rw (less c, result c) (nearest-fits w64 _ _ (s (e c) .fits .z))
 
 returns-3 : tie.Need-returns-3
-returns-3 c = toZ-ofZ (sub-result-2 c) ∙ simp (ba, bq) (up c)
-
--- z is not negative
-module _ (c : tie.Else2) where
-  above : pos 0 ≤ℤ z (c .before)
-  above = lt-false (simp bz at (c .if2 .left))
-
-rem-left : tie.Need-rem-left
-rem-left c = search needs
-
-sub-if4 : tie.Need-sub-if4
-sub-if4 c = omega (arith, mod-lt (c .before .without-sign .result) (some (c .before)))
-
-returns-4 : tie.Need-returns-4
-returns-4 c = let t = c .before .before in simp (ba, bq) (pos-down (z t) (d t) (some t) (above (c .before)) (simp ba at (c .if4 .taken)))
-
-up-2 : (c : tie.Else4) → let t = c .before .before in pos (mag (z t) / d t) +ℤ pos 1 ≡ nearest (z t) (d t)
-up-2 c = let t = c .before .before in pos-up (z t) (d t) (some t) (above (c .before)) (simp ba at (c .if4 .left))
-
-add-result : tie.Need-add-result
-add-result c = simp (ba, bq, up-2) (nearest-fits w64 _ _ (c .before .before .before .before .fits .z))
-
-returns-5 : tie.Need-returns-5
-returns-5 c = toZ-ofZ (add-result c) ∙ simp (ba, bq) (up-2 c)
+returns-3 c = toZ-ofZ (sub-result-2 c) ∙ rw (less c) (result c)
 
 pub nearest-spec : {M : Type 1} → statement M
-nearest-spec =
-    tie.close
-    (tie.spec floor-div-requires returns without-sign-requires div-q cast-q sub-above rem-above sub-above-2 sub-if3 sub-result returns-2 sub-result-2 returns-3 rem-left sub-if4 returns-4 add-result returns-5)
+nearest-spec = tie.close (tie.spec magnitude-requires rounded-requires cast-result returns returns-2 sub-result cast-result-2 sub-result-2 returns-3)

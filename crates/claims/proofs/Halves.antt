@@ -1,0 +1,217 @@
+-- 02, request 2 is not empty: TARN, four nodes in a line with halves below zero in metres, averages and tariffs, its mirror image, where C has one, and the theorems of both. By hand, from HEAD to WEIR:
+-- wider potentials of 4.5, 0, -2.5 and -2.5 m are 5, 0, -3 and -3 m; generation zone 1 averages -1.5, so -2, and demand zone 1, with the same nodes and weights, 2; C is (100 x 8,500 + 900 x 1,000) / 3,500,000, 0.5, so 1;
+-- metres after C of -1 and 1 at 0.5 a metre are tariffs of -1 and 1; WEIR's local -2.5 m are -3, and its tariff of -1.5 is -2
+use mathlib.Core.Path.{_≡_, refl}
+use mathlib.Core.List.{List, [], _∷_, _++_}
+use Prim.Native.Nat.{ℕ, zero, suc, _<_}
+use Prim.Native.String.{String}
+use native.Mathlib.Omega.{arith}
+use lib.IntN.{ℤ, pos, negℤ}
+use Rattle.meaning.specs.Text.{text}
+use Rattle.meaning.specs.Study.{Settings, Node, Circuit, Station, Study, Runs}
+use Rattle.meaning.specs.File.{studyOf}
+use Rattle.meaning.specs.declared.Side.{Side}
+use Rattle.meaning.specs.declared.Side.the-variants.{Generation, Demand}
+use Rattle.meaning.specs.declared.Judgement.the-variants.{Passes}
+use Rattle.meaning.specs.Grid.{Grid, gridOf}
+use Rattle.meaning.specs.Figures.{zones}
+use Rattle.meaning.specs.Outcome.{judged, sheetOf, prints}
+use Rattle.meaning.specs.Read.{field, readWhole, lineAt}
+use Rattle.meaning.specs.Conditions.{InRange, Acceptable}
+use Rattle.meaning.specs.Mirror.{WeighAlike, Opposite, LinesMirror, other, Exchanged, MirrorImage, MoneyImage}
+use Rattle.meaning.proofs.Write.{name, fileOf}
+use Rattle.meaning.proofs.Opened.{opened}
+use Rattle.meaning.proofs.Kiln.{stationOf}
+use Rattle.meaning.proofs.Judged.{judged-pass}
+use Rattle.claims.proofs.Theorems.{zones-mirror, printed-mirror, sides-mirror, money-mirrors}
+
+abbrev settingsWith : (p : ℕ) → Settings
+settingsWith p =
+    record {
+      generationZones = 2;
+      demandZones = 2;
+      p = p;
+      constant = 50;
+      widerFactor = 1000;
+      localFactor = 1000;
+      overhead400 = 1000;
+      cable400 = 1000;
+      overhead275 = 1500;
+      cable275 = 1000;
+      overhead132 = 2500;
+      cable132 = 1000;
+      reference = 2;
+      revenue = 1;
+    }
+
+-- a node in zone `zone` of both sides
+abbrev nodeOf : String → (zone demand : ℕ) → Node
+nodeOf n zone kw = record { name = name n; generationZone = zone; demandZone = zone; demand = kw }
+
+abbrev circuitOf : String → String → (voltage metres mark : ℕ) → Circuit
+circuitOf a b v m mark = record { first = name a; second = name b; voltage = v; x = 1; overhead = m; cable = 0; localMark = mark }
+
+-- the last circuit's mark, p, and the demand of each node, with stations; lengths of 4.5, 2.5 and 2.5 m
+abbrev studyWith : (mark p head mill ford weir : ℕ) → List Station → Study
+studyWith mark p head mill ford weir stations =
+    record {
+      settings = settingsWith p;
+      nodes = nodeOf "HEAD" 2 head ∷ nodeOf "MILL" 1 mill ∷ nodeOf "FORD" 1 ford ∷ nodeOf "WEIR" 2 weir ∷ [];
+      circuits = circuitOf "HEAD" "MILL" 275 3 0 ∷ circuitOf "MILL" "FORD" 132 1 0 ∷ circuitOf "FORD" "WEIR" 132 1 mark ∷ [];
+      stations = stations;
+    }
+
+-- 1,000 kW run from HEAD to WEIR
+abbrev tarnStudy : (mark : ℕ) → Study
+tarnStudy mark =
+    studyWith mark 900 0 1000 1000 1500
+    (stationOf "S_1" "HEAD" 1000 ∷ stationOf "S_2" "MILL" 1000 ∷ stationOf "S_3" "FORD" 1000 ∷ stationOf "S_4" "WEIR" 500 ∷ [])
+
+-- by WEIR's wider and local potential
+abbrev runsWith : (wider local : ℤ) → Runs
+runsWith wider local =
+    record {
+      base = pos 1000000000 ∷ pos 0 ∷ negℤ (pos 1000000000) ∷ negℤ (pos 2000000000) ∷ pos 1000000000 ∷ pos 1000000000 ∷ pos 1000000000 ∷ [];
+      wider = pos 4500000000 ∷ pos 0 ∷ negℤ (pos 2500000000) ∷ wider ∷ pos 0 ∷ pos 0 ∷ pos 0 ∷ [];
+      local = pos 0 ∷ pos 0 ∷ pos 0 ∷ local ∷ pos 0 ∷ pos 0 ∷ pos 0 ∷ [];
+    }
+
+abbrev tarnRuns : Runs
+tarnRuns = runsWith (negℤ (pos 2500000000)) (negℤ (pos 2500000000))
+
+abbrev tarn : List ℕ
+tarn = fileOf (tarnStudy 1) tarnRuns
+
+abbrev tarnSheet : List ℕ
+tarnSheet =
+    text "C 1\n" ++ text "G 1 -2 -1 -1 28 27\n" ++ text "G 2 2 3 2 28 30\n" ++ text "D 1 2 1 1 256 257\n" ++ text "D 2 3 2 1 256 257\n"
+    ++ text "L HEAD 0 0\nL MILL 0 0\nL FORD 0 0\nL WEIR -3 -2\n"
+    ++ text "R 2000 500\n"
+
+tarn-prints : prints tarn ≡ tarnSheet
+unfolding opened
+tarn-prints = refl
+
+tarn-judged : judged tarn tarnRuns ≡ Passes
+unfolding opened
+tarn-judged = refl
+
+tarn-acceptable : Acceptable tarn tarnRuns
+tarn-acceptable = judged-pass tarn tarnRuns .0 tarn-judged
+
+-- what holds of four nodes
+four : (P : ℕ → Type 0) → P 0 → P 1 → P 2 → P 3 → (v : ℕ) → v < 4 → P v
+four P a b c d zero h = a
+four P a b c d (suc zero) h = b
+four P a b c d (suc (suc zero)) h = c
+four P a b c d (suc (suc (suc zero))) h = d
+four P a b c d (suc (suc (suc (suc v)))) h = absurd (omega arith)
+
+abbrev tarnGrid : Grid
+tarnGrid = gridOf (studyOf tarn)
+
+-- MILL and FORD weigh in generation zone 1 as in demand zone 1
+alike : WeighAlike tarnGrid 1 1
+unfolding opened
+alike = four _ refl refl refl refl
+
+tarn-opposite : Opposite tarnGrid tarnRuns 1 1
+tarn-opposite = zones-mirror tarnGrid tarnRuns 1 1 alike
+
+-- on the sheet's bytes these are lines 1 and 3, counted from 0
+tarn-lines : LinesMirror tarnGrid (lineAt 1 (sheetOf tarn tarnRuns)) (lineAt 3 (sheetOf tarn tarnRuns))
+unfolding opened
+tarn-lines = record { generation = refl; demand = refl; alike = alike }
+
+tarn-printed : (k : ℕ) → InRange k 2 4
+    → readWhole (field k (lineAt 3 (sheetOf tarn tarnRuns))) ≡ negℤ (readWhole (field k (lineAt 1 (sheetOf tarn tarnRuns))))
+tarn-printed = printed-mirror tarn tarnRuns 1 3 tarn-acceptable tarn-lines
+
+-- ---- its mirror image: TEC and demand exchanged at each node, p 100 for 900, flows and potentials turned round. C is -0.5, so -1
+abbrev turned : List ℤ → List ℤ
+turned [] = []
+turned (z ∷ zs) = negℤ z ∷ turned zs
+
+abbrev imageStudy : (mark : ℕ) → Study
+imageStudy mark =
+    studyWith mark 100 1000 1000 1000 500
+    (stationOf "S_2" "MILL" 1000 ∷ stationOf "S_3" "FORD" 1000 ∷ stationOf "S_4" "WEIR" 1500 ∷ [])
+
+abbrev turnedRound : Runs → Runs
+turnedRound runs = record { base = turned (runs .base); wider = turned (runs .wider); local = turned (runs .local) }
+
+abbrev imageRuns : Runs
+imageRuns = turnedRound tarnRuns
+
+abbrev image : List ℕ
+image = fileOf (imageStudy 1) imageRuns
+
+abbrev imageSheet : List ℕ
+imageSheet =
+    text "C -1\n" ++ text "G 1 2 1 1 255 256\n" ++ text "G 2 3 2 1 255 256\n" ++ text "D 1 -2 -1 -1 28 27\n" ++ text "D 2 2 3 2 28 30\n"
+    ++ text "L MILL 0 0\nL FORD 0 0\nL WEIR 3 2\n"
+    ++ text "R 1000 1000\n"
+
+image-prints : prints image ≡ imageSheet
+unfolding opened
+image-prints = refl
+
+-- a law of each node on each side
+sides : (P : Side → ℕ → Type 0) → ((v : ℕ) → v < 4 → P Generation v) → ((v : ℕ) → v < 4 → P Demand v) → (side : Side) (v : ℕ) → v < 4 → P side v
+sides P g d Generation = g
+sides P g d Demand = d
+
+exchanged-with : (mark : ℕ) (wider local : ℤ)
+    → Exchanged (gridOf (tarnStudy mark)) (gridOf (imageStudy mark)) (runsWith wider local) (turnedRound (runsWith wider local))
+unfolding opened
+exchanged-with mark wider local = record {
+  nodeCount = refl;
+  zoneCounts = either;
+  zonesOf = sides _ (four _ refl refl refl refl) (four _ refl refl refl refl);
+  weights = sides _ (four _ refl refl refl refl) (four _ refl refl refl refl);
+  payers = sides _ (four _ refl refl refl refl) (four _ refl refl refl refl);
+  shares = refl;
+  constants = refl;
+  widerFactors = refl;
+  localFactors = refl;
+  wider = four _ refl refl refl refl;
+  local = four _ refl refl refl refl;
+}
+  where
+    either : (side : Side) → zones (gridOf (imageStudy mark)) side ≡ zones (gridOf (tarnStudy mark)) (other side)
+    either Generation = refl
+    either Demand = refl
+
+tarn-image : MirrorImage tarnGrid (gridOf (studyOf image)) tarnRuns imageRuns
+unfolding opened
+tarn-image = sides-mirror tarnGrid (gridOf (studyOf image)) tarnRuns imageRuns (exchanged-with 1 (negℤ (pos 2500000000)) (negℤ (pos 2500000000)))
+
+-- ---- both without the mark, WEIR at -5 m: no local income, and all but the `L` lines is exchanged
+abbrev openRuns : Runs
+openRuns = runsWith (negℤ (pos 5000000000)) (pos 0)
+
+abbrev openSheet : List ℕ
+openSheet =
+    text "C 1\n" ++ text "G 1 -2 -1 -1 28 27\n" ++ text "G 2 2 3 2 28 30\n" ++ text "D 1 2 1 1 255 256\n" ++ text "D 2 5 4 2 255 257\n"
+    ++ text "L HEAD 0 0\nL MILL 0 0\nL FORD 0 0\nL WEIR 0 0\n"
+    ++ text "R 1000 2500\n"
+
+open-prints : prints (fileOf (tarnStudy 0) openRuns) ≡ openSheet
+unfolding opened
+open-prints = refl
+
+abbrev openImageSheet : List ℕ
+openImageSheet =
+    text "C -1\n" ++ text "G 1 2 1 1 255 256\n" ++ text "G 2 5 4 2 255 257\n" ++ text "D 1 -2 -1 -1 28 27\n" ++ text "D 2 2 3 2 28 30\n"
+    ++ text "L MILL 0 0\nL FORD 0 0\nL WEIR 0 0\n"
+    ++ text "R 2500 1000\n"
+
+open-image-prints : prints (fileOf (imageStudy 0) (turnedRound openRuns)) ≡ openImageSheet
+unfolding opened
+open-image-prints = refl
+
+open-money : MoneyImage (gridOf (tarnStudy 0)) (gridOf (imageStudy 0)) openRuns (turnedRound openRuns)
+unfolding opened
+open-money =
+    money-mirrors (gridOf (tarnStudy 0)) (gridOf (imageStudy 0)) openRuns (turnedRound openRuns)
+    (record { exchanged = exchanged-with 0 (negℤ (pos 5000000000)) (pos 0); revenues = refl; noLocal = refl; noLocal′ = refl })

@@ -1,0 +1,236 @@
+-- 02, request 2: the mirror of generation and demand. Of "nearest" only that it is a nearest number, and that it mirrors, is used.
+use mathlib.Core.Path.{_≡_, refl, sym, _∙_, ap, ap₂}
+use mathlib.Core.Logic.{_⊎_, inl, inr}
+use mathlib.Core.Bool.{Bool, true, false, cond}
+use Prim.Native.Nat.{ℕ, suc, _+_, _*_, _-_, _<_}
+use native.Mathlib.Omega.{arith}
+use lib.Dec.{eqb}
+use lib.IntN.{ℤ, pos, negℤ, _+ℤ_, _-ℤ_, _*ℤ_}
+use lib.ListN.{length}
+use lib.Signed.{_<ℤ_}
+use Rattle.integers.specs.Numbers.{sum, Σ, floorDiv, nearest, Near}
+use Rattle.integers.proofs.Core.{Z}
+use Rattle.integers.proofs.Sum.{sum-same, Σ-same, Σ-neg}
+use Rattle.integers.proofs.Div.{floor-exact, nearest-error, nearest-mirror, nearest-moved}
+use Rattle.meaning.specs.declared.Side.{Side}
+use Rattle.meaning.specs.declared.Side.the-variants.{Generation, Demand}
+use Rattle.meaning.specs.Study.{Kw, Metres, MicroPerKw, Runs}
+use Rattle.meaning.specs.Grid.{Grid}
+use Rattle.meaning.specs.Figures.{metres, tariff, residualOf, remainderOf, widerMetres, localMetres, distance, zones, zoneOf, weight, zoneWeight, zonePaying, totalPaying, overZones, target, zonalMetres, C, afterC, zoneTariff, localTariff, localIncome, rest, residual, remainder, zoneTotal}
+use Rattle.meaning.specs.Mirror.{NearestMirrors, halfUp, NegativeHalf, OnlyNegativeHalvesMove, average, AveragesMirror, weightIn, WeighAlike, Opposite, ZonesMirror, other, Exchanged, MirrorImage, SidesMirror, MoneyExchanged, MoneyImage, MoneyMirrors}
+
+-- ---- one division
+pub nearest-mirrors : NearestMirrors
+nearest-mirrors = nearest-mirror
+
+pub only-negative-halves-move : OnlyNegativeHalvesMove
+only-negative-halves-move z d p = go (nearest-moved z d p)
+  where
+    k : ℤ
+    k = nearest z d
+
+    go : (k ≡ halfUp z d) ⊎ ((z <ℤ pos 0) × (pos 2 *ℤ z ≡ (pos 2 *ℤ k +ℤ pos 1) *ℤ pos d)) → (k ≡ halfUp z d) ⊎ NegativeHalf z d
+    go (inl e) = inl e
+    go (inr h) = inr (record { below = h .0; half = h .1; was = ap (λ (y : ℤ). floorDiv y (2 * d)) (whole k d (h .1)) ∙ floor-exact (k +ℤ pos 1) (2 * d) (omega arith) })
+      where
+        whole : (k : ℤ) (d : ℕ) → pos 2 *ℤ z ≡ (pos 2 *ℤ k +ℤ pos 1) *ℤ pos d → pos 2 *ℤ z +ℤ pos d ≡ (k +ℤ pos 1) *ℤ pos (2 * d)
+        whole k d e = simp Z (omega (arith, simp Z at e))
+
+-- ---- steps 6 and 9
+pub metres-mirror : (z : ℤ) → metres (negℤ z) ≡ negℤ (metres z)
+unfolding metres
+metres-mirror z = nearest-mirror z 1000000000
+
+-- demand 3 rests on this alone
+pub metres-near : (z : ℤ) → Near z 1000000000 (metres z)
+unfolding metres
+metres-near z = nearest-error z 1000000000 (omega arith)
+
+pub tariff-mirror : (m : Metres) (constant factor : ℕ) → tariff (negℤ m) constant factor ≡ negℤ (tariff m constant factor)
+unfolding tariff
+tariff-mirror m constant factor =
+    ap (λ (z : ℤ). nearest z 100000) (turned m constant factor) ∙ nearest-mirror (m *ℤ pos constant *ℤ pos factor) 100000
+  where
+    turned : (m : ℤ) (a b : ℕ) → negℤ m *ℤ pos a *ℤ pos b ≡ negℤ (m *ℤ pos a *ℤ pos b)
+    turned m a b = simp Z (omega arith)
+
+-- ---- step 7
+pub averages-mirror : AveragesMirror
+averages-mirror n m w =
+    ap (λ (z : ℤ). nearest z (sum n w)) (Σ-same n _ _ (λ v h. turned (m v) (w v)) ∙ Σ-neg n (λ v. m v *ℤ pos (w v)))
+    ∙ nearest-mirror (Σ n (λ v. m v *ℤ pos (w v))) (sum n w)
+  where
+    turned : (m : ℤ) (w : ℕ) → negℤ m *ℤ pos w ≡ negℤ (m *ℤ pos w)
+    turned m w = simp Z (omega arith)
+
+average-same : (n : ℕ) (m m′ : ℕ → Metres) (w w′ : ℕ → Kw) → ((v : ℕ) → v < n → m v ≡ m′ v) → ((v : ℕ) → v < n → w v ≡ w′ v)
+    → average n m w ≡ average n m′ w′
+average-same n m m′ w w′ e f =
+    ap₂ nearest (Σ-same n _ _ (λ v h. ap₂ (λ (x : ℤ) (k : ℕ). x *ℤ pos k) (e v h) (f v h))) (sum-same n w w′ f)
+
+-- a zone's metres are such an average
+zonal-average : (G : Grid) (runs : Runs) (side : Side) (zone : ℕ)
+    → zonalMetres G runs side zone ≡ average (length (G .nodes)) (distance runs side) (weightIn G side zone)
+unfolding zonalMetres zoneWeight
+zonal-average G runs side zone =
+    ap (λ (z : ℤ). nearest z (sum (length (G .nodes)) (weightIn G side zone)))
+    (Σ-same (length (G .nodes)) _ _ (λ v h. weighed (eqb (zoneOf G side v) zone) (distance runs side v) (weight G side v)))
+  where
+    weighed : (b : Bool) (x : ℤ) (w : ℕ) → cond b (x *ℤ pos w) (pos 0) ≡ x *ℤ pos (cond b w 0)
+    weighed true x w = refl
+    weighed false x w = simp Z (omega arith)
+
+demand-average : (G : Grid) (runs : Runs) (zone : ℕ)
+    → zonalMetres G runs Demand zone ≡ negℤ (average (length (G .nodes)) (distance runs Generation) (weightIn G Demand zone))
+unfolding distance
+demand-average G runs zone =
+    zonal-average G runs Demand zone ∙ averages-mirror (length (G .nodes)) (widerMetres runs) (weightIn G Demand zone)
+
+-- ---- a generation zone and a demand zone
+zone-mirror : (G : Grid) (runs : Runs) (g d : ℕ) → WeighAlike G g d → zonalMetres G runs Demand d ≡ negℤ (zonalMetres G runs Generation g)
+zone-mirror G runs g d h =
+    demand-average G runs d
+    ∙ ap negℤ (average-same (length (G .nodes)) (distance runs Generation) (distance runs Generation) _ _ (λ v k. refl) (λ v k. sym (h v k)))
+    ∙ ap negℤ (sym (zonal-average G runs Generation g))
+
+centre-mirror : (G : Grid) (runs : Runs) (g d : ℕ) → WeighAlike G g d → afterC G runs Demand d ≡ negℤ (afterC G runs Generation g)
+unfolding afterC
+centre-mirror G runs g d h = rw (zone-mirror G runs g d h) (moved (zonalMetres G runs Generation g) (C G runs))
+  where
+    moved : (m c : ℤ) → negℤ m -ℤ c ≡ negℤ (m +ℤ c)
+    moved m c = simp Z (omega arith)
+
+pub zones-mirror : ZonesMirror
+unfolding zoneTariff
+zones-mirror G runs g d h = record {
+  metres = zone-mirror G runs g d h;
+  withC = centre-mirror G runs g d h;
+  tariffs =
+      ap (λ (m : Metres). tariff m (G .settings .constant) (G .settings .widerFactor)) (centre-mirror G runs g d h)
+      ∙ tariff-mirror (afterC G runs Generation g) (G .settings .constant) (G .settings .widerFactor);
+}
+
+-- ---- a case and its mirror image
+-- step 8 over plain numbers: p and p′ are 1000 together
+turned-C : (p p′ k l : ℕ) (a b : ℤ) → p′ + p ≡ 1000
+    → nearest (pos (1000 - p′) *ℤ b -ℤ pos p′ *ℤ a) (p′ * l + (1000 - p′) * k) ≡ negℤ (nearest (pos (1000 - p) *ℤ a -ℤ pos p *ℤ b) (p * k + (1000 - p) * l))
+turned-C p p′ k l a b e =
+    let mine : 1000 - p′ ≡ p = omega arith in
+    let yours : 1000 - p ≡ p′ = omega arith in
+    rw (mine, yours) (ap₂ nearest (turned p p′ a b) (joined p p′ k l) ∙ nearest-mirror (pos p′ *ℤ a -ℤ pos p *ℤ b) (p * k + p′ * l))
+  where
+    turned : (p q : ℕ) (a b : ℤ) → pos p *ℤ b -ℤ pos q *ℤ a ≡ negℤ (pos q *ℤ a -ℤ pos p *ℤ b)
+    turned p q a b = simp Z (omega arith)
+
+    joined : (p q k l : ℕ) → q * l + p * k ≡ p * k + q * l
+    joined p q k l = omega arith
+
+module _ (G G′ : Grid) (runs runs′ : Runs) (x : Exchanged G G′ runs runs′) where
+  abbrev n : ℕ
+  n = length (G .nodes)
+
+  distance-turned : (side : Side) (v : ℕ) → v < n → distance runs′ side v ≡ distance runs (other side) v
+  unfolding distance widerMetres
+  distance-turned Generation v h = ap metres (x .wider v h) ∙ metres-mirror _
+  distance-turned Demand v h = ap (λ (z : ℤ). negℤ (metres z)) (x .wider v h) ∙ ap negℤ (metres-mirror _) ∙ twice _
+    where
+      twice : (z : ℤ) → negℤ (negℤ z) ≡ z
+      twice z = simp Z (omega arith)
+
+  zonal-turned : (side : Side) (zone : ℕ) → zonalMetres G′ runs′ side zone ≡ zonalMetres G runs (other side) zone
+  zonal-turned side zone =
+      zonal-average G′ runs′ side zone
+      ∙ ap (λ (m : ℕ). average m (distance runs′ side) (weightIn G′ side zone)) (x .nodeCount)
+      ∙ average-same n _ _ _ _ (distance-turned side) (λ v h. ap₂ (λ (z w : ℕ). cond (eqb z zone) w 0) (x .zonesOf side v h) (x .weights side v h))
+      ∙ sym (zonal-average G runs (other side) zone)
+
+  paying-turned : (side : Side) (zone : ℕ) → zonePaying G′ side zone ≡ zonePaying G (other side) zone
+  unfolding zonePaying
+  paying-turned side zone =
+      rw (x .nodeCount) (sum-same n _ _ (λ v h. ap₂ (λ (z w : ℕ). cond (eqb z zone) w 0) (x .zonesOf side v h) (x .payers side v h)))
+
+  total-turned : (side : Side) → totalPaying G′ side ≡ totalPaying G (other side)
+  unfolding totalPaying
+  total-turned side = rw (x .nodeCount) (sum-same n _ _ (x .payers side))
+
+  over-turned : (side : Side) (f f′ : ℕ → ℤ) → ((zone : ℕ) → f′ zone ≡ f zone) → overZones G′ side f′ ≡ overZones G (other side) f
+  unfolding overZones
+  over-turned side f f′ e =
+      rw (x .zoneCounts side) (Σ-same (zones G (other side)) _ _ (λ k h. ap₂ (λ (m : ℤ) (w : ℕ). m *ℤ pos w) (e (suc k)) (paying-turned side (suc k))))
+
+  C-turned : C G′ runs′ ≡ negℤ (C G runs)
+  unfolding C
+  C-turned =
+      rw (over-turned Demand _ _ (zonal-turned Demand), over-turned Generation _ _ (zonal-turned Generation), total-turned Demand, total-turned Generation)
+      (turned-C (G .settings .p) (G′ .settings .p) (totalPaying G Generation) (totalPaying G Demand) (overZones G Demand (zonalMetres G runs Demand))
+      (overZones G Generation (zonalMetres G runs Generation)) (x .shares))
+
+  after-turned : (side : Side) (zone : ℕ) → afterC G′ runs′ side zone ≡ afterC G runs (other side) zone
+  unfolding afterC
+  after-turned Generation zone = rw (zonal-turned Generation zone, C-turned) refl
+  after-turned Demand zone = rw (zonal-turned Demand zone, C-turned) (moved (zonalMetres G runs Generation zone) (C G runs))
+    where
+      moved : (m c : ℤ) → m -ℤ negℤ c ≡ m +ℤ c
+      moved m c = simp Z (omega arith)
+
+  priced : (m m′ : Metres) (c c′ f f′ : ℕ) → m ≡ m′ → c ≡ c′ → f ≡ f′ → tariff m c f ≡ tariff m′ c′ f′
+  priced m m′ c c′ f f′ a b d = rw (a, b, d) refl
+
+  local-turned : (v : ℕ) → v < n → localMetres runs′ v ≡ negℤ (localMetres runs v)
+  unfolding localMetres
+  local-turned v h = ap metres (x .local v h) ∙ metres-mirror _
+
+  tariff-turned : (side : Side) (zone : ℕ) → zoneTariff G′ runs′ side zone ≡ zoneTariff G runs (other side) zone
+  unfolding zoneTariff
+  tariff-turned side zone = priced _ _ _ _ _ _ (after-turned side zone) (x .constants) (x .widerFactors)
+
+  image : MirrorImage G G′ runs runs′
+  unfolding localTariff
+  image = record {
+    centre = C-turned;
+    metres = zonal-turned;
+    withC = after-turned;
+    tariffs = tariff-turned;
+    localDistances = local-turned;
+    localTariffs = λ v h. priced _ _ _ _ _ _ (local-turned v h) (x .constants) (x .localFactors) ∙ tariff-mirror _ _ _;
+  }
+
+pub sides-mirror : SidesMirror
+sides-mirror G G′ runs runs′ x = image G G′ runs runs′ x
+
+-- ---- and its money
+-- a target by p is the other side's by 1000 - p
+target-turned : (G G′ : Grid) → G′ .settings .p + G .settings .p ≡ 1000 → G′ .settings .revenue ≡ G .settings .revenue
+    → (side : Side) → target G′ side ≡ target G (other side)
+unfolding target
+target-turned G G′ e r Generation = let q : 1000 - G′ .settings .p ≡ G .settings .p = omega arith in rw (r, q) refl
+target-turned G G′ e r Demand = let q : 1000 - G .settings .p ≡ G′ .settings .p = omega arith in rw (r, q) refl
+
+module _ (G G′ : Grid) (runs runs′ : Runs) (m : MoneyExchanged G G′ runs runs′) where
+  abbrev x : Exchanged G G′ runs runs′
+  x = m .exchanged
+
+  local-none : (side : Side) → localIncome G′ runs′ side ≡ localIncome G runs (other side)
+  unfolding localIncome
+  local-none Generation = m .noLocal′
+  local-none Demand = sym (m .noLocal)
+
+  rest-turned : (side : Side) → rest G′ runs′ side ≡ rest G runs (other side)
+  unfolding rest
+  rest-turned side =
+      rw (target-turned G G′ (x .shares) (m .revenues) side, over-turned G G′ runs runs′ x side _ _ (tariff-turned G G′ runs runs′ x side), local-none side) refl
+
+  residual-turned : (side : Side) → residual G′ runs′ side ≡ residual G runs (other side)
+  unfolding residual
+  residual-turned side = ap₂ residualOf (rest-turned side) (total-turned G G′ runs runs′ x side)
+
+  money : MoneyImage G G′ runs runs′
+  unfolding zoneTotal remainder
+  money = record {
+    residuals = residual-turned;
+    totals = λ side zone. ap₂ _+ℤ_ (tariff-turned G G′ runs runs′ x side zone) (residual-turned side);
+    remainders = λ side. ap₂ remainderOf (rest-turned side) (total-turned G G′ runs runs′ x side);
+  }
+
+pub money-mirrors : MoneyMirrors
+money-mirrors G G′ runs runs′ m = money G G′ runs runs′ m

@@ -1,0 +1,126 @@
+-- 02, request 2: "Our editors hold generation against demand, and a half that goes up on both sides spoils the mirror." What they see now, as statements.
+use mathlib.Core.Path.{_≡_}
+use mathlib.Core.Logic.{_⊎_}
+use mathlib.Core.Bool.{true, cond}
+use mathlib.Core.List.{List}
+use Prim.Native.Nat.{ℕ, _+_, _*_, _<_}
+use lib.Dec.{eqb}
+use lib.IntN.{ℤ, pos, negℤ, _+ℤ_, _*ℤ_}
+use lib.ListN.{length}
+use lib.Signed.{_<ℤ_}
+use Rattle.integers.specs.Numbers.{sum, Σ, floorDiv, nearest}
+use Rattle.meaning.specs.declared.Side.{Side}
+use Rattle.meaning.specs.declared.Side.the-variants.{Generation, Demand}
+use Rattle.meaning.specs.Study.{Kw, Metres, Runs}
+use Rattle.meaning.specs.File.{studyOf}
+use Rattle.meaning.specs.Grid.{Grid, gridOf}
+use Rattle.meaning.specs.Proposal.{potential}
+use Rattle.meaning.specs.Figures.{zones, zoneOf, weight, paying, zonalMetres, C, afterC, zoneTariff, localMetres, localTariff, localIncome, residual, remainder, zoneTotal}
+use Rattle.meaning.specs.Outcome.{sheetOf}
+use Rattle.meaning.specs.Sheet.{letter}
+use Rattle.meaning.specs.Read.{field, readNatural, readWhole, hasLetter, lineAt}
+use Rattle.meaning.specs.Conditions.{InRange, Acceptable}
+
+-- ---- one division
+abbrev pub NearestMirrors : Type 0
+NearestMirrors = (z : ℤ) (d : ℕ) → nearest (negℤ z) d ≡ negℤ (nearest z d)
+
+-- 01, Quantities, before this request: "a half going up towards plus infinity"
+abbrev pub halfUp : ℤ → ℕ → ℤ
+halfUp z d = floorDiv (pos 2 *ℤ z +ℤ pos d) (2 * d)
+
+-- z / d is a half below zero: k + 1/2, of which the nearest is now k, and was k + 1
+pub record NegativeHalf (z : ℤ) (d : ℕ) : Type 0 where
+  pub below : z <ℤ pos 0
+  pub half : pos 2 *ℤ z ≡ (pos 2 *ℤ nearest z d +ℤ pos 1) *ℤ pos d
+  pub was : halfUp z d ≡ nearest z d +ℤ pos 1
+
+-- and nothing else moves
+abbrev pub OnlyNegativeHalvesMove : Type 0
+OnlyNegativeHalvesMove = (z : ℤ) (d : ℕ) → 0 < d → (nearest z d ≡ halfUp z d) ⊎ NegativeHalf z d
+
+-- ---- step 7: negating metres and then averaging is averaging and then negating
+-- the nearest of the average of n nodes' metres m, each by its weight w
+abbrev pub average : (n : ℕ) (m : ℕ → Metres) (w : ℕ → Kw) → Metres
+average n m w = nearest (Σ n (λ v. m v *ℤ pos (w v))) (sum n w)
+
+abbrev pub AveragesMirror : Type 0
+AveragesMirror = (n : ℕ) (m : ℕ → Metres) (w : ℕ → Kw) → average n (λ v. negℤ (m v)) w ≡ negℤ (average n m w)
+
+-- ---- a generation zone and a demand zone of one case
+-- the kilowatts by which node v weighs in a zone
+abbrev pub weightIn : Grid → Side → (zone v : ℕ) → Kw
+weightIn G side zone v = cond (eqb (zoneOf G side v) zone) (weight G side v) 0
+
+-- the same nodes and weights: each node weighs in both alike
+abbrev pub WeighAlike : Grid → (g d : ℕ) → Type 0
+WeighAlike G g d = (v : ℕ) → v < length (G .nodes) → weightIn G Generation g v ≡ weightIn G Demand d v
+
+-- have opposite figures: m and -m, m + C and -m - C, and the tariffs of these
+pub record Opposite (G : Grid) (runs : Runs) (g d : ℕ) : Type 0 where
+  pub metres : zonalMetres G runs Demand d ≡ negℤ (zonalMetres G runs Generation g)
+  pub withC : afterC G runs Demand d ≡ negℤ (afterC G runs Generation g)
+  pub tariffs : zoneTariff G runs Demand d ≡ negℤ (zoneTariff G runs Generation g)
+
+abbrev pub ZonesMirror : Type 0
+ZonesMirror = (G : Grid) (runs : Runs) (g d : ℕ) → WeighAlike G g d → Opposite G runs g d
+
+-- and print opposite numbers. Fields of a zone's line from 0: zone 1, zonal metres 2, metres after C 3, tariff 4; a line with `-` has none, and reads as 0
+pub record LinesMirror (G : Grid) (line line′ : List ℕ) : Type 0 where
+  pub generation : hasLetter (letter Generation) line ≡ true
+  pub demand : hasLetter (letter Demand) line′ ≡ true
+  pub alike : WeighAlike G (readNatural 0 (field 1 line)) (readNatural 0 (field 1 line′))
+
+abbrev pub PrintedMirror : Type 0
+PrintedMirror =
+    (file : List ℕ) (runs : Runs) (i j : ℕ)
+    → Acceptable file runs
+    → LinesMirror (gridOf (studyOf file)) (lineAt i (sheetOf file runs)) (lineAt j (sheetOf file runs))
+    → (k : ℕ) → InRange k 2 4
+    → readWhole (field k (lineAt j (sheetOf file runs))) ≡ negℤ (readWhole (field k (lineAt i (sheetOf file runs))))
+
+-- ---- a whole case and its mirror image
+abbrev pub other : Side → Side
+other Generation = Demand
+other Demand = Generation
+
+-- what weighs and pays on one side does so on the other, p is taken from 1000, and all wider and local potentials are turned round
+pub record Exchanged (G G′ : Grid) (runs runs′ : Runs) : Type 0 where
+  pub nodeCount : length (G′ .nodes) ≡ length (G .nodes)
+  pub zoneCounts : (side : Side) → zones G′ side ≡ zones G (other side)
+  pub zonesOf : (side : Side) (v : ℕ) → v < length (G .nodes) → zoneOf G′ side v ≡ zoneOf G (other side) v
+  pub weights : (side : Side) (v : ℕ) → v < length (G .nodes) → weight G′ side v ≡ weight G (other side) v
+  pub payers : (side : Side) (v : ℕ) → v < length (G .nodes) → paying G′ side v ≡ paying G (other side) v
+  pub shares : G′ .settings .p + G .settings .p ≡ 1000
+  pub constants : G′ .settings .constant ≡ G .settings .constant
+  pub widerFactors : G′ .settings .widerFactor ≡ G .settings .widerFactor
+  pub localFactors : G′ .settings .localFactor ≡ G .settings .localFactor
+  pub wider : (v : ℕ) → v < length (G .nodes) → potential (runs′ .wider) v ≡ negℤ (potential (runs .wider) v)
+  pub local : (v : ℕ) → v < length (G .nodes) → potential (runs′ .local) v ≡ negℤ (potential (runs .local) v)
+
+-- C and the local figures are turned round, and what is printed of generation's zones is printed of demand's
+pub record MirrorImage (G G′ : Grid) (runs runs′ : Runs) : Type 0 where
+  pub centre : C G′ runs′ ≡ negℤ (C G runs)
+  pub metres : (side : Side) (zone : ℕ) → zonalMetres G′ runs′ side zone ≡ zonalMetres G runs (other side) zone
+  pub withC : (side : Side) (zone : ℕ) → afterC G′ runs′ side zone ≡ afterC G runs (other side) zone
+  pub tariffs : (side : Side) (zone : ℕ) → zoneTariff G′ runs′ side zone ≡ zoneTariff G runs (other side) zone
+  pub localDistances : (v : ℕ) → v < length (G .nodes) → localMetres runs′ v ≡ negℤ (localMetres runs v)
+  pub localTariffs : (v : ℕ) → v < length (G .nodes) → localTariff G′ runs′ v ≡ negℤ (localTariff G runs v)
+
+abbrev pub SidesMirror : Type 0
+SidesMirror = (G G′ : Grid) (runs runs′ : Runs) → Exchanged G G′ runs runs′ → MirrorImage G G′ runs runs′
+
+-- and where the revenue is the same and local tariffs bring nothing in, so are the other numbers of these lines, and the two remainders: all of the sheet but its `L` lines
+pub record MoneyExchanged (G G′ : Grid) (runs runs′ : Runs) : Type 0 where
+  pub exchanged : Exchanged G G′ runs runs′
+  pub revenues : G′ .settings .revenue ≡ G .settings .revenue
+  pub noLocal : localIncome G runs Generation ≡ pos 0
+  pub noLocal′ : localIncome G′ runs′ Generation ≡ pos 0
+
+pub record MoneyImage (G G′ : Grid) (runs runs′ : Runs) : Type 0 where
+  pub residuals : (side : Side) → residual G′ runs′ side ≡ residual G runs (other side)
+  pub totals : (side : Side) (zone : ℕ) → zoneTotal G′ runs′ side zone ≡ zoneTotal G runs (other side) zone
+  pub remainders : (side : Side) → remainder G′ runs′ side ≡ remainder G runs (other side)
+
+abbrev pub MoneyMirrors : Type 0
+MoneyMirrors = (G G′ : Grid) (runs runs′ : Runs) → MoneyExchanged G G′ runs runs′ → MoneyImage G G′ runs runs′
