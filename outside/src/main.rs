@@ -2,6 +2,7 @@
 
 mod compare;
 mod faults;
+mod halves;
 mod input;
 mod library;
 mod networks;

@@ -1,5 +1,6 @@
 //! Networks by chance, of every size and shape, solved: what the other inputs are made from.
 
+use crate::halves::negative_halves;
 use reference::file::{padded, Case, CircuitRow, Name, NodeRow, Settings, StationRow};
 use reference::judge_case;
 use reference::random::Chance;
@@ -20,7 +21,7 @@ pub const SHAPES: [Shape; 6] = [
 ];
 
 /// What the figures are like.
-pub const TASTES: [&str; 8] = [
+pub const TASTES: [&str; 9] = [
     "ordinary",
     "at the ends of ranges",
     "idle circuits",
@@ -29,7 +30,14 @@ pub const TASTES: [&str; 8] = [
     "least totals",
     "greatest totals",
     "one chargeable kilowatt",
+    HALVES,
 ];
+
+/// 02, CR 2: figures whose divisions leave halves.
+const HALVES: &str = "halves";
+
+/// 02, CR 2: the places of `negative_halves` that are rare: local metres, averages, C and generation's tariffs.
+const RARE_HALVES: [usize; 5] = [1, 2, 3, 4, 5];
 
 /// 02, CR 1: the plant types that pay.
 pub const PAYING: [u32; 6] = [1, 2, 4, 5, 6, 7];
@@ -80,7 +88,7 @@ impl Figures<'_> {
     }
 
     fn settings(&mut self, nodes: usize) -> Settings {
-        Settings {
+        let settings = Settings {
             generation_zones: self.within(1, 32),
             demand_zones: self.within(1, 32),
             p: self.within(0, 1_000),
@@ -91,6 +99,25 @@ impl Figures<'_> {
             reference: self.chance.within(1, nodes as u64) as u32,
             zero: 0,
             revenue: self.chance.of(&[0, 1, 999_999, 100_000_000, 2_939_300_000, 10_000_000_000]),
+        };
+        match self.taste == HALVES {
+            true => self.halving_settings(settings),
+            false => settings,
+        }
+    }
+
+    /// Few zones, lengths of half metres, and tariffs of half micro-pounds a metre.
+    fn halving_settings(&mut self, settings: Settings) -> Settings {
+        let chance = &mut *self.chance;
+        Settings {
+            generation_zones: chance.within(2, 4) as u32,
+            demand_zones: chance.within(2, 4) as u32,
+            p: chance.of(&[0, 250, 500, 500, 1_000]),
+            constant: chance.of(&[50, 150]),
+            wider_factor: chance.of(&[1_000, 3_000]),
+            local_factor: chance.of(&[1_000, 3_000]),
+            factors: std::array::from_fn(|place| if place == 0 { 1_000 } else { 500 * chance.within(2, 5) as u32 }),
+            ..settings
         }
     }
 
@@ -113,7 +140,7 @@ impl Figures<'_> {
         let mark =
             if self.taste == "marked circuits" { self.chance.within(0, 3) > 0 } else { self.chance.within(0, 4) == 0 };
         let cable = if self.chance.within(0, 3) == 0 { self.within(0, 500_000) / self.chance.of(&[1, 100]) } else { 0 };
-        CircuitRow {
+        let row = CircuitRow {
             first,
             second,
             voltage: self.chance.of(&[132, 275, 400]),
@@ -121,7 +148,18 @@ impl Figures<'_> {
             overhead: self.within(0, 500_000),
             cable,
             mark: mark as u32,
+        };
+        match self.taste == HALVES {
+            true => self.halving_circuit(row),
+            false => row,
         }
+    }
+
+    /// A few metres, marked or not; with one x for all, circuits side by side share their lengths evenly.
+    fn halving_circuit(&mut self, row: CircuitRow) -> CircuitRow {
+        let overhead = self.chance.within(1, 9) as u32;
+        let mark = (self.chance.within(0, 2) == 0) as u32;
+        CircuitRow { x: 100, overhead, cable: 0, mark, ..row }
     }
 
     fn station(&mut self, number: usize, node: Name) -> StationRow {
@@ -146,12 +184,34 @@ fn name(number: usize) -> Name {
 }
 
 /// A network of a shape and a taste with so many nodes, circuits in any order, solved.
-pub fn network(chance: &mut Chance, (_, shape): Shape, taste: &'static str, nodes: usize) -> Case {
+pub fn network(chance: &mut Chance, shape: Shape, taste: &'static str, nodes: usize) -> Case {
+    if taste == HALVES && nodes <= 60 {
+        network_of_halves(chance, shape, nodes)
+    } else {
+        drawn(chance, shape, taste, nodes)
+    }
+}
+
+/// 02, CR 2: of four hundred networks the one with negative halves in the most places, before all in two of the rare ones.
+fn network_of_halves(chance: &mut Chance, shape: Shape, nodes: usize) -> Case {
+    let wanted = [chance.of(&RARE_HALVES), chance.of(&RARE_HALVES)];
+    let met = |case: &Case| {
+        let halves = negative_halves(case);
+        let count = |places: &[usize]| places.iter().filter(|place| halves[**place].1).count();
+        (count(&wanted), count(&RARE_HALVES) + halves.iter().filter(|(_, met)| *met).count())
+    };
+    let networks = (0..400).map(|_| drawn(chance, shape, HALVES, nodes.max(6)));
+    networks.max_by_key(met).expect("four hundred networks")
+}
+
+/// One network by chance.
+fn drawn(chance: &mut Chance, (_, shape): Shape, taste: &'static str, nodes: usize) -> Case {
     let mut ends = shape(chance, nodes);
     for place in (1..ends.len()).rev() {
         ends.swap(place, chance.within(0, place as u64) as usize);
     }
-    let stations = if nodes == 256 { 512 } else { chance.within(1, 2 * nodes as u64) as usize };
+    let fewest = if taste == HALVES { nodes as u64 } else { 1 };
+    let stations = if nodes == 256 { 512 } else { chance.within(fewest, 2 * nodes as u64) as usize };
     let mut figures = Figures { chance, taste };
     let settings = figures.settings(nodes);
     let mut case = Case {
@@ -261,7 +321,20 @@ fn set_kilowatts(chance: &mut Chance, case: &mut Case, taste: &str) {
                     .for_each(|(place, row)| row.demand = if place < 5 { 20_000_000 } else { 0 });
             }
         }
+        HALVES => set_alike(chance, case),
         _ => (),
+    }
+}
+
+/// 02, CR 2: few and equal kilowatts, so that averages are over few, with TEC equal to demand.
+fn set_alike(chance: &mut Chance, case: &mut Case) {
+    case.nodes.iter_mut().for_each(|row| row.demand = 0);
+    case.stations.iter_mut().for_each(|row| row.tec = 0);
+    for _ in 0..chance.of(&[2, 4, 8]) {
+        let node = chance.within(0, case.nodes.len() as u64 - 1) as usize;
+        case.nodes[node].demand += 100_000;
+        let station = chance.within(0, case.stations.len() as u64 - 1) as usize;
+        case.stations[station].tec += 100_000;
     }
 }
 

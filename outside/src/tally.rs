@@ -1,5 +1,6 @@
 //! How often each answer and each cause was met.
 
+use crate::halves::negative_halves;
 use reference::file::{Case, Name, StationRow};
 use reference::tables::INTERCONNECTOR;
 use std::collections::{BTreeMap, BTreeSet};
@@ -84,7 +85,8 @@ fn features(case: &Case, sheet: &[u8]) -> Vec<(String, bool)> {
         case.stations.iter().map(|row| row.tec as u64).sum::<u64>()
             == case.nodes.iter().map(|row| row.demand as u64).sum(),
     );
-    list.extend(interconnectors(case).map(|(name, met)| (format!("accepted with {name}"), met)));
+    let requests = interconnectors(case).into_iter().chain(negative_halves(case));
+    list.extend(requests.map(|(name, met)| (format!("accepted with {name}"), met)));
     list
 }
 

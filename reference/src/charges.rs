@@ -134,11 +134,17 @@ fn over_chargeable(zones: &[Zone], figure: impl Fn(Metres) -> i128) -> i128 {
 /// metres times kW) / (p x total TEC + (1000-p) x total demand)". 02, CR 1: type 3 TEC "leaves both generation terms of
 /// C", the sum and the total.
 pub fn c(tables: &Tables, generation: &[Zone], demand: &[Zone]) -> Metres {
+    let (number, divisor) = c_division(tables, generation, demand);
+    Metres(nearest(number, divisor))
+}
+
+/// 01 step 8: the number and the divisor that C is the nearest of.
+pub fn c_division(tables: &Tables, generation: &[Zone], demand: &[Zone]) -> (i128, i128) {
     let p = tables.settings.p as i128;
     let metre_kilowatts = |zones| over_chargeable(zones, |metres| metres.0);
     let number = (1000 - p) * metre_kilowatts(demand) - p * metre_kilowatts(generation);
     let divisor = p * tables.total_chargeable.0 + (1000 - p) * tables.total_demand.0;
-    Metres(nearest(number, divisor))
+    (number, divisor)
 }
 
 /// 01 step 9: "the nearest of metres x constant x security factor / 100,000".
@@ -172,7 +178,7 @@ pub fn sheet(tables: &Tables, wider: &[i64], local: &[i64]) -> Sheet {
 }
 
 /// 01 step 7: "generation weighted by TEC". 02, CR 1: by all of it, and charged without type 3.
-fn generation_rows(tables: &Tables, wider: &[i64]) -> Vec<ZoneRow> {
+pub fn generation_rows(tables: &Tables, wider: &[i64]) -> Vec<ZoneRow> {
     let kilowatts = node_tec(tables).into_iter().zip(node_chargeable(tables));
     let nodes = tables.nodes.iter().zip(kilowatts).zip(wider);
     let row = |((node, (weight, chargeable)), potential): ((&Node, (Kw, Kw)), &i64)| ZoneRow {
@@ -185,7 +191,7 @@ fn generation_rows(tables: &Tables, wider: &[i64]) -> Vec<ZoneRow> {
 }
 
 /// 01 steps 6 and 7: demand's distances, "demand by demand".
-fn demand_rows(tables: &Tables, wider: &[i64]) -> Vec<ZoneRow> {
+pub fn demand_rows(tables: &Tables, wider: &[i64]) -> Vec<ZoneRow> {
     let row = |(node, potential): (&Node, &i64)| ZoneRow {
         zone: node.demand_zone,
         metres: demand_metres(nodal_metres(*potential)),
