@@ -293,8 +293,8 @@ fn proposals(study: &Study, tec: &[Tec], demand: i64, total: i64, runs: [&[i64];
 }
 
 fn nearest(z: i64, d: i64) -> i64 {
-    let (whole, left) = (z.div_euclid(d), z.rem_euclid(d));
-    whole + (left >= d - left) as i64
+    let (whole, left) = (z.abs() / d, z.abs() % d);
+    z.signum() * (whole + (left >= d - left) as i64)
 }
 
 /// A zone's kilowatts, and its nodes' metres times kilowatts; then its metres.

@@ -63,8 +63,8 @@ fn nearest(z: i64, d: u64) -> i64 {
         return 0;
     }
     let d = d as i64;
-    let (whole, left) = (z.div_euclid(d), z.rem_euclid(d));
-    whole + (left >= d - left) as i64
+    let (whole, left) = (z / d, (z % d).abs());
+    whole + z.signum() * (left >= d - left) as i64
 }
 
 fn metres(potential: i64) -> i64 {
