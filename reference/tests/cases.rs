@@ -32,8 +32,8 @@ fn each_text_gives_its_sheet() {
     }
 }
 
-/// Texts whose solutions are another solver's, or chosen at the ends of their ranges.
-const CHOSEN: [&str; 3] = ["DALE", "HIGH", "LOW"];
+/// Texts whose solutions are another solver's, or chosen: at the ends of their ranges, or by hand.
+const CHOSEN: [&str; 5] = ["DALE", "HIGH", "LOW", "TARN", "TARN_MIRROR"];
 
 #[test]
 fn each_chosen_text_gives_its_sheet() {
