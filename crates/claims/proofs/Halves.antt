@@ -18,7 +18,7 @@ use Rattle.meaning.specs.Figures.{zones}
 use Rattle.meaning.specs.Outcome.{judged, sheetOf, prints}
 use Rattle.meaning.specs.Read.{field, readWhole, lineAt}
 use Rattle.meaning.specs.Conditions.{InRange, Acceptable}
-use Rattle.meaning.specs.Mirror.{WeighAlike, Opposite, LinesMirror, other, Exchanged, MirrorImage, MoneyImage}
+use Rattle.meaning.specs.Mirror.{WeighAlike, Opposite, LinesAlike, other, Exchanged, MirrorImage, MoneyImage}
 use Rattle.meaning.proofs.Write.{name, fileOf}
 use Rattle.meaning.proofs.Opened.{opened}
 use Rattle.meaning.proofs.Kiln.{stationOf}
@@ -119,13 +119,13 @@ tarn-opposite : Opposite tarnGrid tarnRuns 1 1
 tarn-opposite = zones-mirror tarnGrid tarnRuns 1 1 alike
 
 -- on the sheet's bytes these are lines 1 and 3, counted from 0
-tarn-lines : LinesMirror tarnGrid (lineAt 1 (sheetOf tarn tarnRuns)) (lineAt 3 (sheetOf tarn tarnRuns))
+tarn-lines : LinesAlike tarnGrid (lineAt 1 (sheetOf tarn tarnRuns)) (lineAt 3 (sheetOf tarn tarnRuns))
 unfolding opened
 tarn-lines = record { generation = refl; demand = refl; alike = alike }
 
 tarn-printed : (k : ℕ) → InRange k 2 4
     → readWhole (field k (lineAt 3 (sheetOf tarn tarnRuns))) ≡ negℤ (readWhole (field k (lineAt 1 (sheetOf tarn tarnRuns))))
-tarn-printed = printed-mirror tarn tarnRuns 1 3 tarn-acceptable tarn-lines
+tarn-printed k = printed-mirror tarn tarnRuns tarn-acceptable .opposite 1 3 k tarn-lines
 
 -- ---- its mirror image: TEC and demand exchanged at each node, p 100 for 900, flows and potentials turned round. C is -0.5, so -1
 abbrev turned : List ℤ → List ℤ

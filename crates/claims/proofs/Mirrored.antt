@@ -17,7 +17,7 @@ use Rattle.meaning.specs.Figures.{zoneWeight, zonalMetres, afterC, zoneTariff}
 use Rattle.meaning.specs.Sheet.{letter, sheet}
 use Rattle.meaning.specs.Read.{pieces, field, readNatural, readWhole, hasLetter, lineAt}
 use Rattle.meaning.specs.Conditions.{InRange, SoundTables}
-use Rattle.meaning.specs.Mirror.{WeighAlike, LinesMirror, PrintedMirror}
+use Rattle.meaning.specs.Mirror.{WeighAlike, LinesAlike, PrintedMirror}
 use Rattle.meaning.proofs.Says.{says-eq}
 use Rattle.meaning.proofs.Mirror.{zones-mirror}
 use Rattle.claims.proofs.Digits.{differs, read-natural, read-decimal}
@@ -61,7 +61,7 @@ module _ (S : Study) (sound : SoundTables S) (runs : Runs) where
         turned true f = refl
         turned false f = refl
 
-    printed-mirror : (i j : ℕ) → LinesMirror G (lineAt i (sheet G runs)) (lineAt j (sheet G runs))
+    printed-mirror : (i j : ℕ) → LinesAlike G (lineAt i (sheet G runs)) (lineAt j (sheet G runs))
         → ((g d : ℕ) → WeighAlike G g d → figure Demand d ≡ negℤ (figure Generation g))
         → readWhole (field k (lineAt j (sheet G runs))) ≡ negℤ (readWhole (field k (lineAt i (sheet G runs))))
     printed-mirror i j m h =
@@ -80,10 +80,18 @@ three-fields P a b c (suc (suc (suc (suc (suc k))))) r = absurd (omega (arith, r
 
 pub printed-mirrors : PrintedMirror
 unfolding readWhole readNatural gridOf
-printed-mirrors file runs i j a m =
-    let S = studyOf file in
-    let sound = a .study .tables in
-    three-fields _
-    (printed-mirror S sound runs 2 (zonalMetres (gridOf S) runs) (λ side z. refl) (λ side z. read-decimal _) i j m (λ g d h. zones-mirror (gridOf S) runs g d h .metres))
-    (printed-mirror S sound runs 3 (afterC (gridOf S) runs) (λ side z. refl) (λ side z. read-decimal _) i j m (λ g d h. zones-mirror (gridOf S) runs g d h .withC))
-    (printed-mirror S sound runs 4 (zoneTariff (gridOf S) runs) (λ side z. refl) (λ side z. read-decimal _) i j m (λ g d h. zones-mirror (gridOf S) runs g d h .tariffs))
+printed-mirrors file runs a = record { opposite = λ i j k m. opposite i j m k }
+  where
+    S : Study
+    S = studyOf file
+
+    sound : SoundTables S
+    sound = a .study .tables
+
+    opposite : (i j : ℕ) → LinesAlike (gridOf S) (lineAt i (sheet (gridOf S) runs)) (lineAt j (sheet (gridOf S) runs)) → (k : ℕ) → InRange k 2 4
+        → readWhole (field k (lineAt j (sheet (gridOf S) runs))) ≡ negℤ (readWhole (field k (lineAt i (sheet (gridOf S) runs))))
+    opposite i j m =
+        three-fields _
+        (printed-mirror S sound runs 2 (zonalMetres (gridOf S) runs) (λ side z. refl) (λ side z. read-decimal _) i j m (λ g d h. zones-mirror (gridOf S) runs g d h .metres))
+        (printed-mirror S sound runs 3 (afterC (gridOf S) runs) (λ side z. refl) (λ side z. read-decimal _) i j m (λ g d h. zones-mirror (gridOf S) runs g d h .withC))
+        (printed-mirror S sound runs 4 (zoneTariff (gridOf S) runs) (λ side z. refl) (λ side z. read-decimal _) i j m (λ g d h. zones-mirror (gridOf S) runs g d h .tariffs))

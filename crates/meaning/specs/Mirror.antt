@@ -65,19 +65,19 @@ pub record Opposite (G : Grid) (runs : Runs) (g d : ℕ) : Type 0 where
 abbrev pub ZonesMirror : Type 0
 ZonesMirror = (G : Grid) (runs : Runs) (g d : ℕ) → WeighAlike G g d → Opposite G runs g d
 
--- and print opposite numbers. Fields of a zone's line from 0: zone 1, zonal metres 2, metres after C 3, tariff 4; a line with `-` has none, and reads as 0
-pub record LinesMirror (G : Grid) (line line′ : List ℕ) : Type 0 where
+-- and their lines show it. A `G` line and a `D` line of two such zones; field 1 is the zone
+pub record LinesAlike (G : Grid) (line line′ : List ℕ) : Type 0 where
   pub generation : hasLetter (letter Generation) line ≡ true
   pub demand : hasLetter (letter Demand) line′ ≡ true
   pub alike : WeighAlike G (readNatural 0 (field 1 line)) (readNatural 0 (field 1 line′))
 
+-- have opposite numbers in fields 2 (zonal metres), 3 (metres after C) and 4 (tariff); a line with `-` has none, and reads as 0
+pub record ShowsMirror (G : Grid) (sheet : List ℕ) : Type 0 where
+  pub opposite : (i j k : ℕ) → LinesAlike G (lineAt i sheet) (lineAt j sheet) → InRange k 2 4
+      → readWhole (field k (lineAt j sheet)) ≡ negℤ (readWhole (field k (lineAt i sheet)))
+
 abbrev pub PrintedMirror : Type 0
-PrintedMirror =
-    (file : List ℕ) (runs : Runs) (i j : ℕ)
-    → Acceptable file runs
-    → LinesMirror (gridOf (studyOf file)) (lineAt i (sheetOf file runs)) (lineAt j (sheetOf file runs))
-    → (k : ℕ) → InRange k 2 4
-    → readWhole (field k (lineAt j (sheetOf file runs))) ≡ negℤ (readWhole (field k (lineAt i (sheetOf file runs))))
+PrintedMirror = (file : List ℕ) (runs : Runs) → Acceptable file runs → ShowsMirror (gridOf (studyOf file)) (sheetOf file runs)
 
 -- ---- a whole case and its mirror image
 abbrev pub other : Side → Side

@@ -14,8 +14,9 @@ use Rattle.meaning.specs.Grid.{gridOf}
 use Rattle.meaning.specs.Outcome.{sheetOf, Settled, settle, written, refused}
 use Rattle.meaning.specs.Conditions.{Acceptable}
 use Rattle.meaning.specs.Demands.{IsWritten, IsRefused, Recovered, SameButStations, Agree, PassesToFive}
+use Rattle.meaning.specs.Mirror.{ShowsMirror}
 use Rattle.claims.proofs.Accepted.{accepted≢refused}
-use Rattle.claims.proofs.Theorems.{every-input-settled, accepted-exactly-when, refused-exactly-when, revenue-recovered, solvers-agree, stations-hidden}
+use Rattle.claims.proofs.Theorems.{every-input-settled, accepted-exactly-when, refused-exactly-when, revenue-recovered, solvers-agree, stations-hidden, printed-mirror}
 use Rattle.meaning.specs.Refusals.{Stopped}
 use Rattle.meaning.specs.Calls.{Call, Kept}
 use Rattle.promises.specs.Calls.{IsAccepted, sheetIn, IsRefusal, Promised, EveryCallPromised, EveryTwoPromised}
@@ -86,6 +87,9 @@ module _ (c : Call) (kept : Kept c) where
         revenue = λ a.
             subst (λ (l : List ℕ). Recovered (gridOf (studyOf (c .file))) l) (sym (written-sheet (accepted-written a)))
             (revenue-recovered (c .file) (c .runs) (acceptable a));
+        mirror = λ a.
+            subst (λ (l : List ℕ). ShowsMirror (gridOf (studyOf (c .file))) l) (sym (written-sheet (accepted-written a)))
+            (printed-mirror (c .file) (c .runs) (acceptable a));
       }
 
 pub every-call-promised : EveryCallPromised

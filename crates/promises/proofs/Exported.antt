@@ -15,6 +15,7 @@ use Rattle.meaning.specs.Grid.{gridOf}
 use Rattle.meaning.specs.Outcome.{sheetOf, Settled, settle, written, refused}
 use Rattle.meaning.specs.Refusals.{Stopped}
 use Rattle.meaning.specs.Demands.{Accepting, Recovered, SameButStations, Agree, PassesToFive}
+use Rattle.meaning.specs.Mirror.{ShowsMirror}
 use Rattle.meaning.specs.Calls.{Call, Kept, four, ToldCall, ToldKept}
 use Rattle.meaning.proofs.Table.{values-tell, number-positive}
 use Rattle.claims.proofs.Listed.{stopped-listed}
@@ -137,6 +138,7 @@ module _ (c : ToldCall) (kept : ToldKept c) where
     lengthTold = length-told;
     refusalTold = refusal-told;
     revenue = λ e. subst (Recovered (gridOf (studyOf (c .file)))) (sheet-in e) (whole .revenue (is-accepted e));
+    mirror = λ e. subst (ShowsMirror (gridOf (studyOf (c .file)))) (sheet-in e) (whole .mirror (is-accepted e));
   }
 
 pub every-told-promised : EveryToldPromised

@@ -18,12 +18,13 @@ use Rattle.meaning.specs.Outcome.{judged, sheetOf, refusedLine, printedBy, prin
 use Rattle.meaning.specs.Conditions.{Acceptable}
 use Rattle.meaning.specs.Refusals.{FirstUnmet, caseOrder}
 use Rattle.meaning.specs.Demands.{Recovered, SameButStations, Agree, PassesToFive}
+use Rattle.meaning.specs.Mirror.{ShowsMirror}
 use Rattle.meaning.proofs.Judged.{judge-case, judged-pass}
 use Rattle.claims.proofs.Listed.{case-listed, case-number}
 use Rattle.claims.proofs.Told.{line-told}
 use Rattle.claims.proofs.Hidden.{judged-alike}
 use Rattle.claims.proofs.Same.{same-grid}
-use Rattle.claims.proofs.Theorems.{revenue-recovered, solvers-agree}
+use Rattle.claims.proofs.Theorems.{revenue-recovered, solvers-agree, printed-mirror}
 use Rattle.output.proofs.Cut.{input-cut}
 use Rattle.meaning.specs.Calls.{Prints}
 use Rattle.promises.specs.Program.{shown, RefusalPrinted, PrintPromised, EveryPrintPromised, BothPrinted, EveryTwoPrinted, Filled, EveryReadPromised}
@@ -92,6 +93,7 @@ module _ (file : List ℕ) where
     refused = λ r. (line-stopped r, stopped-line r);
     otherwise = otherwise;
     revenue = λ a. subst (λ (l : List ℕ). Recovered (gridOf (studyOf file)) l) (sym (accepted-sheet a)) (revenue-recovered file runs a);
+    mirror = λ a. subst (λ (l : List ℕ). ShowsMirror (gridOf (studyOf file)) l) (sym (accepted-sheet a)) (printed-mirror file runs a);
   }
 
 -- the bytes that are written are the text

@@ -12,6 +12,7 @@ use Rattle.meaning.specs.Grid.{gridOf}
 use Rattle.meaning.specs.Outcome.{sheetOf}
 use Rattle.meaning.specs.Refusals.{Stopped}
 use Rattle.meaning.specs.Demands.{ListedFor, Accepting, Recovered, SameButStations, Agree, PassesToFive}
+use Rattle.meaning.specs.Mirror.{ShowsMirror}
 use Rattle.meaning.specs.Calls.{Call, Kept}
 
 -- accepted, with the sheet's length
@@ -41,6 +42,8 @@ pub record Promised (c : Call) : Type 0 where
   pub refused : (r : Refusal) → (c .answer ≡ Refused r) ↔ Stopped (c .file) (c .runs) (c .before) r
   -- the revenue, from the bytes that the caller got
   pub revenue : IsAccepted c → Recovered (gridOf (studyOf (c .file))) (sheetIn c)
+  -- and generation held against demand, in the same bytes (02, request 2)
+  pub mirror : IsAccepted c → ShowsMirror (gridOf (studyOf (c .file))) (sheetIn c)
 
 abbrev pub EveryCallPromised : Type 0
 EveryCallPromised = (c : Call) → Kept c → Promised c

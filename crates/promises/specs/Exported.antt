@@ -12,6 +12,7 @@ use Rattle.meaning.specs.Grid.{gridOf}
 use Rattle.meaning.specs.Outcome.{sheetOf}
 use Rattle.meaning.specs.Refusals.{Stopped}
 use Rattle.meaning.specs.Demands.{ListedFor, Accepting, Recovered, SameButStations, Agree, PassesToFive}
+use Rattle.meaning.specs.Mirror.{ShowsMirror}
 use Rattle.meaning.specs.Calls.{four, ToldCall, ToldKept}
 
 -- the sheet that a caller finds at the buffer's front: its length is the fourth number
@@ -38,6 +39,8 @@ pub record ToldPromised (c : ToldCall) : Type 0 where
   pub refusalTold : (r : Refusal) → (c .numbers ≡ four (values (Refused r))) ↔ Stopped (c .file) (c .runs) (c .before) r
   -- the revenue, from the bytes that the caller got
   pub revenue : c .result ≡ 0 → Recovered (gridOf (studyOf (c .file))) (sheetAt c (length (sheetOf (c .file) (c .runs))))
+  -- and generation held against demand, in the same bytes (02, request 2)
+  pub mirror : c .result ≡ 0 → ShowsMirror (gridOf (studyOf (c .file))) (sheetAt c (length (sheetOf (c .file) (c .runs))))
 
 abbrev pub EveryToldPromised : Type 0
 EveryToldPromised = (c : ToldCall) → ToldKept c → ToldPromised c

@@ -14,6 +14,7 @@ use Rattle.meaning.specs.Outcome.{sheetOf, refusedLine, prints}
 use Rattle.meaning.specs.Conditions.{Acceptable}
 use Rattle.meaning.specs.Refusals.{FirstUnmet, caseOrder}
 use Rattle.meaning.specs.Demands.{ListedFor, Recovered, SameButStations, Agree, PassesToFive}
+use Rattle.meaning.specs.Mirror.{ShowsMirror}
 use Rattle.meaning.specs.Calls.{Prints}
 
 -- the bytes that the program writes
@@ -36,6 +37,8 @@ pub record PrintPromised (file text : List ℕ) : Type 0 where
   pub otherwise : (Acceptable file (runsIn file) → ⊥) → RefusalPrinted file text
   -- the revenue, from the bytes that were printed
   pub revenue : Acceptable file (runsIn file) → Recovered (gridOf (studyOf file)) text
+  -- and generation held against demand, in the same bytes (02, request 2)
+  pub mirror : Acceptable file (runsIn file) → ShowsMirror (gridOf (studyOf file)) text
 
 abbrev pub EveryPrintPromised : Type 0
 EveryPrintPromised = (file : List ℕ) (r : Printed) → Prints (prints file) r → PrintPromised file (shown r)
