@@ -126,7 +126,7 @@ fn residuals_and_scaled_generation_are_still_rounded_down() {
     assert_eq!(scaled_generation(&[Kw(3), Kw(3), Kw(6)], Kw(6), Kw(12)), [Kw(2), Kw(1), Kw(3)]);
 }
 
-/// Sheets by hand, of cases of the replay's list.
+/// Sheets of cases of the replay's list, worked out from the documents apart from this program.
 const SHEETS: [(&str, &str); 22] = [
     // A tariff is 18 a metre, a side's income 18 m x 20,000 kW, its target 5 x 10^10: 1,250,000 less 9 a metre.
     (
@@ -441,7 +441,7 @@ R 0 0
 ];
 
 #[test]
-fn sheets_by_hand() {
+fn sheets_in_full() {
     let list = cases();
     for (label, sheet) in SHEETS {
         assert_eq!(sheet_of(&list, label), sheet, "{label}");

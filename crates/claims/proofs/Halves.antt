@@ -18,7 +18,7 @@ use Rattle.meaning.specs.Figures.{zones}
 use Rattle.meaning.specs.Outcome.{judged, sheetOf, prints}
 use Rattle.meaning.specs.Read.{field, readWhole, lineAt}
 use Rattle.meaning.specs.Conditions.{InRange, Acceptable}
-use Rattle.meaning.specs.Mirror.{WeighAlike, Opposite, LinesAlike, other, Exchanged, MirrorImage, MoneyImage}
+use Rattle.meaning.specs.Mirror.{NegativeHalf, Divides, zonal, WeighAlike, Opposite, LinesAlike, other, Exchanged, MirrorImage, MoneyImage}
 use Rattle.meaning.proofs.Write.{name, fileOf}
 use Rattle.meaning.proofs.Opened.{opened}
 use Rattle.meaning.proofs.Kiln.{stationOf}
@@ -117,6 +117,15 @@ alike = four _ refl refl refl refl
 
 tarn-opposite : Opposite tarnGrid tarnRuns 1 1
 tarn-opposite = zones-mirror tarnGrid tarnRuns 1 1 alike
+
+-- generation zone 1 is one of the figures that moved: -3,000 metres times kilowatts over 2,000 kW, which was -1
+zone-moved : NegativeHalf (negℤ (pos 3000)) 2000
+unfolding opened
+zone-moved = record { below = record { lt = tt }; half = refl; was = refl }
+
+zone-divides : Divides tarnGrid tarnRuns (negℤ (pos 3000)) 2000 (negℤ (pos 2))
+unfolding opened
+zone-divides = zonal Generation 1
 
 -- on the sheet's bytes these are lines 1 and 3, counted from 0
 tarn-lines : LinesAlike tarnGrid (lineAt 1 (sheetOf tarn tarnRuns)) (lineAt 3 (sheetOf tarn tarnRuns))

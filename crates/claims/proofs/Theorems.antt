@@ -1,6 +1,6 @@
 -- The user's demands, proved: each statement is a type of meaning/specs/Demands.antt or, for request 2, Mirror.antt, and its proof is in the file named here.
 use Rattle.meaning.specs.Demands.{EveryInputSettled, AcceptedExactlyWhen, RefusedExactlyWhen, OneAnswer, JudgeIsWrite, RevenueRecovered, CentreBalances, SolversAgree, StationsHidden, CapacityKept, SheetsFit, AllButInterconnectorsPay, NoInterconnectorNoChange, TypesHidden}
-use Rattle.meaning.specs.Mirror.{NearestMirrors, OnlyNegativeHalvesMove, AveragesMirror, ZonesMirror, PrintedMirror, SidesMirror, MoneyMirrors}
+use Rattle.meaning.specs.Mirror.{NearestMirrors, OnlyNegativeHalvesMove, FiguresMove, AveragesMirror, ZonesMirror, PrintedMirror, SidesMirror, MoneyMirrors}
 use Rattle.meaning.proofs.Mirror as Mirror
 use Rattle.sizes.proofs.Accepted as Sizes
 use Rattle.claims.proofs.Accepted
@@ -75,6 +75,10 @@ nearest-mirrors = Mirror.nearest-mirrors
 -- and of the roundings of 01 only a half below zero moved, by one
 pub only-negative-halves-move : OnlyNegativeHalvesMove
 only-negative-halves-move = Mirror.only-negative-halves-move
+
+-- and so of the figures of a case: where none of its divisions leaves such a half, all are 01's
+pub figures-move : FiguresMove
+figures-move = Mirror.figures-move
 
 -- negating metres and then averaging is averaging and then negating
 pub averages-mirror : AveragesMirror

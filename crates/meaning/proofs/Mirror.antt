@@ -17,7 +17,7 @@ use Rattle.meaning.specs.declared.Side.the-variants.{Generation, Demand}
 use Rattle.meaning.specs.Study.{Kw, Metres, MicroPerKw, Runs}
 use Rattle.meaning.specs.Grid.{Grid}
 use Rattle.meaning.specs.Figures.{metres, tariff, residualOf, remainderOf, widerMetres, localMetres, distance, zones, zoneOf, weight, zoneWeight, zonePaying, totalPaying, overZones, target, zonalMetres, C, afterC, zoneTariff, localTariff, localIncome, rest, residual, remainder, zoneTotal}
-use Rattle.meaning.specs.Mirror.{NearestMirrors, halfUp, NegativeHalf, OnlyNegativeHalvesMove, average, AveragesMirror, weightIn, WeighAlike, Opposite, ZonesMirror, other, Exchanged, MirrorImage, SidesMirror, MoneyExchanged, MoneyImage, MoneyMirrors}
+use Rattle.meaning.specs.Mirror.{NearestMirrors, halfUp, NegativeHalf, OnlyNegativeHalvesMove, Divides, wider, local, zonal, centre, zoneTariffs, localTariffs, FiguresMove, average, AveragesMirror, weightIn, WeighAlike, Opposite, ZonesMirror, other, Exchanged, MirrorImage, SidesMirror, MoneyExchanged, MoneyImage, MoneyMirrors}
 
 -- ---- one division
 pub nearest-mirrors : NearestMirrors
@@ -234,3 +234,13 @@ module _ (G G′ : Grid) (runs runs′ : Runs) (m : MoneyExchanged G G′ runs r
 
 pub money-mirrors : MoneyMirrors
 money-mirrors G G′ runs runs′ m = money G G′ runs runs′ m
+
+-- ---- what moved, figure by figure: each is the nearest of its division
+pub figures-move : FiguresMove
+unfolding widerMetres localMetres metres zonalMetres C zoneTariff localTariff tariff
+figures-move G runs z d f (wider v) p = only-negative-halves-move _ _ p
+figures-move G runs z d f (local v) p = only-negative-halves-move _ _ p
+figures-move G runs z d f (zonal side zone) p = only-negative-halves-move _ _ p
+figures-move G runs z d f centre p = only-negative-halves-move _ _ p
+figures-move G runs z d f (zoneTariffs side zone) p = only-negative-halves-move _ _ p
+figures-move G runs z d f (localTariffs v) p = only-negative-halves-move _ _ p

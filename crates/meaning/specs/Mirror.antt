@@ -3,9 +3,9 @@ use mathlib.Core.Path.{_≡_}
 use mathlib.Core.Logic.{_⊎_}
 use mathlib.Core.Bool.{true, cond}
 use mathlib.Core.List.{List}
-use Prim.Native.Nat.{ℕ, _+_, _*_, _<_}
+use Prim.Native.Nat.{ℕ, _+_, _*_, _-_, _<_}
 use lib.Dec.{eqb}
-use lib.IntN.{ℤ, pos, negℤ, _+ℤ_, _*ℤ_}
+use lib.IntN.{ℤ, pos, negℤ, _+ℤ_, _-ℤ_, _*ℤ_}
 use lib.ListN.{length}
 use lib.Signed.{_<ℤ_}
 use Rattle.integers.specs.Numbers.{sum, Σ, floorDiv, nearest}
@@ -15,7 +15,7 @@ use Rattle.meaning.specs.Study.{Kw, Metres, Runs}
 use Rattle.meaning.specs.File.{studyOf}
 use Rattle.meaning.specs.Grid.{Grid, gridOf}
 use Rattle.meaning.specs.Proposal.{potential}
-use Rattle.meaning.specs.Figures.{zones, zoneOf, weight, paying, zonalMetres, C, afterC, zoneTariff, localMetres, localTariff, localIncome, residual, remainder, zoneTotal}
+use Rattle.meaning.specs.Figures.{zones, zoneOf, weight, paying, zoneWeight, totalPaying, overZones, distance, widerMetres, zonalMetres, C, afterC, zoneTariff, localMetres, localTariff, localIncome, residual, remainder, zoneTotal}
 use Rattle.meaning.specs.Outcome.{sheetOf}
 use Rattle.meaning.specs.Sheet.{letter}
 use Rattle.meaning.specs.Read.{field, readNatural, readWhole, hasLetter, lineAt}
@@ -38,6 +38,25 @@ pub record NegativeHalf (z : ℤ) (d : ℕ) : Type 0 where
 -- and nothing else moves
 abbrev pub OnlyNegativeHalvesMove : Type 0
 OnlyNegativeHalvesMove = (z : ℤ) (d : ℕ) → 0 < d → (nearest z d ≡ halfUp z d) ⊎ NegativeHalf z d
+
+-- ---- the divisions of a case: steps 6, 7, 8 and 9 divide z by d for this figure
+pub data Divides (G : Grid) (runs : Runs) : (z : ℤ) (d : ℕ) (figure : ℤ) → Type 0 where
+  wider : (v : ℕ) → Divides G runs (potential (runs .wider) v) 1000000000 (widerMetres runs v)
+  local : (v : ℕ) → Divides G runs (potential (runs .local) v) 1000000000 (localMetres runs v)
+  zonal : (side : Side) (zone : ℕ)
+      → Divides G runs (Σ (length (G .nodes)) (λ v. cond (eqb (zoneOf G side v) zone) (distance runs side v *ℤ pos (weight G side v)) (pos 0))) (zoneWeight G side zone) (zonalMetres G runs side zone)
+  centre : Divides G runs
+      (pos (1000 - G .settings .p) *ℤ overZones G Demand (zonalMetres G runs Demand) -ℤ pos (G .settings .p) *ℤ overZones G Generation (zonalMetres G runs Generation))
+      (G .settings .p * totalPaying G Generation + (1000 - G .settings .p) * totalPaying G Demand)
+      (C G runs)
+  zoneTariffs : (side : Side) (zone : ℕ)
+      → Divides G runs (afterC G runs side zone *ℤ pos (G .settings .constant) *ℤ pos (G .settings .widerFactor)) 100000 (zoneTariff G runs side zone)
+  localTariffs : (v : ℕ)
+      → Divides G runs (localMetres runs v *ℤ pos (G .settings .constant) *ℤ pos (G .settings .localFactor)) 100000 (localTariff G runs v)
+
+-- each of these figures is what it was before this request, but at a half below zero; where a case has no such half, its sheet is therefore 01's
+abbrev pub FiguresMove : Type 0
+FiguresMove = (G : Grid) (runs : Runs) (z : ℤ) (d : ℕ) (figure : ℤ) → Divides G runs z d figure → 0 < d → (figure ≡ halfUp z d) ⊎ NegativeHalf z d
 
 -- ---- step 7: negating metres and then averaging is averaging and then negating
 -- the nearest of the average of n nodes' metres m, each by its weight w
