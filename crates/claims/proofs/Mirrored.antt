@@ -1,8 +1,8 @@
 -- 02, request 2, on the bytes of a sheet: a generation zone and a demand zone that weigh alike print opposite metres, metres after C and tariffs.
 use mathlib.Core.Path.{_≡_, refl, sym, _∙_, ap, ap₂}
-use mathlib.Core.List.{List, []}
+use mathlib.Core.List.{[]}
 use mathlib.Core.Bool.{Bool, true, false, cond}
-use Prim.Native.Nat.{ℕ, zero, suc, _<_}
+use Prim.Native.Nat.{ℕ, zero, suc}
 use native.Mathlib.Omega.{arith}
 use lib.Dec.{eqb}
 use lib.IntN.{ℤ, pos, negℤ}
@@ -15,13 +15,13 @@ use Rattle.meaning.specs.File.{studyOf}
 use Rattle.meaning.specs.Grid.{Grid, gridOf}
 use Rattle.meaning.specs.Figures.{zoneWeight, zonalMetres, afterC, zoneTariff}
 use Rattle.meaning.specs.Sheet.{letter, sheet}
-use Rattle.meaning.specs.Read.{pieces, field, readNatural, readWhole, hasLetter, lineAt}
+use Rattle.meaning.specs.Read.{field, readNatural, readWhole, hasLetter, lineAt}
 use Rattle.meaning.specs.Conditions.{InRange, SoundTables}
 use Rattle.meaning.specs.Mirror.{WeighAlike, LinesAlike, PrintedMirror}
 use Rattle.meaning.proofs.Says.{says-eq}
 use Rattle.meaning.proofs.Mirror.{zones-mirror}
 use Rattle.claims.proofs.Digits.{differs, read-natural, read-decimal}
-use Rattle.claims.proofs.Lines.{Line, emptyZone, fullZone}
+use Rattle.claims.proofs.Lines.{emptyZone, fullZone}
 use Rattle.claims.proofs.ReadBack.{lines-agree}
 
 module _ (S : Study) (sound : SoundTables S) (runs : Runs) where

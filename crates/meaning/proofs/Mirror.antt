@@ -14,10 +14,10 @@ use Rattle.integers.proofs.Sum.{sum-same, Σ-same, Σ-neg}
 use Rattle.integers.proofs.Div.{floor-exact, nearest-error, nearest-mirror, nearest-moved}
 use Rattle.meaning.specs.declared.Side.{Side}
 use Rattle.meaning.specs.declared.Side.the-variants.{Generation, Demand}
-use Rattle.meaning.specs.Study.{Kw, Metres, MicroPerKw, Runs}
+use Rattle.meaning.specs.Study.{Kw, Metres, Runs}
 use Rattle.meaning.specs.Grid.{Grid}
 use Rattle.meaning.specs.Figures.{metres, tariff, residualOf, remainderOf, widerMetres, localMetres, distance, zones, zoneOf, weight, zoneWeight, zonePaying, totalPaying, overZones, target, zonalMetres, C, afterC, zoneTariff, localTariff, localIncome, rest, residual, remainder, zoneTotal}
-use Rattle.meaning.specs.Mirror.{NearestMirrors, halfUp, NegativeHalf, OnlyNegativeHalvesMove, Divides, wider, local, zonal, centre, zoneTariffs, localTariffs, FiguresMove, average, AveragesMirror, weightIn, WeighAlike, Opposite, ZonesMirror, other, Exchanged, MirrorImage, SidesMirror, MoneyExchanged, MoneyImage, MoneyMirrors}
+use Rattle.meaning.specs.Mirror.{NearestMirrors, halfUp, NegativeHalf, OnlyNegativeHalvesMove, wider, local, zonal, centre, zoneTariffs, localTariffs, FiguresMove, average, AveragesMirror, weightIn, WeighAlike, ZonesMirror, other, Exchanged, MirrorImage, SidesMirror, MoneyExchanged, MoneyImage, MoneyMirrors}
 
 -- ---- one division
 pub nearest-mirrors : NearestMirrors
