@@ -1,11 +1,9 @@
 -- What is seen of the stations: two grids with the same settings, nodes and circuits, whose nodes weigh and pay the same, are judged alike and have one sheet.
 use mathlib.Core.Path.{_≡_, refl, sym, _∙_, ap, ap₂}
-use mathlib.Core.Bool.{cond}
 use mathlib.Core.List.{List}
 use Prim.Native.Nat.{ℕ, suc, _+_, _*_, _-_, _<_}
 use native.Mathlib.Decide.{decLt}
 use native.Mathlib.Omega.{arith}
-use lib.Dec.{eqb}
 use lib.IntN.{ℤ, pos, _-ℤ_, _*ℤ_}
 use lib.ListN.{length}
 use Rattle.integers.specs.Numbers.{sum, nearest}
@@ -25,11 +23,12 @@ use Rattle.meaning.specs.Answers.{_orElse_, unless}
 use Rattle.meaning.specs.Outcome.{gridStage, judged, sheetOf, settle}
 use Rattle.meaning.specs.declared.Side.{Side}
 use Rattle.meaning.specs.declared.Side.the-variants.{Generation, Demand}
-use Rattle.meaning.specs.Figures.{zones, zoneOf, weight, paying, zoneWeight, zonePaying, totalPaying, overZones, target, distance, zonalMetres, C, afterC, zoneTariff, localTariff, localIncome, rest, residual, remainder, zoneTotal}
+use Rattle.meaning.specs.Figures.{zones, zoneOf, weight, paying, totalPaying, overZones, target, zonalMetres, C, afterC, zoneTariff, localTariff, localIncome, residual, remainder, zoneTotal}
 use Rattle.meaning.specs.Sheet.{zoneLine, zoneLines, localLine, sheet}
 use Rattle.meaning.specs.Demands.{SameTotals, PassesToFive, TypesHidden}
 use Rattle.meaning.proofs.Plants.{tec-past}
 use Rattle.meaning.proofs.Rows.{joined-same}
+use Rattle.meaning.proofs.Sides.{Corresponds, weight-same, zonal-same, total-same, over-same, residual-same, remainder-same}
 use Rattle.claims.proofs.Hidden.{afterFive, judged-after, answered, settled-answer}
 use Rattle.claims.proofs.Interconnectors.{all-but-interconnectors-pay}
 
@@ -41,41 +40,45 @@ module _ (s : Settings) (ns : List Node) (cs : List Circuit) (k k′ : List (Lis
   G′ = record { settings = s; nodes = ns; circuits = cs; capacity = k′ }
 
   module _ (weigh : (v : ℕ) → v < length ns → nodeTec G v ≡ nodeTec G′ v) (pay : (v : ℕ) → v < length ns → payingTec G v ≡ payingTec G′ v) (runs : Runs) where
-    -- step 7
-    zone-weight : (side : Side) (zone : ℕ) → zoneWeight G side zone ≡ zoneWeight G′ side zone
-    unfolding zoneWeight zoneOf weight
-    zone-weight Generation zone = sum-same (length ns) _ _ (λ v h. ap (λ (w : ℕ). cond (eqb (zoneOf G Generation v) zone) w 0) (weigh v h))
-    zone-weight Demand zone = refl
+    abbrev own : Side → Side
+    own side = side
+
+    weights : (side : Side) (v : ℕ) → v < length ns → weight G side v ≡ weight G′ side v
+    unfolding weight
+    weights Generation v h = weigh v h
+    weights Demand v h = refl
+
+    payers : (side : Side) (v : ℕ) → v < length ns → paying G side v ≡ paying G′ side v
+    unfolding paying
+    payers Generation v h = pay v h
+    payers Demand v h = refl
+
+    -- steps 7, 8 and 10: each side has what it had
+    alike : Corresponds own G′ G runs runs
+    unfolding zones zoneOf
+    alike = record {
+      nodeCount = refl;
+      zoneCounts = λ side. refl;
+      zonesOf = λ side v h. refl;
+      weights = weights;
+      payers = payers;
+      distances = λ side v h. refl;
+    }
 
     zonal : (side : Side) (zone : ℕ) → zonalMetres G runs side zone ≡ zonalMetres G′ runs side zone
-    unfolding zonalMetres zoneOf weight zoneWeight
-    zonal Generation zone =
-        ap₂ nearest
-        (Σ-same (length ns) _ _ (λ v h. ap (λ (w : ℕ). cond (eqb (zoneOf G Generation v) zone) (distance runs Generation v *ℤ pos w) (pos 0)) (weigh v h)))
-        (zone-weight Generation zone)
-    zonal Demand zone = refl
-
-    -- steps 8 and 10, over the kilowatts that pay
-    zone-paying : (side : Side) (zone : ℕ) → zonePaying G side zone ≡ zonePaying G′ side zone
-    unfolding zonePaying zoneOf paying
-    zone-paying Generation zone = sum-same (length ns) _ _ (λ v h. ap (λ (w : ℕ). cond (eqb (zoneOf G Generation v) zone) w 0) (pay v h))
-    zone-paying Demand zone = refl
+    zonal = zonal-same own G′ G runs runs alike
 
     total-paying : (side : Side) → totalPaying G side ≡ totalPaying G′ side
-    unfolding totalPaying paying
-    total-paying Generation = sum-same (length ns) _ _ pay
-    total-paying Demand = refl
+    total-paying = total-same own G′ G runs runs alike
 
-    over-zones : (side : Side) (f g : ℕ → ℤ) → ((zone : ℕ) → f zone ≡ g zone) → overZones G side f ≡ overZones G′ side g
-    unfolding overZones zones
-    over-zones Generation f g h = Σ-same _ _ _ (λ i l. ap₂ (λ (x : ℤ) (w : ℕ). x *ℤ pos w) (h (suc i)) (zone-paying Generation (suc i)))
-    over-zones Demand f g h = Σ-same _ _ _ (λ i l. ap₂ (λ (x : ℤ) (w : ℕ). x *ℤ pos w) (h (suc i)) (zone-paying Demand (suc i)))
+    over-zones : (side : Side) → overZones G side (zonalMetres G runs side) ≡ overZones G′ side (zonalMetres G′ runs side)
+    over-zones side = over-same own G′ G runs runs alike side _ _ (zonal side)
 
     centre : C G runs ≡ C G′ runs
     unfolding C
     centre =
         ap₂ nearest
-        (ap₂ (λ (d g : ℤ). pos (1000 - s .p) *ℤ d -ℤ pos (s .p) *ℤ g) (over-zones Demand _ _ (zonal Demand)) (over-zones Generation _ _ (zonal Generation)))
+        (ap₂ (λ (d g : ℤ). pos (1000 - s .p) *ℤ d -ℤ pos (s .p) *ℤ g) (over-zones Demand) (over-zones Generation))
         (ap₂ (λ (a b : ℕ). s .p * a + (1000 - s .p) * b) (total-paying Generation) (total-paying Demand))
 
     after : (side : Side) (zone : ℕ) → afterC G runs side zone ≡ afterC G′ runs side zone
@@ -97,22 +100,16 @@ module _ (s : Settings) (ns : List Node) (cs : List Circuit) (k k′ : List (Lis
     of-target Generation = refl
     of-target Demand = refl
 
-    of-rest : (side : Side) → rest G runs side ≡ rest G′ runs side
-    unfolding rest
-    of-rest side = rw (of-target side, over-zones side _ _ (price side), local-income side) refl
-
     of-residual : (side : Side) → residual G runs side ≡ residual G′ runs side
-    unfolding residual
-    of-residual side = rw (of-rest side, total-paying side) refl
+    of-residual = residual-same own G′ G runs runs alike price of-target local-income
 
     of-remainder : (side : Side) → remainder G runs side ≡ remainder G′ runs side
-    unfolding remainder
-    of-remainder side = rw (of-rest side, total-paying side) refl
+    of-remainder = remainder-same own G′ G runs runs alike price of-target local-income
 
     -- the lines
     zone-line : (side : Side) (zone : ℕ) → zoneLine G runs side zone ≡ zoneLine G′ runs side zone
     unfolding zoneLine zoneTotal
-    zone-line side zone = rw (zone-weight side zone, zonal side zone, after side zone, price side zone, of-residual side) refl
+    zone-line side zone = rw (weight-same own G′ G runs runs alike side zone, zonal side zone, after side zone, price side zone, of-residual side) refl
 
     zone-lines : (side : Side) → zoneLines G runs side ≡ zoneLines G′ runs side
     unfolding zoneLines zones

@@ -9,6 +9,7 @@ use lib.IntN.{ℤ, pos, negsuc, negℤ, natAbs, _+ℤ_, _*ℤ_}
 use lib.Signed.{_≤ℤ_, _<ℤ_}
 use Rattle.integers.specs.Numbers.{floorDiv, rounded, nearest, Near}
 use Rattle.integers.proofs.Core.{Z}
+use Rattle.integers.proofs.Laws.{neg-neg}
 use Rattle.integers.proofs.Floor.{floor-unique}
 
 -- ---- of naturals: q is a / d to the nearest, a half going up
@@ -55,10 +56,7 @@ pub nearest-mirror : (z : ℤ) (d : ℕ) → nearest (negℤ z) d ≡ negℤ (ne
 unfolding nearest
 nearest-mirror (pos zero) d = ap pos (rounded-zero d) ∙ sym (ap (λ (q : ℕ). negℤ (pos q)) (rounded-zero d))
 nearest-mirror (pos (suc a)) d = refl
-nearest-mirror (negsuc a) d = twice (rounded (suc a) d)
-  where
-    twice : (q : ℕ) → pos q ≡ negℤ (negℤ (pos q))
-    twice q = simp Z (omega arith)
+nearest-mirror (negsuc a) d = sym (neg-neg (pos (rounded (suc a) d)))
 
 pub nearest-error : (z : ℤ) (d : ℕ) → 0 < d → Near z d (nearest z d)
 unfolding nearest

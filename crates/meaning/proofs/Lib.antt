@@ -10,6 +10,7 @@ pub mod Order
 pub mod Walk
 pub mod Plants
 pub mod Shares
+pub mod Sides
 pub mod Mirror
 pub mod Centre
 pub mod Starts

@@ -1,23 +1,23 @@
 -- 02, request 2: the mirror of generation and demand. Of "nearest" only that it is a nearest number, and that it mirrors, is used.
 use mathlib.Core.Path.{_≡_, refl, sym, _∙_, ap, ap₂}
 use mathlib.Core.Logic.{_⊎_, inl, inr}
-use mathlib.Core.Bool.{Bool, true, false, cond}
-use Prim.Native.Nat.{ℕ, suc, _+_, _*_, _-_, _<_}
+use Prim.Native.Nat.{ℕ, _+_, _*_, _-_, _<_}
 use native.Mathlib.Omega.{arith}
-use lib.Dec.{eqb}
 use lib.IntN.{ℤ, pos, negℤ, _+ℤ_, _-ℤ_, _*ℤ_}
 use lib.ListN.{length}
 use lib.Signed.{_<ℤ_}
 use Rattle.integers.specs.Numbers.{sum, Σ, floorDiv, nearest, Near}
 use Rattle.integers.proofs.Core.{Z}
-use Rattle.integers.proofs.Sum.{sum-same, Σ-same, Σ-neg}
+use Rattle.integers.proofs.Laws.{neg-neg, neg-mul}
+use Rattle.integers.proofs.Sum.{Σ-same, Σ-neg}
 use Rattle.integers.proofs.Div.{floor-exact, nearest-error, nearest-mirror, nearest-moved}
 use Rattle.meaning.specs.declared.Side.{Side}
 use Rattle.meaning.specs.declared.Side.the-variants.{Generation, Demand}
-use Rattle.meaning.specs.Study.{Kw, Metres, Runs}
+use Rattle.meaning.specs.Study.{Metres, Runs}
 use Rattle.meaning.specs.Grid.{Grid}
-use Rattle.meaning.specs.Figures.{metres, tariff, residualOf, remainderOf, widerMetres, localMetres, distance, zones, zoneOf, weight, zoneWeight, zonePaying, totalPaying, overZones, target, zonalMetres, C, afterC, zoneTariff, localTariff, localIncome, rest, residual, remainder, zoneTotal}
-use Rattle.meaning.specs.Mirror.{NearestMirrors, halfUp, NegativeHalf, OnlyNegativeHalvesMove, wider, local, zonal, centre, zoneTariffs, localTariffs, FiguresMove, average, AveragesMirror, weightIn, WeighAlike, ZonesMirror, other, Exchanged, MirrorImage, SidesMirror, MoneyExchanged, MoneyImage, MoneyMirrors}
+use Rattle.meaning.specs.Figures.{metres, tariff, widerMetres, localMetres, distance, totalPaying, overZones, target, zonalMetres, C, afterC, zoneTariff, localTariff, localIncome}
+use Rattle.meaning.specs.Mirror.{NearestMirrors, halfUp, NegativeHalf, OnlyNegativeHalvesMove, wider, local, zonal, centre, zoneTariffs, localTariffs, FiguresMove, average, AveragesMirror, weightIn, WeighAlike, ZonesMirror, other, Exchanged, MirrorImage, SidesMirror, MoneyMirrors}
+use Rattle.meaning.proofs.Sides.{average-same, zonal-average, Corresponds, zonal-same, total-same, over-same, residual-same, remainder-same, zone-total-same}
 
 -- ---- one division
 pub nearest-mirrors : NearestMirrors
@@ -49,36 +49,15 @@ metres-near z = nearest-error z 1000000000 (omega arith)
 pub tariff-mirror : (m : Metres) (constant factor : ℕ) → tariff (negℤ m) constant factor ≡ negℤ (tariff m constant factor)
 unfolding tariff
 tariff-mirror m constant factor =
-    ap (λ (z : ℤ). nearest z 100000) (turned m constant factor) ∙ nearest-mirror (m *ℤ pos constant *ℤ pos factor) 100000
-  where
-    turned : (m : ℤ) (a b : ℕ) → negℤ m *ℤ pos a *ℤ pos b ≡ negℤ (m *ℤ pos a *ℤ pos b)
-    turned m a b = simp Z (omega arith)
+    ap (λ (z : ℤ). nearest (z *ℤ pos factor) 100000) (neg-mul m (pos constant))
+    ∙ ap (λ (z : ℤ). nearest z 100000) (neg-mul (m *ℤ pos constant) (pos factor))
+    ∙ nearest-mirror (m *ℤ pos constant *ℤ pos factor) 100000
 
 -- ---- step 7
 pub averages-mirror : AveragesMirror
 averages-mirror n m w =
-    ap (λ (z : ℤ). nearest z (sum n w)) (Σ-same n _ _ (λ v h. turned (m v) (w v)) ∙ Σ-neg n (λ v. m v *ℤ pos (w v)))
+    ap (λ (z : ℤ). nearest z (sum n w)) (Σ-same n _ _ (λ v h. neg-mul (m v) (pos (w v))) ∙ Σ-neg n (λ v. m v *ℤ pos (w v)))
     ∙ nearest-mirror (Σ n (λ v. m v *ℤ pos (w v))) (sum n w)
-  where
-    turned : (m : ℤ) (w : ℕ) → negℤ m *ℤ pos w ≡ negℤ (m *ℤ pos w)
-    turned m w = simp Z (omega arith)
-
-average-same : (n : ℕ) (m m′ : ℕ → Metres) (w w′ : ℕ → Kw) → ((v : ℕ) → v < n → m v ≡ m′ v) → ((v : ℕ) → v < n → w v ≡ w′ v)
-    → average n m w ≡ average n m′ w′
-average-same n m m′ w w′ e f =
-    ap₂ nearest (Σ-same n _ _ (λ v h. ap₂ (λ (x : ℤ) (k : ℕ). x *ℤ pos k) (e v h) (f v h))) (sum-same n w w′ f)
-
--- a zone's metres are such an average
-zonal-average : (G : Grid) (runs : Runs) (side : Side) (zone : ℕ)
-    → zonalMetres G runs side zone ≡ average (length (G .nodes)) (distance runs side) (weightIn G side zone)
-unfolding zonalMetres zoneWeight
-zonal-average G runs side zone =
-    ap (λ (z : ℤ). nearest z (sum (length (G .nodes)) (weightIn G side zone)))
-    (Σ-same (length (G .nodes)) _ _ (λ v h. weighed (eqb (zoneOf G side v) zone) (distance runs side v) (weight G side v)))
-  where
-    weighed : (b : Bool) (x : ℤ) (w : ℕ) → cond b (x *ℤ pos w) (pos 0) ≡ x *ℤ pos (cond b w 0)
-    weighed true x w = refl
-    weighed false x w = simp Z (omega arith)
 
 demand-average : (G : Grid) (runs : Runs) (zone : ℕ)
     → zonalMetres G runs Demand zone ≡ negℤ (average (length (G .nodes)) (distance runs Generation) (weightIn G Demand zone))
@@ -126,63 +105,52 @@ turned-C p p′ k l a b e =
     joined p q k l = omega arith
 
 module _ (G G′ : Grid) (runs runs′ : Runs) (x : Exchanged G G′ runs runs′) where
-  abbrev n : ℕ
-  n = length (G .nodes)
-
-  distance-turned : (side : Side) (v : ℕ) → v < n → distance runs′ side v ≡ distance runs (other side) v
+  distance-turned : (side : Side) (v : ℕ) → v < length (G .nodes) → distance runs′ side v ≡ distance runs (other side) v
   unfolding distance widerMetres
   distance-turned Generation v h = ap metres (x .wider v h) ∙ metres-mirror _
-  distance-turned Demand v h = ap (λ (z : ℤ). negℤ (metres z)) (x .wider v h) ∙ ap negℤ (metres-mirror _) ∙ twice _
-    where
-      twice : (z : ℤ) → negℤ (negℤ z) ≡ z
-      twice z = simp Z (omega arith)
+  distance-turned Demand v h = ap (λ (z : ℤ). negℤ (metres z)) (x .wider v h) ∙ ap negℤ (metres-mirror _) ∙ neg-neg _
+
+  corresponds : Corresponds other G G′ runs runs′
+  corresponds = record {
+    nodeCount = x .nodeCount;
+    zoneCounts = x .zoneCounts;
+    zonesOf = x .zonesOf;
+    weights = x .weights;
+    payers = x .payers;
+    distances = distance-turned;
+  }
 
   zonal-turned : (side : Side) (zone : ℕ) → zonalMetres G′ runs′ side zone ≡ zonalMetres G runs (other side) zone
-  zonal-turned side zone =
-      zonal-average G′ runs′ side zone
-      ∙ ap (λ (m : ℕ). average m (distance runs′ side) (weightIn G′ side zone)) (x .nodeCount)
-      ∙ average-same n _ _ _ _ (distance-turned side) (λ v h. ap₂ (λ (z w : ℕ). cond (eqb z zone) w 0) (x .zonesOf side v h) (x .weights side v h))
-      ∙ sym (zonal-average G runs (other side) zone)
+  zonal-turned = zonal-same other G G′ runs runs′ corresponds
 
-  paying-turned : (side : Side) (zone : ℕ) → zonePaying G′ side zone ≡ zonePaying G (other side) zone
-  unfolding zonePaying
-  paying-turned side zone =
-      rw (x .nodeCount) (sum-same n _ _ (λ v h. ap₂ (λ (z w : ℕ). cond (eqb z zone) w 0) (x .zonesOf side v h) (x .payers side v h)))
+  over-turned : (side : Side) → overZones G′ side (zonalMetres G′ runs′ side) ≡ overZones G (other side) (zonalMetres G runs (other side))
+  over-turned side = over-same other G G′ runs runs′ corresponds side _ _ (zonal-turned side)
 
   total-turned : (side : Side) → totalPaying G′ side ≡ totalPaying G (other side)
-  unfolding totalPaying
-  total-turned side = rw (x .nodeCount) (sum-same n _ _ (x .payers side))
-
-  over-turned : (side : Side) (f f′ : ℕ → ℤ) → ((zone : ℕ) → f′ zone ≡ f zone) → overZones G′ side f′ ≡ overZones G (other side) f
-  unfolding overZones
-  over-turned side f f′ e =
-      rw (x .zoneCounts side) (Σ-same (zones G (other side)) _ _ (λ k h. ap₂ (λ (m : ℤ) (w : ℕ). m *ℤ pos w) (e (suc k)) (paying-turned side (suc k))))
+  total-turned = total-same other G G′ runs runs′ corresponds
 
   C-turned : C G′ runs′ ≡ negℤ (C G runs)
   unfolding C
   C-turned =
-      rw (over-turned Demand _ _ (zonal-turned Demand), over-turned Generation _ _ (zonal-turned Generation), total-turned Demand, total-turned Generation)
+      rw (over-turned Demand, over-turned Generation, total-turned Demand, total-turned Generation)
       (turned-C (G .settings .p) (G′ .settings .p) (totalPaying G Generation) (totalPaying G Demand) (overZones G Demand (zonalMetres G runs Demand))
       (overZones G Generation (zonalMetres G runs Generation)) (x .shares))
 
   after-turned : (side : Side) (zone : ℕ) → afterC G′ runs′ side zone ≡ afterC G runs (other side) zone
   unfolding afterC
   after-turned Generation zone = rw (zonal-turned Generation zone, C-turned) refl
-  after-turned Demand zone = rw (zonal-turned Demand zone, C-turned) (moved (zonalMetres G runs Generation zone) (C G runs))
-    where
-      moved : (m c : ℤ) → m -ℤ negℤ c ≡ m +ℤ c
-      moved m c = simp Z (omega arith)
+  after-turned Demand zone = rw (zonal-turned Demand zone, C-turned, neg-neg (C G runs)) refl
 
   priced : (m m′ : Metres) (c c′ f f′ : ℕ) → m ≡ m′ → c ≡ c′ → f ≡ f′ → tariff m c f ≡ tariff m′ c′ f′
   priced m m′ c c′ f f′ a b d = rw (a, b, d) refl
 
-  local-turned : (v : ℕ) → v < n → localMetres runs′ v ≡ negℤ (localMetres runs v)
-  unfolding localMetres
-  local-turned v h = ap metres (x .local v h) ∙ metres-mirror _
-
   tariff-turned : (side : Side) (zone : ℕ) → zoneTariff G′ runs′ side zone ≡ zoneTariff G runs (other side) zone
   unfolding zoneTariff
   tariff-turned side zone = priced _ _ _ _ _ _ (after-turned side zone) (x .constants) (x .widerFactors)
+
+  local-turned : (v : ℕ) → v < length (G .nodes) → localMetres runs′ v ≡ negℤ (localMetres runs v)
+  unfolding localMetres
+  local-turned v h = ap metres (x .local v h) ∙ metres-mirror _
 
   image : MirrorImage G G′ runs runs′
   unfolding localTariff
@@ -206,34 +174,24 @@ unfolding target
 target-turned G G′ e r Generation = let q : 1000 - G′ .settings .p ≡ G .settings .p = omega arith in rw (r, q) refl
 target-turned G G′ e r Demand = let q : 1000 - G .settings .p ≡ G′ .settings .p = omega arith in rw (r, q) refl
 
-module _ (G G′ : Grid) (runs runs′ : Runs) (m : MoneyExchanged G G′ runs runs′) where
-  abbrev x : Exchanged G G′ runs runs′
-  x = m .exchanged
-
-  local-none : (side : Side) → localIncome G′ runs′ side ≡ localIncome G runs (other side)
-  unfolding localIncome
-  local-none Generation = m .noLocal′
-  local-none Demand = sym (m .noLocal)
-
-  rest-turned : (side : Side) → rest G′ runs′ side ≡ rest G runs (other side)
-  unfolding rest
-  rest-turned side =
-      rw (target-turned G G′ (x .shares) (m .revenues) side, over-turned G G′ runs runs′ x side _ _ (tariff-turned G G′ runs runs′ x side), local-none side) refl
-
-  residual-turned : (side : Side) → residual G′ runs′ side ≡ residual G runs (other side)
-  unfolding residual
-  residual-turned side = ap₂ residualOf (rest-turned side) (total-turned G G′ runs runs′ x side)
-
-  money : MoneyImage G G′ runs runs′
-  unfolding zoneTotal remainder
-  money = record {
-    residuals = residual-turned;
-    totals = λ side zone. ap₂ _+ℤ_ (tariff-turned G G′ runs runs′ x side zone) (residual-turned side);
-    remainders = λ side. ap₂ remainderOf (rest-turned side) (total-turned G G′ runs runs′ x side);
-  }
+local-none : (G G′ : Grid) (runs runs′ : Runs) → localIncome G runs Generation ≡ pos 0 → localIncome G′ runs′ Generation ≡ pos 0
+    → (side : Side) → localIncome G′ runs′ side ≡ localIncome G runs (other side)
+unfolding localIncome
+local-none G G′ runs runs′ e e′ Generation = e′
+local-none G G′ runs runs′ e e′ Demand = sym e
 
 pub money-mirrors : MoneyMirrors
-money-mirrors G G′ runs runs′ m = money G G′ runs runs′ m
+money-mirrors G G′ runs runs′ m =
+    let x = m .exchanged in
+    let c = corresponds G G′ runs runs′ x in
+    let prices = tariff-turned G G′ runs runs′ x in
+    let targets = target-turned G G′ (x .shares) (m .revenues) in
+    let locals = local-none G G′ runs runs′ (m .noLocal) (m .noLocal′) in
+    record {
+      residuals = residual-same other G G′ runs runs′ c prices targets locals;
+      totals = zone-total-same other G G′ runs runs′ c prices targets locals;
+      remainders = remainder-same other G G′ runs runs′ c prices targets locals;
+    }
 
 -- ---- what moved, figure by figure: each is the nearest of its division
 pub figures-move : FiguresMove

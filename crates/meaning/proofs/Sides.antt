@@ -1,0 +1,96 @@
+-- Two cases whose sides correspond, each side to itself (what is hidden of stations) or to the other (the mirror image): what is added up over nodes and zones corresponds too, and the money where prices do.
+use mathlib.Core.Path.{_≡_, refl, sym, _∙_, ap, ap₂}
+use mathlib.Core.Bool.{Bool, true, false, cond}
+use Prim.Native.Nat.{ℕ, suc, _<_}
+use native.Mathlib.Omega.{arith}
+use lib.Dec.{eqb}
+use lib.IntN.{ℤ, pos, _+ℤ_, _*ℤ_}
+use lib.ListN.{length}
+use Rattle.integers.specs.Numbers.{sum, nearest}
+use Rattle.integers.proofs.Core.{Z}
+use Rattle.integers.proofs.Sum.{sum-same, Σ-same}
+use Rattle.meaning.specs.declared.Side.{Side}
+use Rattle.meaning.specs.Study.{Kw, Metres, Runs}
+use Rattle.meaning.specs.Grid.{Grid}
+use Rattle.meaning.specs.Figures.{residualOf, remainderOf, distance, zones, zoneOf, weight, paying, zoneWeight, zonePaying, totalPaying, overZones, target, zonalMetres, zoneTariff, localIncome, rest, residual, remainder, zoneTotal}
+use Rattle.meaning.specs.Mirror.{average, weightIn}
+
+-- ---- step 7: an average by its terms, and a zone's metres as one
+pub average-same : (n : ℕ) (m m′ : ℕ → Metres) (w w′ : ℕ → Kw) → ((v : ℕ) → v < n → m v ≡ m′ v) → ((v : ℕ) → v < n → w v ≡ w′ v)
+    → average n m w ≡ average n m′ w′
+average-same n m m′ w w′ e f =
+    ap₂ nearest (Σ-same n _ _ (λ v h. ap₂ (λ (x : ℤ) (k : ℕ). x *ℤ pos k) (e v h) (f v h))) (sum-same n w w′ f)
+
+pub zonal-average : (G : Grid) (runs : Runs) (side : Side) (zone : ℕ)
+    → zonalMetres G runs side zone ≡ average (length (G .nodes)) (distance runs side) (weightIn G side zone)
+unfolding zonalMetres zoneWeight
+zonal-average G runs side zone =
+    ap (λ (z : ℤ). nearest z (sum (length (G .nodes)) (weightIn G side zone)))
+    (Σ-same (length (G .nodes)) _ _ (λ v h. weighed (eqb (zoneOf G side v) zone) (distance runs side v) (weight G side v)))
+  where
+    weighed : (b : Bool) (x : ℤ) (w : ℕ) → cond b (x *ℤ pos w) (pos 0) ≡ x *ℤ pos (cond b w 0)
+    weighed true x w = refl
+    weighed false x w = simp Z (omega arith)
+
+-- ---- two cases
+-- a side of G′ has the zones, the kilowatts and the distances of the side `to side` of G
+pub record Corresponds (to : Side → Side) (G G′ : Grid) (runs runs′ : Runs) : Type 0 where
+  pub nodeCount : length (G′ .nodes) ≡ length (G .nodes)
+  pub zoneCounts : (side : Side) → zones G′ side ≡ zones G (to side)
+  pub zonesOf : (side : Side) (v : ℕ) → v < length (G .nodes) → zoneOf G′ side v ≡ zoneOf G (to side) v
+  pub weights : (side : Side) (v : ℕ) → v < length (G .nodes) → weight G′ side v ≡ weight G (to side) v
+  pub payers : (side : Side) (v : ℕ) → v < length (G .nodes) → paying G′ side v ≡ paying G (to side) v
+  pub distances : (side : Side) (v : ℕ) → v < length (G .nodes) → distance runs′ side v ≡ distance runs (to side) v
+
+-- the kilowatts of a node in a zone
+in-zone : (zone : ℕ) {z z′ w w′ : ℕ} → z ≡ z′ → w ≡ w′ → cond (eqb z zone) w 0 ≡ cond (eqb z′ zone) w′ 0
+in-zone zone e f = ap₂ (λ (z w : ℕ). cond (eqb z zone) w 0) e f
+
+module _ (to : Side → Side) (G G′ : Grid) (runs runs′ : Runs) (x : Corresponds to G G′ runs runs′) where
+  abbrev n : ℕ
+  n = length (G .nodes)
+
+  pub weight-same : (side : Side) (zone : ℕ) → zoneWeight G′ side zone ≡ zoneWeight G (to side) zone
+  unfolding zoneWeight
+  weight-same side zone = rw (x .nodeCount) (sum-same n _ _ (λ v h. in-zone zone (x .zonesOf side v h) (x .weights side v h)))
+
+  pub paying-same : (side : Side) (zone : ℕ) → zonePaying G′ side zone ≡ zonePaying G (to side) zone
+  unfolding zonePaying
+  paying-same side zone = rw (x .nodeCount) (sum-same n _ _ (λ v h. in-zone zone (x .zonesOf side v h) (x .payers side v h)))
+
+  pub total-same : (side : Side) → totalPaying G′ side ≡ totalPaying G (to side)
+  unfolding totalPaying
+  total-same side = rw (x .nodeCount) (sum-same n _ _ (x .payers side))
+
+  pub zonal-same : (side : Side) (zone : ℕ) → zonalMetres G′ runs′ side zone ≡ zonalMetres G runs (to side) zone
+  zonal-same side zone =
+      zonal-average G′ runs′ side zone
+      ∙ ap (λ (m : ℕ). average m (distance runs′ side) (weightIn G′ side zone)) (x .nodeCount)
+      ∙ average-same n _ _ _ _ (x .distances side) (λ v h. in-zone zone (x .zonesOf side v h) (x .weights side v h))
+      ∙ sym (zonal-average G runs (to side) zone)
+
+  -- a figure of each zone, over the kilowatts that pay
+  pub over-same : (side : Side) (f f′ : ℕ → ℤ) → ((zone : ℕ) → f′ zone ≡ f zone) → overZones G′ side f′ ≡ overZones G (to side) f
+  unfolding overZones
+  over-same side f f′ e =
+      rw (x .zoneCounts side) (Σ-same (zones G (to side)) _ _ (λ k h. ap₂ (λ (m : ℤ) (w : ℕ). m *ℤ pos w) (e (suc k)) (paying-same side (suc k))))
+
+  -- step 10, where tariffs, targets and local income correspond
+  module _ (prices : (side : Side) (zone : ℕ) → zoneTariff G′ runs′ side zone ≡ zoneTariff G runs (to side) zone)
+      (targets : (side : Side) → target G′ side ≡ target G (to side))
+      (locals : (side : Side) → localIncome G′ runs′ side ≡ localIncome G runs (to side)) where
+    pub rest-same : (side : Side) → rest G′ runs′ side ≡ rest G runs (to side)
+    unfolding rest
+    rest-same side = rw (targets side, over-same side _ _ (prices side), locals side) refl
+
+    pub residual-same : (side : Side) → residual G′ runs′ side ≡ residual G runs (to side)
+    unfolding residual
+    residual-same side = ap₂ residualOf (rest-same side) (total-same side)
+
+    pub remainder-same : (side : Side) → remainder G′ runs′ side ≡ remainder G runs (to side)
+    unfolding remainder
+    remainder-same side = ap₂ remainderOf (rest-same side) (total-same side)
+
+    pub zone-total-same : (side : Side) (zone : ℕ) → zoneTotal G′ runs′ side zone ≡ zoneTotal G runs (to side) zone
+    unfolding zoneTotal
+    zone-total-same side zone = ap₂ _+ℤ_ (prices side zone) (residual-same side)
