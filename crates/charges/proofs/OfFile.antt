@@ -17,7 +17,7 @@ use Rattle.meaning.specs.Conditions.{InRange, SoundTables, SoundStudy, Acceptab
 use Rattle.meaning.specs.declared.Judgement.the-variants.{Passes}
 use Rattle.meaning.proofs.Answers.{passes-orElse}
 use Rattle.meaning.proofs.Rows.{rows-at}
-use Rattle.meaning.proofs.Starts as starts
+use Rattle.meaning.proofs.Frame as frame
 use Rattle.sizes.specs.Bounds.{PotentialsInRange}
 use Rattle.sizes.proofs.Kilowatts.{kilowatts-fit}
 use Rattle.sizes.proofs.Figures.{figures-fit}
@@ -116,13 +116,13 @@ module _ (file : List ℕ) (runs : Runs) (p : judged file runs ≡ Passes) where
   tables-pass = passes-orElse _ _ .0 p .0
 
   few-nodes : length (studyOf file .nodes) ≤ 256
-  few-nodes = omega (arith, starts.counts file runs (accepted .whole) .0, accepted .whole .nodes .most)
+  few-nodes = omega (arith, frame.counts file runs (accepted .whole) .0, accepted .whole .nodes .most)
 
   fits : GridFits (gridOf (studyOf file)) runs
   fits =
       let S = studyOf file in
       let w = accepted .whole in
-      let e = starts.counts file runs w .0 in
+      let e = frame.counts file runs w .0 in
       let wider = w .solutions 5 (record { least = omega arith; most = omega arith }) in
       let local = w .solutions 6 (record { least = omega arith; most = omega arith }) in
       grid-fits S (accepted .study) runs (solved-in-range S runs (accepted .solved)) few-nodes

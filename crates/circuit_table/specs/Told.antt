@@ -2,16 +2,15 @@
 use mathlib.Core.Path.{_≡_}
 use mathlib.Core.Bool.{Bool, not, _&&_}
 use mathlib.Core.List.{List}
-use Prim.Native.Nat.{ℕ, _+_, _*_, _^_, _≤_}
+use Prim.Native.Nat.{ℕ, _+_, _≤_}
 use lib.ListN.{length}
+use Rattle.meaning.specs.declared.Section.{Section}
 use Rattle.meaning.specs.Name.{wellFormed, sameName}
 use Rattle.meaning.specs.Study.{Node, Circuit}
-use Rattle.meaning.specs.File.{nameAt, circuitAt}
+use Rattle.meaning.specs.File.{nameAt, rowAt, circuitAt}
 use Rattle.meaning.specs.Tables.{known, soundCircuitRow}
 use Rattle.meaning.specs.Grid.{place}
-use Rattle.layout.specs.declared.RowCounts.{RowCounts}
-use Rattle.layout.specs.Readable.{readable}
-use Rattle.layout.specs.Frame.{countsOf}
+use Rattle.layout.specs.Readable.{readable, sectionIn}
 use Rattle.circuit_table.specs.declared.CircuitColumns.{CircuitColumns}
 use Rattle.circuit_table.specs.Columns.{circuitsOf}
 
@@ -22,19 +21,17 @@ soundEnds nodes c =
 
 -- the ends of a circuit's row at a place, as its names have them
 pub record ToldEnds (file : List ℕ) (at n a b : ℕ) : Type 0 where
-  pub near : at ≤ 2 ^ 32
+  pub near : at ≤ 18446744069414584320
   pub nodes : n ≡ length (readable file .nodes)
   pub first : a ≡ place (readable file .nodes) (nameAt file at)
   pub second : b ≡ place (readable file .nodes) (nameAt file (at + 12))
 
--- the counts of the tables, where the circuits' table begins, and its columns
-pub record ToldCircuits (file : List ℕ) (n : RowCounts) (at : ℕ) (c : CircuitColumns) : Type 0 where
-  pub counts : n ≡ countsOf (readable file)
-  pub start : at ≡ 64 + 24 * n .nodes
-  pub near : at ≤ 65536
-  pub few : n .circuits ≤ 512
+-- how many nodes there are, where the circuits' rows lie, and their columns
+pub record ToldCircuits (file : List ℕ) (n : ℕ) (rows : Section) (c : CircuitColumns) : Type 0 where
+  pub nodes : n ≡ length (readable file .nodes)
+  pub section : rows ≡ sectionIn file 2
   pub columns : c ≡ circuitsOf (readable file)
 
--- the circuit's row at its place in the table that begins there is not sound
-abbrev pub unsoundCircuit : List ℕ → (start i : ℕ) → Bool
-unsoundCircuit file start i = not (soundCircuitRow (readable file .nodes) (circuitAt file (start + 44 * i)))
+-- the circuit's row at its place is not sound
+abbrev pub unsoundCircuit : List ℕ → (rows : Section) → (i : ℕ) → Bool
+unsoundCircuit file rows i = not (soundCircuitRow (readable file .nodes) (circuitAt file (rowAt rows i)))

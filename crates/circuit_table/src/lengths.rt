@@ -1,8 +1,9 @@
 // 01, step 4: the expanded length of a circuit, by voltage.
 use layout::StudySettings;
+use meaning::Section;
 ghost use mathlib.Core.Path.{_≡_};
-ghost use Prim.Native.Nat.{_+_, _*_, _≤_};
-ghost use Rattle.meaning.specs.File.{circuitAt};
+ghost use Prim.Native.Nat.{_≤_};
+ghost use Rattle.meaning.specs.File.{rowAt, circuitAt};
 ghost use Rattle.meaning.specs.Columns.{column};
 ghost use Rattle.meaning.specs.Direction.{overheadFactor, cableFactor};
 ghost use Rattle.circuit_table.specs.Lengths.{expandedBy, lengthIfInRange};
@@ -42,7 +43,7 @@ pub fn expanded(overhead: usize, over: usize, cable: usize, under: usize) -> u64
 
 // The expanded length of the circuit at a place.
 pub fn length_at(file: &[u8], at: usize, factors: StudySettings) -> u64
-    requires { ⌜ at ≤ 131072 ⌝ }
+    requires { ⌜ at ≤ 18446744069414584320 ⌝ }
     ensures { λ r. ⌜ r ≡ lengthIfInRange (settingsIn factors) (circuitAt (now (file .entry)) at) ⌝ }
 {
     let voltage = fields::u32_at(file, at + 24);
@@ -53,15 +54,14 @@ pub fn length_at(file: &[u8], at: usize, factors: StudySettings) -> u64
     expanded(overhead, over, cable, under)
 }
 
-// Expanded lengths of the circuits.
-pub fn by_circuit(file: &[u8], start: usize, count: usize, factors: StudySettings) -> [u64; 512]
-    requires { ⌜ (start ≤ 65536) × (count ≤ 512) ⌝ }
-    ensures { λ r. ⌜ r ≡ column 0 512 count (λ i. lengthIfInRange (settingsIn factors) (circuitAt (now (file .entry)) (start + 44 * i))) ⌝ }
+// Expanded lengths of the circuits; nothing past the last row, and no more than 512.
+pub fn by_circuit(file: &[u8], rows: Section, factors: StudySettings) -> [u64; 512]
+    ensures { λ r. ⌜ r ≡ column 0 512 (rows .count) (λ i. lengthIfInRange (settingsIn factors) (circuitAt (now (file .entry)) (rowAt rows i))) ⌝ }
 {
     let mut all = [0u64; 512];
-    let mut i = 0;
-    while i < count {
-        all[i] = length_at(file, start + 44 * i, factors);
+    let mut i = 0u32;
+    while (i < rows.count) & (i < 512) {
+        all[i as usize] = length_at(file, fields::row_at(rows, i), factors);
         i += 1;
     }
     all

@@ -27,16 +27,14 @@ pub struct JudgedCircuits {
 fn columns(file: &[u8]) -> CircuitColumns
     ensures { λ r. ⌜ r ≡ circuitsOf (readable (now (file .entry))) ⌝ }
 {
-    let rows = layout::counts(file);
-    let nodes = rows.nodes as u32;
-    let count = rows.circuits;
+    let nodes = layout::section(file, layout::NODES);
+    let rows = layout::section(file, layout::CIRCUITS);
     let factors = layout::settings(file);
-    let start = 64 + 24 * nodes;
-    let first = names::places(file, start, 44, count, nodes);
-    let second = names::places(file, start + 12, 44, count, nodes);
-    let x = fields::column(file, start + 28, 44, count);
-    let length = lengths::by_circuit(file, start as usize, count, factors);
-    let mark = fields::column(file, start + 40, 44, count);
+    let first = names::places(file, nodes, rows, 0);
+    let second = names::places(file, nodes, rows, 12);
+    let x = fields::column(file, rows, 28);
+    let length = lengths::by_circuit(file, rows, factors);
+    let mark = fields::column(file, rows, 40);
     CircuitColumns {
         first,
         second,
@@ -50,8 +48,9 @@ fn columns(file: &[u8]) -> CircuitColumns
 pub fn judge(file: &[u8]) -> JudgedCircuits
     ensures { λ r. ⌜ (r .judgement ≡ circuitsStage (readable (now (file .entry)))) × (r .columns ≡ circuitsOf (readable (now (file .entry)))) ⌝ }
 {
-    let rows = layout::counts(file);
+    let nodes = layout::section(file, layout::NODES);
+    let rows = layout::section(file, layout::CIRCUITS);
     let columns = columns(file);
-    let judgement = row::stage(file, rows, 64 + 24 * rows.nodes, columns);
+    let judgement = row::stage(file, nodes.count as usize, rows, columns);
     JudgedCircuits { judgement, columns }
 }

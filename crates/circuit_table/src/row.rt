@@ -8,9 +8,9 @@ ghost use Rattle.layout.specs.Readable.{readable};
 ghost use Rattle.meaning.specs.First.{IsFirst};
 ghost use Rattle.circuit_table.specs.Told.{soundEnds, ToldEnds, ToldCircuits, unsoundCircuit};
 use crate::CircuitColumns;
-use layout::RowCounts;
 use meaning::Judgement;
 use meaning::Refusal;
+use meaning::Section;
 
 // Whether there are circuits of the voltage at a place.
 pub fn known_voltage(file: &[u8], at: usize) -> bool
@@ -46,34 +46,32 @@ pub fn sound_row(file: &[u8], at: usize, nodes: usize, first: usize, second: usi
 }
 
 // The lowest row that is not; the count of rows where there is none.
-pub fn first_unsound(file: &[u8], rows: RowCounts, start: usize, columns: CircuitColumns) -> usize
-    requires { ⌜ ToldCircuits (now file) rows start columns ⌝ }
-    ensures { λ r. ⌜ IsFirst (unsoundCircuit (now (file .entry)) start) (rows .circuits) r ⌝ }
+pub fn first_unsound(file: &[u8], nodes: usize, rows: Section, columns: CircuitColumns) -> usize
+    requires { ⌜ ToldCircuits (now file) nodes rows columns ⌝ }
+    ensures { λ r. ⌜ IsFirst (unsoundCircuit (now (file .entry)) rows) (rows .count) r ⌝ }
 {
-    let mut i = 0;
-    while i < rows.circuits {
-        if sound_row(
-            file,
-            start + 44 * i,
-            rows.nodes,
-            columns.first[i],
-            columns.second[i],
-        ) {
+    let count = rows.count;
+    let mut i = 0u32;
+    while i < count {
+        let first = columns.first[i as usize];
+        let second = columns.second[i as usize];
+        if sound_row(file, fields::row_at(rows, i), nodes, first, second) {
             i += 1;
         } else {
-            return i;
+            return i as usize;
         }
     }
-    rows.circuits
+    count as usize
 }
 
 // The stage: the lowest row that is malformed, out of range, or has an unknown end or equal ends.
-pub fn stage(file: &[u8], rows: RowCounts, start: usize, columns: CircuitColumns) -> Judgement
-    requires { ⌜ ToldCircuits (now file) rows start columns ⌝ }
+pub fn stage(file: &[u8], nodes: usize, rows: Section, columns: CircuitColumns) -> Judgement
+    requires { ⌜ ToldCircuits (now file) nodes rows columns ⌝ }
     ensures { λ r. ⌜ r ≡ circuitsStage (readable (now (file .entry))) ⌝ }
 {
-    let row = first_unsound(file, rows, start, columns);
-    if row < rows.circuits {
+    let count = rows.count as usize;
+    let row = first_unsound(file, nodes, rows, columns);
+    if row < count {
         return Judgement::Stops(Refusal::BadCircuit(row + 1));
     }
     Judgement::Passes

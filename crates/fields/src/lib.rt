@@ -1,13 +1,14 @@
-// Total readers of a case file's numbers: every slice and every place has its answer, and a byte past the end reads as 0.
+// Total readers of a case file's numbers and rows: every slice and every place has its answer, and a byte past the end reads as 0.
 mod bytes;
 
 ghost use mathlib.Core.Path.{_≡_};
-ghost use Prim.Native.Nat.{_+_, _*_};
+ghost use Prim.Native.Nat.{_+_};
 ghost use lib.Dec.{leb};
 ghost use Rattle.meaning.specs.Rows.{_between_and_};
-ghost use Rattle.meaning.specs.File.{u32, u64, i64};
+ghost use Rattle.meaning.specs.File.{u32, u64, i64, rowAt};
 ghost use Rattle.meaning.specs.Columns.{column};
 ghost use Rattle.fields.specs.Field.{Field};
+use meaning::Section;
 
 // The u32 at a place; where the file ends earlier, the missing bytes are 0.
 pub fn u32_at(file: &[u8], at: usize) -> usize
@@ -61,16 +62,28 @@ pub fn at_most(file: &[u8], at: usize, high: usize) -> bool
     u32_at(file, at) <= high
 }
 
-// The numbers at equal distances, one a row; nothing past the last row, and no more than 512.
-pub fn column(file: &[u8], start: u32, stride: u32, count: usize) -> [u64; 512]
-    ensures { λ r. ⌜ r ≡ column 0 512 count (λ i. u32 (now (file .entry)) (start + stride * i)) ⌝ }
+// Where a row of a section begins: numbers of 32 bits each, so that it fits 64.
+pub fn row_at(rows: Section, row: u32) -> usize
+    ensures { λ r. ⌜ r ≡ rowAt rows row ⌝ }
+{
+    (rows.start as usize) + (rows.size as usize) * (row as usize)
+}
+
+// Where a field of a row stands.
+pub fn field_at(rows: Section, row: u32, field: u32) -> usize
+    ensures { λ r. ⌜ r ≡ rowAt rows row + field ⌝ }
+{
+    row_at(rows, row) + field as usize
+}
+
+// The numbers in a field of a section's rows; nothing past the last row, and no more than 512.
+pub fn column(file: &[u8], rows: Section, field: u32) -> [u64; 512]
+    ensures { λ r. ⌜ r ≡ column 0 512 (rows .count) (λ i. u32 (now (file .entry)) (rowAt rows i + field)) ⌝ }
 {
     let mut all = [0u64; 512];
-    let mut at = start as usize;
-    let mut i = 0;
-    while (i < count) & (i < 512) {
-        all[i] = u32_at(file, at) as u64;
-        at += stride as usize;
+    let mut i = 0u32;
+    while (i < rows.count) & (i < 512) {
+        all[i as usize] = u32_at(file, field_at(rows, i, field)) as u64;
         i += 1;
     }
     all

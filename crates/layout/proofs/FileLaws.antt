@@ -9,7 +9,8 @@ use native.Mathlib.Omega.{arith}
 use lib.Dec.{eqb, leb}
 use lib.ListN.{length}
 use Rattle.meaning.specs.Rows.{_between_and_, all, rows}
-use Rattle.meaning.specs.File.{u32, recordSize, trailer, sectionCount, sectionOffset, sectionStart, counted, chained, fileWhole, runIn, runsIn}
+use Rattle.meaning.specs.File.{u32, sections, trailerSize, recordSize, versionOf, statedLength, sectionCount, sectionOffset, sectionStart, section, counted, chained, fileWhole, runIn, runsIn}
+use Rattle.meaning.specs.Study.{Runs}
 use Rattle.meaning.specs.Conditions.{InRange, WholeFile}
 use Rattle.meaning.proofs.Rows.{length-rows, below-suc}
 use Rattle.meaning.proofs.Says.{Says, says-as, _also_, says-le, says-eq, says-between, says-all}
@@ -46,8 +47,8 @@ module _ (file : List ℕ) where
     pub local : sectionCount file 6 ≡ sectionCount file 1 + sectionCount file 2
 
   pub record Chained : Type 0 where
-    pub chain : (section : ℕ) → section < 7 → sectionOffset file section ≡ sectionStart file section
-    pub end : sectionStart file 7 + 64 ≡ length file
+    pub chain : (section : ℕ) → section < sections → sectionOffset file section ≡ sectionStart file section
+    pub end : sectionStart file sections + trailerSize ≡ length file
 
   abbrev Solution : ℕ → Type 0
   Solution k = sectionCount file (4 + k) ≡ sectionCount file 1 + sectionCount file 2
@@ -86,8 +87,8 @@ module _ (file : List ℕ) where
 
   pub record FileParts : Type 0 where
     pub long : 128 ≤ length file
-    pub version : trailer file 14 ≡ 1
-    pub fileLength : trailer file 15 ≡ length file
+    pub version : versionOf file ≡ 1
+    pub fileLength : statedLength file ≡ length file
     pub counts : Counted
     pub sections : Chained
     pub settingsZero : u32 file 52 ≡ 0
@@ -108,7 +109,7 @@ module _ (file : List ℕ) where
       )
 
   -- of a file that is long enough, what is left to test
-  pub whole-rest : (version end word : ℕ) (counts sections : Bool) → 128 ≤ length file → version ≡ trailer file 14 → end ≡ trailer file 15
+  pub whole-rest : (version end word : ℕ) (counts sections : Bool) → 128 ≤ length file → version ≡ versionOf file → end ≡ statedLength file
       → counts ≡ counted file → sections ≡ chained file → word ≡ u32 file 52
       → (eqb version 1 && eqb end (length file) && counts && sections && eqb word 0) ≡ fileWhole file
   unfolding fileWhole
@@ -118,7 +119,7 @@ module _ (file : List ℕ) where
 
   -- the conditions ask for runs: those that stand in the file have its lengths
   pub whole-file : fileWhole file ≡ true → WholeFile file (runsIn file)
-  unfolding runsIn runIn
+  unfolding runsIn runIn section
   whole-file e =
       let w = says-file .0 e in
       record {
@@ -132,13 +133,34 @@ module _ (file : List ℕ) where
         solutions =
             λ s r. rw (four s (r .least)) at (three Solution
             (w .counts .base) (w .counts .wider) (w .counts .local) (s - 4) (omega (arith, r .least, r .most)));
-        chain = λ s h. w .sections .chain s (omega arith);
+        chain = w .sections .chain;
         end = w .sections .end;
         settingsZero = w .settingsZero;
         baseRun = length-rows (sectionCount file 4) _;
         widerRun = length-rows (sectionCount file 5) _;
         localRun = length-rows (sectionCount file 6) _;
       }
+
+  pub whole-true : (runs : Runs) → WholeFile file runs → fileWhole file ≡ true
+  whole-true runs w =
+      says-file .1
+      (record {
+        long = w .long;
+        version = w .version;
+        fileLength = w .fileLength;
+        counts =
+            record {
+              oneSettings = w .oneSettings;
+              nodes = w .nodes;
+              circuits = w .circuits;
+              stations = w .stations;
+              base = w .solutions 4 (record { least = omega arith; most = omega arith });
+              wider = w .solutions 5 (record { least = omega arith; most = omega arith });
+              local = w .solutions 6 (record { least = omega arith; most = omega arith });
+            };
+        sections = record { chain = w .chain; end = w .end };
+        settingsZero = w .settingsZero;
+      })
 
   -- ---- the chain, section by section
   pub start-zero : sectionStart file 0 ≡ 0
@@ -149,7 +171,7 @@ module _ (file : List ℕ) where
   unfolding sectionStart
   start-more k = let e : k + 1 ≡ suc k = omega arith in rw e refl
 
-record-small : (k : ℕ) → recordSize k ≤ 64
+pub record-small : (k : ℕ) → recordSize k ≤ 64
 unfolding recordSize
 record-small zero = omega arith
 record-small (suc zero) = omega arith
@@ -159,6 +181,12 @@ record-small (suc (suc (suc (suc zero)))) = omega arith
 record-small (suc (suc (suc (suc (suc zero))))) = omega arith
 record-small (suc (suc (suc (suc (suc (suc zero)))))) = omega arith
 record-small (suc (suc (suc (suc (suc (suc (suc k))))))) = omega arith
+
+-- a section as the trailer has it: it starts at its offset
+pub section-told : (file : List ℕ) (s offset size count : ℕ) → fileWhole file ≡ true → s < sections → offset ≡ sectionOffset file s → size ≡ recordSize s → count ≡ sectionCount file s
+    → record { start = offset; size = size; count = count } ≡ section file s
+unfolding section
+section-told file s offset size count e h o z n = rw (o, z, n, says-file file .0 e .sections .chain s h) refl
 
 pub solution-size : (k : ℕ) → 3 < k → k < 7 → 8 ≡ recordSize k
 unfolding recordSize

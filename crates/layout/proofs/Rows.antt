@@ -1,17 +1,21 @@
 -- What a readable file says, row by row: each row is read at its place in the file.
 use mathlib.Core.Path.{_≡_, refl, sym, _∙_, ap}
 use mathlib.Core.List.{List}
-use mathlib.Core.Bool.{Bool, true, false}
-use Prim.Native.Nat.{ℕ, _+_, _*_, _≤_, _<_}
+use mathlib.Core.Bool.{Bool, true, false, cond, _&&_}
+use Prim.Native.Nat.{ℕ, _+_, _≤_, _<_}
 use native.Mathlib.Omega.{arith}
+use borrow.Author.Tests.{lt-ltb}
+use lib.Dec.{ltb}
 use lib.ListN.{length}
+use Rattle.meaning.specs.declared.Section.{Section}
 use Rattle.meaning.specs.Rows.{rows}
-use Rattle.meaning.specs.Study.{Settings, Study, Node, Circuit, Station, node, circuit, station}
-use Rattle.meaning.specs.File.{u32, u64, nameAt, sectionCount, sectionStart, settingsAt, nodeAt, circuitAt, stationAt, fileWhole, studyOf, runsIn}
+use Rattle.meaning.specs.Study.{Settings, Study, noNode, noCircuit, noStation}
+use Rattle.meaning.specs.File.{u32, u64, sections, recordSize, sectionCount, section, rowAt, table, settingsAt, nodeAt, circuitAt, stationAt, fileWhole, studyOf, runsIn}
 use Rattle.meaning.proofs.Rows.{length-rows}
-use Rattle.meaning.proofs.Starts as starts
+use Rattle.meaning.proofs.Says.{_also_, says-lt, says-true}
+use Rattle.meaning.proofs.Frame.{ReadFrom, table-read, row-inside}
 use Rattle.layout.proofs.FileLaws.{whole-file, start-zero}
-use Rattle.layout.specs.Readable.{noStudy, readable}
+use Rattle.layout.specs.Readable.{noStudy, readable, noSection, sectionIn}
 use Rattle.layout.specs.Frame.{countsOf, settingsIn}
 use Rattle.layout.specs.declared.RowCounts.{RowCounts}
 
@@ -32,7 +36,7 @@ module _ (file : List ℕ) where
 
   pub counts-study : (nodes circuits stations : ℕ) → nodes ≡ sectionCount file 1 → circuits ≡ sectionCount file 2 → stations ≡ sectionCount file 3
       → record { nodes = nodes; circuits = circuits; stations = stations } ≡ countsOf (studyOf file)
-  unfolding countsOf studyOf
+  unfolding countsOf studyOf section
   counts-study n m k e f g = rw (e, f, g, length-rows (sectionCount file 1) _, length-rows (sectionCount file 2) _, length-rows (sectionCount file 3) _)
 
   pub counts-whole : {r : RowCounts} → r ≡ countsOf (studyOf file) → fileWhole file ≡ true → r ≡ countsOf (readable file)
@@ -90,53 +94,90 @@ module _ (file : List ℕ) where
       go true e = rw (readable-whole e) (w e)
       go false e = rw (readable-none e) n
 
-  pub nodes-few : length (S .nodes) ≤ 256
-  unfolding noStudy
-  nodes-few = either (λ T. length (T .nodes) ≤ 256) (λ e. let w = whole-file file e in omega (arith, starts.counts file (runsIn file) w .0, w .nodes .most)) (omega arith)
+  -- ---- sections
+  pub in-whole : (s : ℕ) → s < sections → fileWhole file ≡ true → sectionIn file s ≡ section file s
+  unfolding sectionIn
+  in-whole s h e = rw (lt-ltb s sections h, e) refl
 
-  pub circuits-few : length (S .circuits) ≤ 512
-  unfolding noStudy
-  circuits-few = either (λ T. length (T .circuits) ≤ 512) (λ e. let w = whole-file file e in omega (arith, starts.counts file (runsIn file) w .1, w .circuits)) (omega arith)
+  -- what holds of a whole file's section, and of one without rows
+  pub either-section : (P : Section → Type 0) (s : ℕ) → (s < sections → fileWhole file ≡ true → P (section file s)) → P noSection → P (sectionIn file s)
+  unfolding sectionIn
+  either-section P s w n = go (ltb s sections && fileWhole file) refl
+    where
+      go : (b : Bool) → (ltb s sections && fileWhole file) ≡ b → P (cond b (section file s) noSection)
+      go true e = let t = (says-lt {m = s} {n = sections} also says-true (fileWhole file)) .0 e in w (t .0) (t .1)
+      go false e = n
 
-  pub stations-few : length (S .stations) ≤ 512
-  unfolding noStudy
-  stations-few = either (λ T. length (T .stations) ≤ 512) (λ e. let w = whole-file file e in omega (arith, starts.counts file (runsIn file) w .2, w .stations)) (omega arith)
+  -- a row lies inside the file
+  pub inside : (s : ℕ) {t : Section} → t ≡ sectionIn file s → (i : ℕ) → i < t .count → rowAt t i + t .size ≤ length file
+  inside s e i = rw e (either-section (λ t. i < t .count → rowAt t i + t .size ≤ length file) s
+      (λ h e l. let w = whole-file file e in row-inside file (runsIn file) w s i h l)
+      (λ l. absurd (omega arith)))
 
-  pub node-row : (i : ℕ) → i < length (S .nodes) → node (S .nodes) i ≡ nodeAt file (64 + 24 * i)
-  unfolding noStudy
-  node-row = either (λ T. (i : ℕ) → i < length (T .nodes) → node (T .nodes) i ≡ nodeAt file (64 + 24 * i))
-      (λ e i h. let w = whole-file file e in starts.node-row file (runsIn file) w i (omega (arith, starts.counts file (runsIn file) w .0)))
-      (λ i h. absurd (omega arith))
+  pub node-inside : {t : Section} → t ≡ sectionIn file 1 → (i : ℕ) → i < t .count → rowAt t i < length file
+  unfolding section recordSize
+  node-inside e i = rw e (either-section (λ t. i < t .count → rowAt t i < length file) 1
+      (λ h e l. let w = whole-file file e in omega (arith, row-inside file (runsIn file) w 1 i h l))
+      (λ l. absurd (omega arith)))
 
-  pub node-name : (i : ℕ) → i < length (S .nodes) → node (S .nodes) i .name ≡ nameAt file (64 + 24 * i)
-  unfolding nodeAt
-  node-name i h = rw (node-row i h) refl
+  -- ---- tables: a row is read at its place
+  nodes-read : S .nodes ≡ table (nodeAt file) (sectionIn file 1)
+  unfolding readable studyOf noStudy sectionIn rows
+  nodes-read = go (fileWhole file)
+    where
+      go : (b : Bool) → cond b (studyOf file) noStudy .nodes ≡ table (nodeAt file) (cond b (section file 1) noSection)
+      go true = refl
+      go false = refl
 
-  -- the nodes' table is inside the file
-  pub node-inside : (i : ℕ) → i < length (S .nodes) → 64 + 24 * i < length file
-  unfolding noStudy
-  node-inside = either (λ T. (i : ℕ) → i < length (T .nodes) → 64 + 24 * i < length file)
-      (λ e i h. let w = whole-file file e in omega (arith, starts.counts file (runsIn file) w .0, starts.file-length file (runsIn file) w))
-      (λ i h. absurd (omega arith))
+  circuits-read : S .circuits ≡ table (circuitAt file) (sectionIn file 2)
+  unfolding readable studyOf noStudy sectionIn rows
+  circuits-read = go (fileWhole file)
+    where
+      go : (b : Bool) → cond b (studyOf file) noStudy .circuits ≡ table (circuitAt file) (cond b (section file 2) noSection)
+      go true = refl
+      go false = refl
 
-  pub circuit-row : (i : ℕ) → i < length (S .circuits) → circuit (S .circuits) i ≡ circuitAt file (64 + 24 * length (S .nodes) + 44 * i)
-  unfolding noStudy
-  circuit-row = either (λ T. (i : ℕ) → i < length (T .circuits) → circuit (T .circuits) i ≡ circuitAt file (64 + 24 * length (T .nodes) + 44 * i))
-      (λ e i h. let w = whole-file file e in let k = starts.counts file (runsIn file) w in rw (k .0) (starts.circuit-row file (runsIn file) w i (omega (arith, k .1))))
-      (λ i h. absurd (omega arith))
+  stations-read : S .stations ≡ table (stationAt file) (sectionIn file 3)
+  unfolding readable studyOf noStudy sectionIn rows
+  stations-read = go (fileWhole file)
+    where
+      go : (b : Bool) → cond b (studyOf file) noStudy .stations ≡ table (stationAt file) (cond b (section file 3) noSection)
+      go true = refl
+      go false = refl
 
-  pub station-row : (i : ℕ) → i < length (S .stations)
-      → station (S .stations) i ≡ stationAt file (64 + 24 * length (S .nodes) + 44 * length (S .circuits) + 32 * i)
-  unfolding noStudy
-  station-row = either (λ T. (i : ℕ) → i < length (T .stations) → station (T .stations) i ≡ stationAt file (64 + 24 * length (T .nodes) + 44 * length (T .circuits) + 32 * i))
-      (λ e i h. let w = whole-file file e in let k = starts.counts file (runsIn file) w in rw (k .0, k .1) (starts.station-row file (runsIn file) w i (omega (arith, k .2))))
-      (λ i h. absurd (omega arith))
+  pub nodes-from : {t : Section} → t ≡ sectionIn file 1 → ReadFrom (nodeAt file) noNode t (S .nodes)
+  nodes-from e = rw (e, nodes-read) table-read
+
+  pub circuits-from : {t : Section} → t ≡ sectionIn file 2 → ReadFrom (circuitAt file) noCircuit t (S .circuits)
+  circuits-from e = rw (e, circuits-read) table-read
+
+  pub stations-from : {t : Section} → t ≡ sectionIn file 3 → ReadFrom (stationAt file) noStation t (S .stations)
+  stations-from e = rw (e, stations-read) table-read
+
+  pub nodes-few : {t : Section} → t ≡ sectionIn file 1 → t .count ≤ 256
+  unfolding section
+  nodes-few e = rw e (either-section (λ t. t .count ≤ 256) 1 (λ h e. whole-file file e .nodes .most) (omega arith))
+
+  pub circuits-few : {t : Section} → t ≡ sectionIn file 2 → t .count ≤ 512
+  unfolding section
+  circuits-few e = rw e (either-section (λ t. t .count ≤ 512) 2 (λ h e. whole-file file e .circuits) (omega arith))
+
+  pub stations-few : {t : Section} → t ≡ sectionIn file 3 → t .count ≤ 512
+  unfolding section
+  stations-few e = rw e (either-section (λ t. t .count ≤ 512) 3 (λ h e. whole-file file e .stations) (omega arith))
+
+  -- a solution: 4 base, 5 wider, 6 local
+  pub solution-few : (k : ℕ) {t : Section} → t ≡ sectionIn file (4 + k) → t .count ≤ 768
+  unfolding section
+  solution-few k e = rw e (either-section (λ t. t .count ≤ 768) (4 + k)
+      (λ h e. let w = whole-file file e in
+      omega (arith, w .solutions (4 + k) (record { least = omega arith; most = omega arith }), w .nodes .most, w .circuits)) (omega arith))
 
   -- ---- what the loops over the rows ask
   pub few : {r : RowCounts} → r ≡ countsOf (readable file) → Few r
   few e =
       record {
-        nodes-low = omega (arith, counts-are e .0, nodes-few);
-        circuits-low = omega (arith, counts-are e .1, circuits-few);
-        stations-low = omega (arith, counts-are e .2, stations-few);
+        nodes-low = omega (arith, counts-are e .0, nodes-from refl .count, nodes-few refl);
+        circuits-low = omega (arith, counts-are e .1, circuits-from refl .count, circuits-few refl);
+        stations-low = omega (arith, counts-are e .2, stations-from refl .count, stations-few refl);
       }

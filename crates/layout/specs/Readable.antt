@@ -1,10 +1,11 @@
 -- 01, The case file: what a file says, whole or not.
-use mathlib.Core.Path.{_≡_}
-use mathlib.Core.Bool.{cond}
+use mathlib.Core.Bool.{cond, _&&_}
 use mathlib.Core.List.{List, []}
-use Prim.Native.Nat.{ℕ, _<_, _^_}
+use Prim.Native.Nat.{ℕ}
+use lib.Dec.{ltb}
+use Rattle.meaning.specs.declared.Section.{Section}
 use Rattle.meaning.specs.Study.{Settings, Study}
-use Rattle.meaning.specs.File.{trailer, fileWhole, studyOf}
+use Rattle.meaning.specs.File.{sections, section, fileWhole, studyOf}
 
 -- a study without rows, all settings 0
 unfoldable pub noStudy : Study
@@ -36,7 +37,9 @@ noStudy =
 unfoldable pub readable : List ℕ → Study
 readable file = cond (fileWhole file) (studyOf file) noStudy
 
--- what a reader of the trailer answers: a field of it, which is a u32
-pub record Word (file : List ℕ) (field r : ℕ) : Type 0 where
-  pub value : r ≡ trailer file field
-  pub below : r < 2 ^ 32
+-- a section of a whole file; of another, or past the last, one without rows
+abbrev pub noSection : Section
+noSection = record { start = 0; size = 0; count = 0 }
+
+unfoldable pub sectionIn : List ℕ → (s : ℕ) → Section
+sectionIn file s = cond (ltb s sections && fileWhole file) (section file s) noSection

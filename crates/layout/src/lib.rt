@@ -1,11 +1,25 @@
 // A case file's frame: whether it is whole, the rows of its tables and its settings. Every slice has its answer: a file that is not whole reads as one without rows.
-mod section;
+mod settings_row;
 mod trailer;
 
 ghost use mathlib.Core.Path.{_≡_};
 ghost use Rattle.meaning.specs.File.{fileWhole};
-ghost use Rattle.layout.specs.Readable.{readable};
+ghost use Rattle.layout.specs.Readable.{readable, sectionIn};
 ghost use Rattle.layout.specs.Frame.{countsOf, settingsIn};
+use meaning::Section;
+
+// The sections that hold rows, by number.
+pub const NODES: usize = 1;
+
+pub const CIRCUITS: usize = 2;
+
+pub const STATIONS: usize = 3;
+
+pub const BASE: usize = 4;
+
+pub const WIDER: usize = 5;
+
+pub const LOCAL: usize = 6;
 
 // Rows of each table.
 pub struct RowCounts {
@@ -39,11 +53,25 @@ pub fn whole(file: &[u8]) -> bool
     if file.len() < 128 {
         return false;
     }
-    (trailer::word(file, 14) == 1)
-        & (trailer::word(file, 15) == file.len())
+    (fields::u32_at(file, file.len() - 8) == 1)
+        & (fields::u32_at(file, file.len() - 4) == file.len())
         & trailer::counted(file)
         & trailer::chained(file)
         & (fields::u32_at(file, 52) == 0)
+}
+
+// A section of the file. One that is not whole has no section, and no file one past the last.
+pub fn section(file: &[u8], number: usize) -> Section
+    ensures { λ r. ⌜ r ≡ sectionIn (now (file .entry)) number ⌝ }
+{
+    if (number < trailer::SECTIONS) & whole(file) {
+        return trailer::section(file, number);
+    }
+    Section {
+        start: 0,
+        size: 0,
+        count: 0,
+    }
 }
 
 // The counts of the tables, from the trailer.
@@ -65,7 +93,7 @@ pub fn settings(file: &[u8]) -> StudySettings
     ensures { λ r. ⌜ settingsIn r ≡ readable (now (file .entry)) .settings ⌝ }
 {
     if whole(file) {
-        return section::settings(file);
+        return settings_row::settings(file);
     }
-    section::no_settings()
+    settings_row::no_settings()
 }

@@ -1,19 +1,17 @@
-// The trailer: the last 64 bytes of the file, 16 numbers.
+// The frame, and the trailer that points back at it: for each section its offset and its count, then version and length.
 use crate::RowCounts;
 ghost use mathlib.Core.Path.{_≡_};
-ghost use Prim.Native.Nat.{_≤_, _<_};
+ghost use mathlib.Core.Bool.{true};
+ghost use Prim.Native.Nat.{_≤_, _<_, _^_};
 ghost use lib.ListN.{length};
-ghost use Rattle.meaning.specs.File.{recordSize, counted, chained, studyOf};
-ghost use Rattle.layout.specs.Readable.{Word};
+ghost use Rattle.meaning.specs.File.{recordSize, sectionOffset, sectionCount, section, counted, chained, fileWhole, studyOf};
 ghost use Rattle.layout.specs.Frame.{countsOf};
+use meaning::Section;
 
-// A number of the trailer.
-pub fn word(file: &[u8], field: usize) -> usize
-    requires { ⌜ (64 ≤ length (now file)) × (field < 16) ⌝ }
-    ensures { λ r. ⌜ Word (now (file .entry)) field r ⌝ }
-{
-    fields::u32_at(file, file.len() - 64 + 4 * field)
-}
+// Sections of a file, and the bytes of its trailer.
+pub const SECTIONS: usize = 7;
+
+const TRAILER: usize = 64;
 
 // The bytes of a section's record.
 pub fn record_size(section: usize) -> usize
@@ -29,19 +27,35 @@ pub fn record_size(section: usize) -> usize
     }
 }
 
+// A section's offset.
+pub fn offset(file: &[u8], section: usize) -> usize
+    requires { ⌜ (64 ≤ length (now file)) × (section < 7) ⌝ }
+    ensures { λ r. ⌜ (r ≡ sectionOffset (now (file .entry)) section) × (r < 2 ^ 32) ⌝ }
+{
+    fields::u32_at(file, file.len() - TRAILER + 8 * section)
+}
+
+// A section's count of records.
+pub fn count(file: &[u8], section: usize) -> usize
+    requires { ⌜ (64 ≤ length (now file)) × (section < 7) ⌝ }
+    ensures { λ r. ⌜ (r ≡ sectionCount (now (file .entry)) section) × (r < 2 ^ 32) ⌝ }
+{
+    fields::u32_at(file, file.len() - TRAILER + 8 * section + 4)
+}
+
 // Whether each table's count is in its range, and a solution has as many numbers as nodes and circuits.
 pub fn counted(file: &[u8]) -> bool
     requires { ⌜ 64 ≤ length (now file) ⌝ }
     ensures { λ r. ⌜ r ≡ counted (now (file .entry)) ⌝ }
 {
-    let nodes = word(file, 3);
-    let circuits = word(file, 5);
+    let nodes = count(file, 1);
+    let circuits = count(file, 2);
     let numbers = nodes + circuits;
-    (word(file, 1) == 1)
+    (count(file, 0) == 1)
         & ((1 <= nodes) & (nodes <= 256))
         & (circuits <= 512)
-        & (word(file, 7) <= 512)
-        & ((word(file, 9) == numbers) & (word(file, 11) == numbers) & (word(file, 13) == numbers))
+        & (count(file, 3) <= 512)
+        & ((count(file, 4) == numbers) & (count(file, 5) == numbers) & (count(file, 6) == numbers))
 }
 
 // Whether the sections follow one another exactly and end at the trailer.
@@ -52,12 +66,12 @@ pub fn chained(file: &[u8]) -> bool
     let mut follow = true;
     let mut start = 0;
     let mut section = 0;
-    while section < 7 {
-        follow = follow & (word(file, 2 * section) == start);
-        start += record_size(section) * word(file, 2 * section + 1);
+    while section < SECTIONS {
+        follow = follow & (offset(file, section) == start);
+        start += record_size(section) * count(file, section);
         section += 1;
     }
-    follow & (start + 64 == file.len())
+    follow & (start + TRAILER == file.len())
 }
 
 // The rows of each table of a file that is whole.
@@ -66,8 +80,20 @@ pub fn row_counts(file: &[u8]) -> RowCounts
     ensures { λ r. ⌜ r ≡ countsOf (studyOf (now (file .entry))) ⌝ }
 {
     RowCounts {
-        nodes: word(file, 3),
-        circuits: word(file, 5),
-        stations: word(file, 7),
+        nodes: count(file, 1),
+        circuits: count(file, 2),
+        stations: count(file, 3),
+    }
+}
+
+// A section of a file that is whole: it starts at its offset, since the sections follow one another.
+pub fn section(file: &[u8], number: usize) -> Section
+    requires { ⌜ (fileWhole (now file) ≡ true) × (number < 7) ⌝ }
+    ensures { λ r. ⌜ r ≡ section (now (file .entry)) number ⌝ }
+{
+    Section {
+        start: offset(file, number) as u32,
+        size: record_size(number) as u32,
+        count: count(file, number) as u32,
     }
 }

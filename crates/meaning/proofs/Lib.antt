@@ -13,7 +13,7 @@ pub mod Shares
 pub mod Sides
 pub mod Mirror
 pub mod Centre
-pub mod Starts
+pub mod Frame
 pub mod Tables
 -- the stages judge the conditions of 01's order
 pub mod Whole

@@ -38,7 +38,7 @@ says-whole file runs =
         circuits = t .0 .0 .0 .1 .0 .0 .1;
         stations = t .0 .0 .0 .1 .0 .1;
         solutions = λ s r. rw (four s (r .least)) at (t .0 .0 .0 .1 .1 (s - 4) (omega (arith, r .least, r .most)));
-        chain = λ s h. t .0 .0 .1 .0 s (omega arith);
+        chain = t .0 .0 .1 .0;
         end = t .0 .0 .1 .1;
         settingsZero = t .0 .1;
         baseRun = t .1 .0 .0;
@@ -52,7 +52,7 @@ says-whole file runs =
               ((w .long, w .version), w .fileLength),
               ((((w .oneSettings, w .nodes), w .circuits), w .stations), λ k h. w .solutions (4 + k) (record { least = omega arith; most = omega arith })),
             ),
-            (λ k h. w .chain k (omega arith), w .end),
+            (w .chain, w .end),
           ),
           w .settingsZero,
         ),

@@ -7,7 +7,7 @@ use lib.IntN.{ℤ, pos, natAbs, _-ℤ_}
 use lib.ListN.{length, getD}
 use Rattle.meaning.specs.Name.{Name}
 use Rattle.meaning.specs.Study.{Settings, Circuit, Study, Runs, node, circuit, station}
-use Rattle.meaning.specs.File.{u32, trailer, sectionOffset, sectionCount, sectionStart, studyOf}
+use Rattle.meaning.specs.File.{u32, sections, trailerSize, versionOf, statedLength, sectionOffset, sectionCount, sectionStart, studyOf}
 use Rattle.meaning.specs.declared.System.{System}
 use Rattle.meaning.specs.Grid.{Grid, gridOf, totalDemand, totalTec, totalPayingTec}
 use Rattle.meaning.specs.Network.{Network, networkOf, Reached}
@@ -24,15 +24,15 @@ pub record InRange (x low high : ℕ) : Type 0 where
 -- not 1
 pub record WholeFile (file : List ℕ) (runs : Runs) : Type 0 where
   pub long : 128 ≤ length file
-  pub version : trailer file 14 ≡ 1
-  pub fileLength : trailer file 15 ≡ length file
+  pub version : versionOf file ≡ 1
+  pub fileLength : statedLength file ≡ length file
   pub oneSettings : sectionCount file 0 ≡ 1
   pub nodes : InRange (sectionCount file 1) 1 256
   pub circuits : sectionCount file 2 ≤ 512
   pub stations : sectionCount file 3 ≤ 512
   pub solutions : (section : ℕ) → InRange section 4 6 → sectionCount file section ≡ sectionCount file 1 + sectionCount file 2
-  pub chain : (section : ℕ) → section ≤ 6 → sectionOffset file section ≡ sectionStart file section
-  pub end : sectionStart file 7 + 64 ≡ length file
+  pub chain : (section : ℕ) → section < sections → sectionOffset file section ≡ sectionStart file section
+  pub end : sectionStart file sections + trailerSize ≡ length file
   pub settingsZero : u32 file 52 ≡ 0
   pub baseRun : length (runs .base) ≡ sectionCount file 4
   pub widerRun : length (runs .wider) ≡ sectionCount file 5

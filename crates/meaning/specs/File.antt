@@ -6,6 +6,7 @@ use lib.Dec.{eqb, leb, ltb}
 use lib.IntN.{ℤ, pos, negsuc}
 use lib.ListN.{length, getD, take, drop}
 use Rattle.meaning.specs.Rows.{_between_and_, all, rows}
+use Rattle.meaning.specs.declared.Section.{Section}
 use Rattle.meaning.specs.Name.{Name}
 use Rattle.meaning.specs.Study.{Settings, Node, Circuit, Station, Study, Runs}
 
@@ -19,28 +20,51 @@ u64 file at = u32 file at + 4294967296 * u32 file (at + 4)
 unfoldable pub nameAt : List ℕ → ℕ → Name
 nameAt file at = take 12 (drop at file)
 
--- sections 0 to 6: settings, nodes, circuits, stations, base, wider, local; the bytes of a record of each
-unfoldable pub recordSize : ℕ → ℕ
+-- ---- the frame: sections, their records, and the trailer that points back at them
+-- "Sections from offset 0 in this order": 0 settings, 1 nodes, 2 circuits, 3 stations, 4 base, 5 wider, 6 local
+abbrev pub sections : ℕ
+sections = 7
+
+-- the bytes of a record of each
+unfoldable pub recordSize : (section : ℕ) → ℕ
 recordSize section = getD (64 ∷ 24 ∷ 44 ∷ 32 ∷ 8 ∷ 8 ∷ 8 ∷ []) section 0
 
--- "then a 64-byte trailer": for each section its offset and its record count, then the version and the whole file length
-unfoldable pub trailer : List ℕ → ℕ → ℕ
-trailer file field = u32 file (length file - 64 + 4 * field)
+-- the trailer: "for each section in order, its offset and its record count", "then the version 1 and the whole file length": 64 bytes
+abbrev pub trailerSize : ℕ
+trailerSize = 8 * sections + 8
 
-abbrev pub sectionOffset : List ℕ → ℕ → ℕ
-sectionOffset file section = trailer file (2 * section)
+unfoldable pub sectionOffset : List ℕ → (section : ℕ) → ℕ
+sectionOffset file section = u32 file (length file - trailerSize + 8 * section)
 
-abbrev pub sectionCount : List ℕ → ℕ → ℕ
-sectionCount file section = trailer file (2 * section + 1)
+unfoldable pub sectionCount : List ℕ → (section : ℕ) → ℕ
+sectionCount file section = u32 file (length file - trailerSize + 8 * section + 4)
 
--- where a section must start: where the one before it ends; section 7 is the trailer
-unfoldable pub sectionStart : List ℕ → ℕ → ℕ
+-- version and length end the file
+unfoldable pub versionOf : List ℕ → ℕ
+versionOf file = u32 file (length file - 8)
+
+unfoldable pub statedLength : List ℕ → ℕ
+statedLength file = u32 file (length file - 4)
+
+-- where a section must start: where the one before it ends; behind the last one starts the trailer
+unfoldable pub sectionStart : List ℕ → (section : ℕ) → ℕ
 sectionStart file zero = 0
 sectionStart file (suc section) = sectionStart file section + recordSize section * sectionCount file section
 
+unfoldable pub section : List ℕ → (section : ℕ) → Section
+section file s = record { start = sectionStart file s; size = recordSize s; count = sectionCount file s }
+
+-- where row i of a section begins
+abbrev pub rowAt : Section → (i : ℕ) → ℕ
+rowAt s i = s .start + s .size * i
+
+-- the rows of a section, each read at its place
+abbrev pub table : {A : Type 0} → (row : (at : ℕ) → A) → Section → List A
+table row s = rows (s .count) (λ i. row (rowAt s i))
+
 -- "Sections must follow one another exactly and end at the trailer."
 unfoldable pub chained : List ℕ → Bool
-chained file = all (λ k. eqb (sectionOffset file k) (sectionStart file k)) 7 && eqb (sectionStart file 7 + 64) (length file)
+chained file = all (λ s. eqb (sectionOffset file s) (sectionStart file s)) sections && eqb (sectionStart file sections + trailerSize) (length file)
 
 -- Quantities: rows 1..256, 0..512, 0..512; a solution's "count is nodes plus circuits"
 unfoldable pub counted : List ℕ → Bool
@@ -52,7 +76,7 @@ counted file =
 -- not refused as 1, for what the file says: length, version, counts, chain, the settings' zero
 unfoldable pub fileWhole : List ℕ → Bool
 fileWhole file =
-    leb 128 (length file) && eqb (trailer file 14) 1 && eqb (trailer file 15) (length file) && counted file && chained file
+    leb 128 (length file) && eqb (versionOf file) 1 && eqb (statedLength file) (length file) && counted file && chained file
     && eqb (u32 file 52) 0
 
 -- not refused as 1, for the lengths of the three runs: "A run of another length is refused as 1."
@@ -104,9 +128,9 @@ unfoldable pub studyOf : List ℕ → Study
 studyOf file =
     record {
       settings = settingsAt file (sectionStart file 0);
-      nodes = rows (sectionCount file 1) (λ i. nodeAt file (sectionStart file 1 + 24 * i));
-      circuits = rows (sectionCount file 2) (λ i. circuitAt file (sectionStart file 2 + 44 * i));
-      stations = rows (sectionCount file 3) (λ i. stationAt file (sectionStart file 3 + 32 * i));
+      nodes = table (nodeAt file) (section file 1);
+      circuits = table (circuitAt file) (section file 2);
+      stations = table (stationAt file) (section file 3);
     }
 
 -- ---- the runs in a file, which the program copies out: "one i64 potential a node, then one i64 flow a circuit"
@@ -114,7 +138,7 @@ unfoldable pub i64 : List ℕ → ℕ → ℤ
 i64 file at = cond (ltb (u64 file at) (2 ^ 63)) (pos (u64 file at)) (negsuc (2 ^ 64 - 1 - u64 file at))
 
 unfoldable pub runIn : List ℕ → (section : ℕ) → List ℤ
-runIn file section = rows (sectionCount file section) (λ i. i64 file (sectionStart file section + 8 * i))
+runIn file s = table (i64 file) (section file s)
 
 unfoldable pub runsIn : List ℕ → Runs
 runsIn file = record { base = runIn file 4; wider = runIn file 5; local = runIn file 6 }

@@ -7,6 +7,13 @@ pub struct Metres(pub i64);
 
 pub struct MicroPerKw(pub i64);
 
+// 01, The case file: where a section starts, the bytes of its records, and how many there are. Numbers of a file, of 32 bits each.
+pub struct Section {
+    pub start: u32,
+    pub size: u32,
+    pub count: u32,
+}
+
 // 01, The case file: the three solutions, systems 1, 2 and 3.
 pub enum System {
     Base,

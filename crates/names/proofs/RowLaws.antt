@@ -2,23 +2,19 @@
 use mathlib.Core.Path.{_≡_, refl}
 use mathlib.Core.Bool.{Bool, true, false}
 use mathlib.Core.Option.{Option·getD}
-use Prim.Native.Nat.{ℕ, _+_, _*_, _-_, _≤_, _<_, _^_}
-use native.Mathlib.Nat.{mul-le-mul}
+use Prim.Native.Nat.{ℕ, _+_, _≤_, _<_}
 use native.Mathlib.Omega.{arith}
+use Rattle.meaning.specs.declared.Section.{Section}
 use Rattle.meaning.specs.Rows.{lowest, found, any}
 use Rattle.meaning.specs.Name.{Name, sameName}
+use Rattle.meaning.specs.File.{rowAt}
 use Rattle.meaning.specs.Tables.{seenEarlier}
+use Rattle.meaning.proofs.Frame.{row-rise}
 use Rattle.meaning.proofs.Rows.{Passed, passed-stops, passed-all, any-intro}
 
--- a row's distance from the first, so that its place fits 64 bits
-pub row-low : {stride i : ℕ} → stride < 2 ^ 32 → i < 2 ^ 32 → stride * i ≤ (2 ^ 32 - 1) * (2 ^ 32 - 1)
-row-low h k = mul-le-mul {n₂ = 2 ^ 32 - 1} {m₂ = 2 ^ 32 - 1} (omega arith) (omega arith)
-
--- a row is in the file where the end of the rows is
-pub row-below : (start stride i n : ℕ) {e : ℕ} → i ≤ n → start + stride * n + 12 ≤ e → start + stride * i + 12 ≤ e
-row-below start s i n h k =
-    let l : s ≤ s = omega arith in
-    omega (arith, mul-le-mul {n₂ = s} {m₂ = n} l h)
+-- a row's name is in the file where the end of the rows is so
+pub row-below : (rows : Section) (i n : ℕ) {e : ℕ} → i ≤ n → rowAt rows n + 12 ≤ e → rowAt rows i + 12 ≤ e
+row-below rows i n h k = omega (arith, row-rise rows i n h)
 
 module _ {test : ℕ → Bool} where
   pub search-stops : (n i : ℕ) → Passed test i → i < n → test i ≡ true → i ≡ Option·getD (lowest test n) n

@@ -5,11 +5,12 @@ mod padding;
 mod same;
 
 ghost use mathlib.Core.Path.{_≡_};
-ghost use Prim.Native.Nat.{_+_, _*_};
+ghost use Prim.Native.Nat.{_+_};
 ghost use Rattle.meaning.specs.Name.{wellFormed, sameName};
-ghost use Rattle.meaning.specs.File.{nameAt};
+ghost use Rattle.meaning.specs.File.{nameAt, rowAt};
 ghost use Rattle.meaning.specs.Columns.{column};
 ghost use Rattle.names.specs.Search.{firstRepeated, firstNamed};
+use meaning::Section;
 
 // Whether the 12 bytes at a place are a well-formed name.
 pub fn name_formed(file: &[u8], at: usize) -> bool
@@ -32,23 +33,21 @@ pub fn same_name(file: &[u8], a: usize, b: usize) -> bool
 }
 
 // The lowest row whose name an earlier row has; the count of rows where there is none.
-pub fn repeated(file: &[u8], start: u32, stride: u32, count: u32) -> usize
-    ensures { λ r. ⌜ r ≡ firstRepeated (now (file .entry)) start stride count ⌝ }
+pub fn repeated(file: &[u8], rows: Section) -> usize
+    ensures { λ r. ⌜ r ≡ firstRepeated (now (file .entry)) rows ⌝ }
 {
-    let known = same::inside(
-        file,
-        name_rows::row_at(start, stride, count),
-        start as usize,
-    );
+    let count = rows.count;
+    let end = fields::row_at(rows, count);
+    let known = same::inside(file, end, end);
     let mut row = 0u32;
     'rows: loop {
         if row >= count {
             break 'rows count as usize;
         }
-        let later = name_rows::row_at(start, stride, row);
+        let later = fields::row_at(rows, row);
         let mut early = 0u32;
         while early < row {
-            if name_rows::row_is(file, name_rows::row_at(start, stride, early), later, known) {
+            if name_rows::row_is(file, fields::row_at(rows, early), later, known) {
                 break 'rows row as usize;
             }
             early += 1;
@@ -58,13 +57,14 @@ pub fn repeated(file: &[u8], start: u32, stride: u32, count: u32) -> usize
 }
 
 // The lowest row that has the name at a place; the count of rows where there is none.
-fn place(file: &[u8], start: u32, stride: u32, count: u32, at: usize) -> usize
-    ensures { λ r. ⌜ r ≡ firstNamed (now (file .entry)) start stride count at ⌝ }
+fn place(file: &[u8], rows: Section, at: usize) -> usize
+    ensures { λ r. ⌜ r ≡ firstNamed (now (file .entry)) rows at ⌝ }
 {
-    let known = same::inside(file, name_rows::row_at(start, stride, count), at);
+    let count = rows.count;
+    let known = same::inside(file, fields::row_at(rows, count), at);
     let mut row = 0u32;
     while row < count {
-        if name_rows::row_is(file, name_rows::row_at(start, stride, row), at, known) {
+        if name_rows::row_is(file, fields::row_at(rows, row), at, known) {
             return row as usize;
         }
         row += 1;
@@ -72,16 +72,14 @@ fn place(file: &[u8], start: u32, stride: u32, count: u32, at: usize) -> usize
     count as usize
 }
 
-// Numbers of the nodes that rows at equal distances name, the count of nodes where there is none; no more than 512 rows.
-pub fn places(file: &[u8], start: u32, stride: u32, count: usize, nodes: u32) -> [usize; 512]
-    ensures { λ r. ⌜ r ≡ column nodes 512 count (λ i. firstNamed (now (file .entry)) 64 24 nodes (start + stride * i)) ⌝ }
+// Numbers of the nodes that a field of each row names, the count of nodes where there is none; no more than 512 rows.
+pub fn places(file: &[u8], nodes: Section, rows: Section, field: u32) -> [usize; 512]
+    ensures { λ r. ⌜ r ≡ column (nodes .count) 512 (rows .count) (λ i. firstNamed (now (file .entry)) nodes (rowAt rows i + field)) ⌝ }
 {
-    let mut all = [nodes as usize; 512];
-    let mut at = start as usize;
-    let mut i = 0;
-    while (i < count) & (i < 512) {
-        all[i] = place(file, 64, 24, nodes, at);
-        at += stride as usize;
+    let mut all = [nodes.count as usize; 512];
+    let mut i = 0u32;
+    while (i < rows.count) & (i < 512) {
+        all[i as usize] = place(file, nodes, fields::field_at(rows, i, field));
         i += 1;
     }
     all

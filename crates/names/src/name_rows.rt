@@ -1,19 +1,12 @@
-// Rows of names at equal distances.
+// Rows of names.
 use crate::same::same_whole;
 use crate::same_name;
 ghost use mathlib.Core.Path.{_≡_};
 ghost use mathlib.Core.Bool.{true};
-ghost use Prim.Native.Nat.{_+_, _*_, _≤_};
+ghost use Prim.Native.Nat.{_+_, _≤_};
 ghost use lib.ListN.{length};
 ghost use Rattle.meaning.specs.Name.{sameName};
 ghost use Rattle.meaning.specs.File.{nameAt};
-
-// Where row i of a table begins: 32 bits each, so that the place fits.
-pub fn row_at(start: u32, stride: u32, i: u32) -> usize
-    ensures { λ r. ⌜ r ≡ start + stride * i ⌝ }
-{
-    (start as usize) + (stride as usize) * (i as usize)
-}
 
 // Whether the names at two places are the same, where it may be known that both are in the file: loops over rows ask that once.
 pub fn row_is(file: &[u8], row: usize, at: usize, known: bool) -> bool

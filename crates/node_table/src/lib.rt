@@ -20,11 +20,10 @@ pub struct NodeColumns {
 pub fn columns(file: &[u8]) -> NodeColumns
     ensures { λ r. ⌜ r ≡ nodesOf (readable (now (file .entry))) ⌝ }
 {
-    let rows = layout::counts(file);
-    let count = rows.nodes;
-    let generation_zone = fill::numbers(file, 76, count);
-    let demand_zone = fill::numbers(file, 80, count);
-    let demand = fill::demands(file, count);
+    let rows = layout::section(file, layout::NODES);
+    let generation_zone = fill::numbers(file, rows, 12);
+    let demand_zone = fill::numbers(file, rows, 16);
+    let demand = fill::demands(file, rows, 20);
     NodeColumns {
         generation_zone,
         demand_zone,
@@ -36,7 +35,7 @@ pub fn columns(file: &[u8]) -> NodeColumns
 pub fn judge(file: &[u8]) -> Judgement
     ensures { λ r. ⌜ r ≡ nodesStage (readable (now (file .entry))) ⌝ }
 {
-    let rows = layout::counts(file);
+    let rows = layout::section(file, layout::NODES);
     let zones = layout::settings(file);
-    row::stage(file, rows.nodes, zones.generation_zones, zones.demand_zones)
+    row::stage(file, rows, zones.generation_zones, zones.demand_zones)
 }

@@ -1,17 +1,18 @@
 // 3: the rows of the nodes' table.
 ghost use mathlib.Core.Path.{_≡_};
-ghost use Prim.Native.Nat.{_≤_, _^_};
+ghost use Prim.Native.Nat.{_≤_};
 ghost use Rattle.meaning.specs.File.{nodeAt};
 ghost use Rattle.meaning.specs.Tables.{soundNodeRow, nodesStage};
-ghost use Rattle.layout.specs.Readable.{readable};
+ghost use Rattle.layout.specs.Readable.{readable, sectionIn};
 ghost use Rattle.meaning.specs.First.{IsFirst};
-ghost use Rattle.node_table.specs.Told.{ToldZones, ToldNodes, unsoundNode};
+ghost use Rattle.node_table.specs.Told.{ToldZones, unsoundNode};
 use meaning::Judgement;
 use meaning::Refusal;
+use meaning::Section;
 
 // Whether the row at a place is sound by itself.
 pub fn sound_row(file: &[u8], at: usize, generation: usize, demand: usize) -> bool
-    requires { ⌜ (at ≤ 2 ^ 32) × ToldZones (now file) generation demand ⌝ }
+    requires { ⌜ (at ≤ 18446744069414584320) × ToldZones (now file) generation demand ⌝ }
     ensures { λ r. ⌜ r ≡ soundNodeRow (readable (now (file .entry)) .settings) (nodeAt (now (file .entry)) at) ⌝ }
 {
     names::name_formed(file, at)
@@ -21,28 +22,30 @@ pub fn sound_row(file: &[u8], at: usize, generation: usize, demand: usize) -> bo
 }
 
 // The lowest row that is not; the count of rows where there is none.
-pub fn first_unsound(file: &[u8], count: usize, generation: usize, demand: usize) -> usize
-    requires { ⌜ (count ≤ 256) × ToldZones (now file) generation demand ⌝ }
-    ensures { λ r. ⌜ IsFirst (unsoundNode (now (file .entry))) count r ⌝ }
+pub fn first_unsound(file: &[u8], rows: Section, generation: usize, demand: usize) -> usize
+    requires { ⌜ ToldZones (now file) generation demand ⌝ }
+    ensures { λ r. ⌜ IsFirst (unsoundNode (now (file .entry)) rows) (rows .count) r ⌝ }
 {
-    let mut i = 0;
+    let count = rows.count;
+    let mut i = 0u32;
     while i < count {
-        if sound_row(file, 64 + 24 * i, generation, demand) {
+        if sound_row(file, fields::row_at(rows, i), generation, demand) {
             i += 1;
         } else {
-            return i;
+            return i as usize;
         }
     }
-    count
+    count as usize
 }
 
 // The stage: the lowest row that is not, or whose name is seen earlier.
-pub fn stage(file: &[u8], count: usize, generation: usize, demand: usize) -> Judgement
-    requires { ⌜ ToldNodes (now file) count × ToldZones (now file) generation demand ⌝ }
+pub fn stage(file: &[u8], rows: Section, generation: usize, demand: usize) -> Judgement
+    requires { ⌜ (rows ≡ sectionIn (now file) 1) × ToldZones (now file) generation demand ⌝ }
     ensures { λ r. ⌜ r ≡ nodesStage (readable (now (file .entry))) ⌝ }
 {
-    let unsound = first_unsound(file, count, generation, demand);
-    let repeated = names::repeated(file, 64, 24, count as u32);
+    let count = rows.count as usize;
+    let unsound = first_unsound(file, rows, generation, demand);
+    let repeated = names::repeated(file, rows);
     if unsound < repeated {
         return Judgement::Stops(Refusal::BadNode(unsound + 1));
     }

@@ -9,16 +9,16 @@ use lib.ListN.{length, take}
 use lib.Seq.{take-all, length-take-le}
 use Rattle.meaning.specs.File.{fileWhole, runsIn}
 use Rattle.meaning.specs.Outcome.{prints}
-use Rattle.meaning.proofs.Starts.{file-length}
+use Rattle.meaning.proofs.Frame.{file-short}
 use Rattle.layout.proofs.FileLaws.{whole-file}
 use Rattle.output.proofs.Printing.{not-whole}
 
--- 256 nodes, 512 circuits and 512 stations make the longest file
+-- no whole file is longer than 63,616 bytes
 pub long-not-whole : (file : List ℕ) → 63616 < length file → fileWhole file ≡ false
 long-not-whole file h = go (fileWhole file) refl
   where
     go : (t : Bool) → fileWhole file ≡ t → fileWhole file ≡ false
-    go true e = let w = whole-file file e in absurd (omega (arith, file-length file (runsIn file) w, w .nodes .most, w .circuits, w .stations))
+    go true e = absurd (omega (arith, file-short file (runsIn file) (whole-file file e)))
     go false e = e
 
 -- 01, The sheet: "The program reads one case from standard input."

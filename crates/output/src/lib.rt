@@ -39,13 +39,21 @@ fn of_whole_file(file: &[u8]) -> Printed
     requires { ⌜ fileWhole (now file) ≡ true ⌝ }
     ensures { λ r. ⌜ Prints (prints (now (file .entry))) r ⌝ }
 {
-    let solutions = runs::standing(file);
-    let start = solutions.start;
-    let count = solutions.count;
-    let base = runs::run_at(file, start, count);
-    let wider = runs::run_at(file, start + 8 * count, count);
-    let local = runs::run_at(file, start + 16 * count, count);
-    with_runs(file, &base[0..count], &wider[0..count], &local[0..count])
+    let base_rows = layout::section(file, layout::BASE);
+    let wider_rows = layout::section(file, layout::WIDER);
+    let local_rows = layout::section(file, layout::LOCAL);
+    let base = runs::run_at(file, base_rows);
+    let wider = runs::run_at(file, wider_rows);
+    let local = runs::run_at(file, local_rows);
+    let base_count = base_rows.count as usize;
+    let wider_count = wider_rows.count as usize;
+    let local_count = local_rows.count as usize;
+    with_runs(
+        file,
+        &base[0..base_count],
+        &wider[0..wider_count],
+        &local[0..local_count],
+    )
 }
 
 // What is printed for an input, of any bytes.

@@ -1,5 +1,5 @@
 -- Figures that are those of the meaning have its sheet as their text.
-use Prim.Native.Nat.{ℕ, suc, _+_, _*_, _<_}
+use Prim.Native.Nat.{ℕ, suc, _<_}
 use mathlib.Core.Path.{_≡_, sym, ap, _∙_}
 use mathlib.Core.List.{List}
 use native.Mathlib.Decide.{ℕ-discrete}
@@ -8,8 +8,9 @@ use lib.ListN.{length, getD}
 use Rattle.meaning.specs.Rows.{joined}
 use Rattle.meaning.specs.Name.{unpadded}
 use Rattle.meaning.specs.Study.{Runs, Node, node, noNode}
-use Rattle.meaning.specs.File.{nameAt, nodeAt, recordSize, sectionStart, sectionCount, studyOf}
-use Rattle.meaning.proofs.Rows.{rows-at}
+use Rattle.meaning.specs.File.{nodeAt}
+use Rattle.meaning.specs.declared.Section.{Section}
+use Rattle.meaning.proofs.Frame.{ReadFrom}
 use Rattle.meaning.specs.Grid.{Grid, nodeTec}
 use Rattle.meaning.specs.Figures.{zones, zoneWeight, zonalMetres, C, afterC, zoneTariff, residual, zoneTotal, localMetres, localTariff, remainder}
 use Rattle.meaning.specs.Sheet.{zoneLine, zoneLines, localLine, sheet}
@@ -110,12 +111,8 @@ module _ (G : Grid) (runs : Runs) where
         a .demand .remainder,
       )
 
--- the names that the writer reads are those of the study's nodes
-pub names-agree : (file : List ℕ) (v : ℕ) → sectionCount file 0 ≡ 1 → v < sectionCount file 1
-    → nameOf file v ≡ unpadded (node (studyOf file .nodes) v .name)
-unfolding nameOf studyOf nodeAt sectionStart recordSize
-names-agree file v one h =
-    let start : sectionStart file 1 ≡ 64 = ap (λ (n : ℕ). 0 + 64 * n) one in
-    sym (
-    ap (λ (n : Node). unpadded (n .name)) (rows-at noNode (sectionCount file 1) (λ i. nodeAt file (sectionStart file 1 + 24 * i)) v h)
-    ∙ ap (λ (at : ℕ). unpadded (nameAt file (at + 24 * v))) start)
+-- the names that the writer reads are those of the nodes
+pub names-agree : (file : List ℕ) {t : Section} {nodes : List Node} → ReadFrom (nodeAt file) noNode t nodes → (v : ℕ) → v < t .count
+    → nameOf file t v ≡ unpadded (node nodes v .name)
+unfolding nameOf nodeAt
+names-agree file from v h = sym (ap (λ (n : Node). unpadded (n .name)) (from .at v h))

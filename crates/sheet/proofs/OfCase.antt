@@ -1,5 +1,5 @@
 -- The figures of a case have its sheet as their text, and their counts stay inside their tables and the file.
-use Prim.Native.Nat.{ℕ, suc, _+_, _*_, _≤_, _<_}
+use Prim.Native.Nat.{ℕ, suc, _≤_, _<_}
 use mathlib.Core.Path.{_≡_, refl}
 use mathlib.Core.List.{List}
 use native.Mathlib.Omega.{arith}
@@ -7,13 +7,17 @@ use lib.ListN.{length}
 use Rattle.meaning.specs.declared.Side.{Side}
 use Rattle.meaning.specs.declared.Side.the-variants.{Generation, Demand}
 use Rattle.meaning.specs.Name.{unpadded}
-use Rattle.meaning.specs.Study.{Study, Runs, node}
-use Rattle.meaning.specs.File.{studyOf}
+use Rattle.meaning.specs.Study.{Study, Runs, node, noNode}
+use Rattle.meaning.specs.declared.Section.{Section}
+use Rattle.meaning.specs.File.{nodeAt, section, rowAt, studyOf}
 use Rattle.meaning.specs.Grid.{Grid, gridOf}
 use Rattle.meaning.specs.Figures.{zones}
 use Rattle.meaning.specs.Sheet.{sheet}
 use Rattle.meaning.specs.Conditions.{WholeFile, SoundSettings}
-use Rattle.meaning.proofs.Starts.{counts, file-length}
+use Rattle.meaning.proofs.Frame.{ReadFrom, section-inside, counts}
+use Rattle.layout.specs.Readable.{sectionIn}
+use Rattle.layout.proofs.FileLaws.{whole-true}
+use Rattle.layout.proofs.Rows.{readable-whole, in-whole, nodes-from}
 use Rattle.charges.specs.Case.{zoneFigures, sideFigures, localFigures, figuresOf}
 use Rattle.meaning.proofs.Columns.{column-at}
 use Rattle.meaning.specs.Columns.{noLine, noLocal}
@@ -62,9 +66,9 @@ module _ (S : Study) (runs : Runs) (few : length (S .nodes) ≤ 256) (sound : So
   unfolding gridOf figuresOf
   study-sheet names named = sheet-agrees (gridOf S) runs (figuresOf (gridOf S) runs) names (case-agrees (gridOf S) runs few zones-most) named
 
-  study-sized : (file : List ℕ) → 64 + 24 * length (S .nodes) ≤ length file → Sized (figuresOf (gridOf S) runs) file
+  study-sized : (file : List ℕ) (t : Section) → rowAt t (length (S .nodes)) ≤ length file → Sized (figuresOf (gridOf S) runs) file t
   unfolding gridOf figuresOf sideFigures
-  study-sized file inside = record { generation = zones-most Generation; demand = zones-most Demand; nodes = few; inside = inside }
+  study-sized file t inside = record { generation = zones-most Generation; demand = zones-most Demand; nodes = few; inside = inside }
 
 -- of a whole file with sound settings
 module _ (file : List ℕ) (runs : Runs) (whole : WholeFile file runs)
@@ -72,11 +76,17 @@ module _ (file : List ℕ) (runs : Runs) (whole : WholeFile file runs)
   few : length (studyOf file .nodes) ≤ 256
   few = omega (arith, counts file runs whole .0, whole .nodes .most)
 
-  pub case-sheet : sheetText (figuresOf (gridOf (studyOf file)) runs) (nameOf file) ≡ sheet (gridOf (studyOf file)) runs
-  case-sheet =
-      study-sheet (studyOf file) runs few sound (nameOf file)
-      (λ v h. names-agree file v (whole .oneSettings) (omega (arith, counts file runs whole .0)))
+  rows-whole : sectionIn file 1 ≡ section file 1
+  rows-whole = in-whole file 1 (omega arith) (whole-true file runs whole)
 
-  pub case-sized : Sized (figuresOf (gridOf (studyOf file)) runs) file
+  from : ReadFrom (nodeAt file) noNode (sectionIn file 1) (studyOf file .nodes)
+  from = rw (readable-whole file (whole-true file runs whole)) at (nodes-from file refl)
+
+  pub case-sheet : sheetText (figuresOf (gridOf (studyOf file)) runs) (nameOf file (sectionIn file 1)) ≡ sheet (gridOf (studyOf file)) runs
+  case-sheet =
+      study-sheet (studyOf file) runs few sound (nameOf file (sectionIn file 1))
+      (λ v h. names-agree file from v (omega (arith, from .count)))
+
+  pub case-sized : Sized (figuresOf (gridOf (studyOf file)) runs) file (sectionIn file 1)
   case-sized =
-      study-sized (studyOf file) runs few sound file (omega (arith, counts file runs whole .0, file-length file runs whole))
+      study-sized (studyOf file) runs few sound file (sectionIn file 1) (rw (from .count, rows-whole) (section-inside file runs whole 1 (omega arith)))

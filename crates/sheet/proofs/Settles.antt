@@ -19,6 +19,7 @@ use Rattle.meaning.proofs.Judged.{judged-pass}
 use Rattle.charges.specs.declared.Charged.{Charged}
 use Rattle.charges.specs.Charged.{figuresBy, chargedOf}
 use Rattle.charges.specs.Case.{figuresOf}
+use Rattle.layout.specs.Readable.{sectionIn}
 use Rattle.text.specs.SheetText.{textOf, Sized}
 use Rattle.text.specs.Writing.{Fitted}
 use Rattle.text.proofs.Sizing.{says-sized, text-sized}
@@ -66,18 +67,21 @@ module _ (file : List ℕ) (runs : Runs) (r : Charged) (made : r ≡ chargedOf f
     acceptable : Acceptable file runs
     acceptable = judged-pass file runs .0 judged-passes
 
-    figures-sized : Sized (r .figures) file
+    abbrev text : List ℕ
+    text = textOf (r .figures) file (sectionIn file 1)
+
+    figures-sized : Sized (r .figures) file (sectionIn file 1)
     figures-sized = rw figures-are (case-sized file runs (acceptable .whole) (acceptable .study .tables .settings))
 
-    figures-text : textOf (r .figures) file ≡ sheetOf file runs
+    figures-text : text ≡ sheetOf file runs
     figures-text =
-        text-sized (r .figures) file (says-sized (r .figures) file .1 figures-sized)
+        text-sized (r .figures) file (sectionIn file 1) (says-sized (r .figures) file (sectionIn file 1) .1 figures-sized)
         ∙ rw figures-are (case-sheet file runs (acceptable .whole) (acceptable .study .tables .settings))
 
-    pub sheet-settled : (before : List ℕ) (s : Settled) → s ≡ settledBy (bufferStage (textOf (r .figures) file) before) (textOf (r .figures) file) before → s ≡ settle file runs before
+    pub sheet-settled : (before : List ℕ) (s : Settled) → s ≡ settledBy (bufferStage text before) text before → s ≡ settle file runs before
     unfolding settle _orElse_
     sheet-settled before s e = e ∙ rw (figures-text, judged-passes) refl
 
-    pub sheet-answered : {n : ℕ} → n ≡ length (textOf (r .figures) file) → Accepted n ≡ answerOf file runs
+    pub sheet-answered : {n : ℕ} → n ≡ length text → Accepted n ≡ answerOf file runs
     unfolding answerOf answeredBy
     sheet-answered e = ap Accepted (e ∙ ap length figures-text) ∙ rw judged-passes refl

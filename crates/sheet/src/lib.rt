@@ -4,6 +4,7 @@ ghost use lib.ListN.{length};
 ghost use Rattle.meaning.specs.Study.{runsOf};
 ghost use Rattle.meaning.specs.Outcome.{Settled, bufferStage, settledBy, answerOf};
 ghost use Rattle.meaning.specs.Calls.{Kept};
+ghost use Rattle.layout.specs.Readable.{sectionIn};
 ghost use Rattle.text.specs.SheetText.{textOf};
 use meaning::Answer;
 use meaning::Figures;
@@ -12,9 +13,10 @@ use meaning::Refusal;
 
 // Writes the text of figures where the buffer holds it, and refuses a shorter buffer as 12.
 fn written(figures: Figures, file: &[u8], out: &mut [u8]) -> Answer
-    ensures { λ r. ⌜ _≡_ {A = Settled} (record { answer = r; buffer = now (out .exit) }) (settledBy (bufferStage (textOf figures (now (file .entry))) (now (out .entry))) (textOf figures (now (file .entry))) (now (out .entry))) ⌝ }
+    ensures { λ r. ⌜ _≡_ {A = Settled} (record { answer = r; buffer = now (out .exit) }) (settledBy (bufferStage (textOf figures (now (file .entry)) (sectionIn (now (file .entry)) 1)) (now (out .entry))) (textOf figures (now (file .entry)) (sectionIn (now (file .entry)) 1)) (now (out .entry))) ⌝ }
 {
-    let length = text::write_figures(figures, file, out);
+    let nodes = layout::section(file, layout::NODES);
+    let length = text::write_figures(figures, file, nodes, out);
     if out.len() < length {
         return Answer::Refused(Refusal::ShortBuffer);
     }
@@ -36,10 +38,11 @@ pub fn write(file: &[u8], base: &[i64], wider: &[i64], local: &[i64], out: &mut 
 
 // How long the text of figures is.
 fn text_length(figures: Figures, file: &[u8]) -> usize
-    ensures { λ r. ⌜ r ≡ length (textOf figures (now (file .entry))) ⌝ }
+    ensures { λ r. ⌜ r ≡ length (textOf figures (now (file .entry)) (sectionIn (now (file .entry)) 1)) ⌝ }
 {
     let mut none = [0u8; 0];
-    text::write_figures(figures, file, &mut none)
+    let nodes = layout::section(file, layout::NODES);
+    text::write_figures(figures, file, nodes, &mut none)
 }
 
 // Judges a case for a caller without a buffer: what `write` answers with room enough, the sheet's length included.

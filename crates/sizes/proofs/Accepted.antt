@@ -12,7 +12,7 @@ use Rattle.meaning.specs.declared.System.the-variants.{Wider, Local}
 use Rattle.meaning.specs.Systems.{runOf, limitOf, proposed}
 use Rattle.meaning.specs.Conditions.{SolvesSystem, Acceptable}
 use Rattle.meaning.specs.Demands.{SheetsFit}
-use Rattle.meaning.proofs.Starts.{counts}
+use Rattle.meaning.proofs.Frame.{counts}
 use Rattle.sizes.specs.Bounds.{PotentialsInRange}
 use Rattle.sizes.proofs.SheetLength.{sheet-fits}
 

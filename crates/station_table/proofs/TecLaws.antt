@@ -28,7 +28,7 @@ use Rattle.station_table.specs.declared.StationColumns.{StationColumns}
 use Rattle.station_table.specs.declared.TecColumns.{TecColumns}
 use Rattle.layout.proofs.FileLaws.{is-true}
 use Rattle.station_table.proofs.ColumnAt.{station-node-at, plant-at, tec-at, by-type-at}
-use Rattle.layout.proofs.Rows.{station-row}
+use Rattle.layout.proofs.Rows.{stations-from}
 
 -- ---- a cell
 pub record Cell (nodes v plantType : ℕ) : Type 0 where
@@ -237,7 +237,7 @@ module _ (file : List ℕ) (bytes : (i : ℕ) → getD file i 0 < 256) where
   station-below k = go (decLt k (length (readable file .stations)))
     where
       go : Dec (k < length (readable file .stations)) → station (readable file .stations) k .tec < 2 ^ 32
-      go (yes h) = rw (station-row file k h) (u32-below file _ bytes)
+      go (yes h) = let from = stations-from file refl in rw (from .at k (omega (arith, from .count))) (u32-below file _ bytes)
       go (no h) =
           let l : length (readable file .stations) ≤ k = omega arith in
           rw (List·getD-eq-default (readable file .stations) noStation l) (omega arith)

@@ -2,29 +2,27 @@
 use mathlib.Core.Path.{_≡_}
 use mathlib.Core.Bool.{Bool, not}
 use mathlib.Core.List.{List}
-use Prim.Native.Nat.{ℕ, _+_, _*_, _^_, _≤_}
+use Prim.Native.Nat.{ℕ, _+_, _≤_}
 use lib.ListN.{length}
-use Rattle.meaning.specs.File.{nameAt, stationAt}
+use Rattle.meaning.specs.declared.Section.{Section}
+use Rattle.meaning.specs.File.{nameAt, rowAt, stationAt}
 use Rattle.meaning.specs.Tables.{soundStationRow}
 use Rattle.meaning.specs.Grid.{place}
-use Rattle.layout.specs.Readable.{readable}
+use Rattle.layout.specs.Readable.{readable, sectionIn}
 use Rattle.station_table.specs.Columns.{stationsOf}
 
 -- the node of a station's row at a place, as its name has it
 pub record ToldNode (file : List ℕ) (at n v : ℕ) : Type 0 where
-  pub near : at ≤ 2 ^ 32
+  pub near : at ≤ 18446744069414584320
   pub nodes : n ≡ length (readable file .nodes)
   pub node : v ≡ place (readable file .nodes) (nameAt file (at + 12))
 
--- the nodes, the stations, where their table begins, and the number of each one's node
-pub record ToldStations (file : List ℕ) (nodes count at : ℕ) (node : List ℕ) : Type 0 where
-  pub nodesAre : nodes ≡ length (readable file .nodes)
-  pub countIs : count ≡ length (readable file .stations)
-  pub start : at ≡ 64 + 24 * nodes + 44 * length (readable file .circuits)
-  pub near : at ≤ 65536
-  pub few : count ≤ 512
+-- how many nodes there are, where the stations' rows lie, and the number of each one's node
+pub record ToldStations (file : List ℕ) (n : ℕ) (rows : Section) (node : List ℕ) : Type 0 where
+  pub nodes : n ≡ length (readable file .nodes)
+  pub section : rows ≡ sectionIn file 3
   pub column : node ≡ stationsOf (readable file) .node
 
--- the station's row at its place in the table that begins there is not sound by itself
-abbrev pub unsoundStation : List ℕ → (start i : ℕ) → Bool
-unsoundStation file start i = not (soundStationRow (readable file .nodes) (stationAt file (start + 32 * i)))
+-- the station's row at its place is not sound by itself
+abbrev pub unsoundStation : List ℕ → (rows : Section) → (i : ℕ) → Bool
+unsoundStation file rows i = not (soundStationRow (readable file .nodes) (stationAt file (rowAt rows i)))

@@ -33,15 +33,11 @@ pub struct JudgedStations {
 fn columns(file: &[u8]) -> StationColumns
     ensures { λ r. ⌜ r ≡ stationsOf (readable (now (file .entry))) ⌝ }
 {
-    let rows = layout::counts(file);
-    let nodes = rows.nodes;
-    let circuits = rows.circuits;
-    let count = rows.stations;
-    let start = 64 + 24 * nodes + 44 * circuits;
-    let at = start as u32;
-    let node = names::places(file, at + 12, 32, count, nodes as u32);
-    let plant = fields::column(file, at + 24, 32, count);
-    let tec = tec::by_station(file, start + 28, count);
+    let nodes = layout::section(file, layout::NODES);
+    let rows = layout::section(file, layout::STATIONS);
+    let node = names::places(file, nodes, rows, 12);
+    let plant = fields::column(file, rows, 24);
+    let tec = tec::by_station(file, rows, 28);
     StationColumns { node, plant, tec }
 }
 
@@ -49,15 +45,12 @@ fn columns(file: &[u8]) -> StationColumns
 pub fn judge(file: &[u8]) -> JudgedStations
     ensures { λ r. ⌜ (r .judgement ≡ stationsStage (readable (now (file .entry)))) × (r .tec ≡ tecOf (readable (now (file .entry)))) ⌝ }
 {
-    let rows = layout::counts(file);
-    let nodes = rows.nodes;
-    let circuits = rows.circuits;
-    let count = rows.stations;
+    let nodes = layout::section(file, layout::NODES).count as usize;
+    let rows = layout::section(file, layout::STATIONS);
     let columns = columns(file);
     let node = columns.node;
-    let start = 64 + 24 * nodes + 44 * circuits;
-    let judgement = row::stage(file, nodes, count, start, node);
-    let by_type = tec::by_type(columns, nodes, count);
+    let judgement = row::stage(file, nodes, rows, node);
+    let by_type = tec::by_type(columns, nodes, rows.count as usize);
     let tec = tec::by_node(by_type);
     JudgedStations { judgement, tec }
 }

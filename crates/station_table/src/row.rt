@@ -7,6 +7,7 @@ ghost use Rattle.meaning.specs.First.{IsFirst};
 ghost use Rattle.station_table.specs.Told.{ToldNode, ToldStations, unsoundStation};
 use meaning::Judgement;
 use meaning::Refusal;
+use meaning::Section;
 
 // Whether the row at a place, with the node that its name has, is sound by itself.
 pub fn sound_row(file: &[u8], at: usize, nodes: usize, node: usize) -> bool
@@ -21,34 +22,30 @@ pub fn sound_row(file: &[u8], at: usize, nodes: usize, node: usize) -> bool
 }
 
 // The lowest row that is not; the count of rows where there is none.
-pub fn first_unsound(
-    file: &[u8],
-    nodes: usize,
-    count: usize,
-    start: usize,
-    node: [usize; 512],
-) -> usize
-    requires { ⌜ ToldStations (now file) nodes count start node ⌝ }
-    ensures { λ r. ⌜ IsFirst (unsoundStation (now (file .entry)) start) count r ⌝ }
+pub fn first_unsound(file: &[u8], nodes: usize, rows: Section, node: [usize; 512]) -> usize
+    requires { ⌜ ToldStations (now file) nodes rows node ⌝ }
+    ensures { λ r. ⌜ IsFirst (unsoundStation (now (file .entry)) rows) (rows .count) r ⌝ }
 {
-    let mut i = 0;
+    let count = rows.count;
+    let mut i = 0u32;
     while i < count {
-        if sound_row(file, start + 32 * i, nodes, node[i]) {
+        if sound_row(file, fields::row_at(rows, i), nodes, node[i as usize]) {
             i += 1;
         } else {
-            return i;
+            return i as usize;
         }
     }
-    count
+    count as usize
 }
 
 // The stage: the lowest row that is not, or whose identifier is seen earlier.
-pub fn stage(file: &[u8], nodes: usize, count: usize, start: usize, node: [usize; 512]) -> Judgement
-    requires { ⌜ ToldStations (now file) nodes count start node ⌝ }
+pub fn stage(file: &[u8], nodes: usize, rows: Section, node: [usize; 512]) -> Judgement
+    requires { ⌜ ToldStations (now file) nodes rows node ⌝ }
     ensures { λ r. ⌜ r ≡ stationsStage (readable (now (file .entry))) ⌝ }
 {
-    let unsound = first_unsound(file, nodes, count, start, node);
-    let repeated = names::repeated(file, start as u32, 32, count as u32);
+    let count = rows.count as usize;
+    let unsound = first_unsound(file, nodes, rows, node);
+    let repeated = names::repeated(file, rows);
     if unsound < repeated {
         return Judgement::Stops(Refusal::BadStation(unsound + 1));
     }

@@ -2,24 +2,24 @@
 use crate::StationColumns;
 use crate::TecColumns;
 use meaning::Kw;
+use meaning::Section;
 ghost use mathlib.Core.Path.{_≡_};
 ghost use mathlib.Core.Bool.{cond};
-ghost use Prim.Native.Nat.{ℕ, _+_, _*_, _%_, _≤_, _<_, _^_};
-ghost use Rattle.meaning.specs.File.{u32};
+ghost use Prim.Native.Nat.{ℕ, _+_, _%_, _≤_, _<_, _^_};
+ghost use Rattle.meaning.specs.File.{u32, rowAt};
 ghost use Rattle.meaning.specs.Rows.{rows};
 ghost use Rattle.meaning.specs.Grid.{plantOf};
 ghost use Rattle.meaning.specs.Columns.{kilowatts, kwAt, column};
 ghost use Rattle.station_table.specs.Tec.{cellOf, cellTec, added, typesTec, tecIn};
 
-// The TEC of each station.
-pub fn by_station(file: &[u8], start: usize, count: usize) -> [Kw; 512]
-    requires { ⌜ (start ≤ 65536) × (count ≤ 512) ⌝ }
-    ensures { λ r. ⌜ r ≡ column (kilowatts 0) 512 count (λ i. kilowatts (u32 (now (file .entry)) (start + 32 * i))) ⌝ }
+// The TEC of each station; nothing past the last row, and no more than 512.
+pub fn by_station(file: &[u8], rows: Section, field: u32) -> [Kw; 512]
+    ensures { λ r. ⌜ r ≡ column (kilowatts 0) 512 (rows .count) (λ i. kilowatts (u32 (now (file .entry)) (rowAt rows i + field))) ⌝ }
 {
     let mut all = [Kw(0); 512];
-    let mut i = 0;
-    while i < count {
-        all[i].0 = fields::u32_at(file, start + 32 * i) as u64;
+    let mut i = 0u32;
+    while (i < rows.count) & (i < 512) {
+        all[i as usize].0 = fields::u32_at(file, fields::field_at(rows, i, field)) as u64;
         i += 1;
     }
     all

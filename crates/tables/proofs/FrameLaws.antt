@@ -13,7 +13,7 @@ use Rattle.meaning.specs.File.{sectionCount, fileWhole, runsWhole, runsIn}
 use Rattle.meaning.specs.Tables.{soundSettings, settingsStage}
 use Rattle.meaning.specs.Outcome.{fileStage, runsStage}
 use Rattle.meaning.specs.Conditions.{InRange}
-use Rattle.meaning.proofs.Starts as starts
+use Rattle.meaning.proofs.Frame as frame
 use Rattle.layout.specs.declared.RowCounts.{RowCounts}
 use Rattle.layout.specs.declared.StudySettings.{StudySettings}
 use Rattle.layout.specs.Readable.{readable}
@@ -49,7 +49,7 @@ module _ (file : List ℕ) {r : RowCounts} (t : r ≡ countsOf (readable file)) 
     run-length : (section : ℕ) → InRange section 4 6 → sectionCount file section ≡ r .nodes + r .circuits
     run-length section r =
         let w = whole-file file whole in
-        let l = starts.counts file (runsIn file) w in
+        let l = frame.counts file (runsIn file) w in
         let n = rw (readable-whole file whole) at (counts-are file t) in
         omega (arith, w .solutions section r, l .0, l .1, n .0, n .1)
 

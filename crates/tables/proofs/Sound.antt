@@ -13,7 +13,7 @@ use Rattle.meaning.specs.Grid.{gridOf}
 use Rattle.meaning.specs.Outcome.{fileStage, runsStage, rowsStage, gridStage, tablesStage}
 use Rattle.meaning.proofs.Answers.{passes-orElse, passes-unless}
 use Rattle.meaning.proofs.Says.{_also_, says-eq}
-use Rattle.meaning.proofs.Starts as starts
+use Rattle.meaning.proofs.Frame as frame
 use Rattle.meaning.proofs.Tables.{sound-pass}
 use Rattle.layout.specs.Frame.{countsOf}
 use Rattle.layout.proofs.FileLaws.{whole-file}
@@ -72,7 +72,7 @@ opened-sound {file} {base} {wider} {local} {o} t q =
     let p : tablesStage file base wider local ≡ Passes = sym (t .judgement) ∙ q in
     let h = passes-whole file base wider local p in
     let w = whole-file file h in
-    let l = starts.counts file (runsIn file) w in
+    let l = frame.counts file (runsIn file) w in
     let r = passes-runs file base wider local p in
     let s = study-columns file base wider local (t .columns) p in
     let c = s .counts in

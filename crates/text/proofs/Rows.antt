@@ -1,5 +1,5 @@
 -- The sections of a sheet, row by row, as a loop writes them.
-use Prim.Native.Nat.{ℕ, suc, _+_, _-_, _*_}
+use Prim.Native.Nat.{ℕ, suc, _+_, _-_}
 use mathlib.Core.Path.{_≡_, refl}
 use mathlib.Core.List.{List}
 use native.Mathlib.Numerals.{add-one}
@@ -8,7 +8,8 @@ use lib.ListN.{length, getD, take, drop, length-drop}
 use lib.Seq.{take-all}
 use Rattle.meaning.specs.Rows.{joined}
 use Rattle.meaning.specs.Name.{unpadded}
-use Rattle.meaning.specs.File.{nameAt}
+use Rattle.meaning.specs.File.{nameAt, rowAt}
+use Rattle.meaning.specs.declared.Section.{Section}
 use Rattle.meaning.specs.declared.Side.{Side}
 use Rattle.meaning.specs.declared.SideFigures.{SideFigures}
 use Rattle.meaning.specs.declared.LocalFigures.{LocalFigures}
@@ -29,16 +30,15 @@ unfolding zoneRow zoneTexts
 zone-rows side f = refl
 
 -- node v
-unfoldable pub nodeRow : List LocalFigures → (file : List ℕ) → ℕ → List ℕ
-nodeRow local file v = localText (nameOf file v) (getD local v noLocal)
+unfoldable pub nodeRow : List LocalFigures → (file : List ℕ) → Section → ℕ → List ℕ
+nodeRow local file rows v = localText (nameOf file rows v) (getD local v noLocal)
 
 -- read from all bytes that follow
-pub node-row : (local : List LocalFigures) (file : List ℕ) (v : ℕ) → let at = 64 + 24 * v in
-    nodeRow local file v ≡ localText (unpadded (take 12 (take (length file - at) (drop at file)))) (getD local v noLocal)
+pub node-row : (local : List LocalFigures) (file : List ℕ) (rows : Section) (v at : ℕ) → at ≡ rowAt rows v
+    → nodeRow local file rows v ≡ localText (unpadded (take 12 (take (length file - at) (drop at file)))) (getD local v noLocal)
 unfolding nodeRow nameOf nameAt
-node-row local file v =
-    let at = 64 + 24 * v in rw (take-all (length file - at) (drop at file) (omega (arith, length-drop at file))) refl
+node-row local file rows v at e = rw (take-all (length file - at) (drop at file) (omega (arith, length-drop at file)), e) refl
 
-pub node-rows : (nodes : ℕ) (local : List LocalFigures) (file : List ℕ) → nodeTexts nodes local (nameOf file) ≡ joined nodes (nodeRow local file)
+pub node-rows : (nodes : ℕ) (local : List LocalFigures) (file : List ℕ) (rows : Section) → nodeTexts nodes local (nameOf file rows) ≡ joined nodes (nodeRow local file rows)
 unfolding nodeRow
-node-rows nodes local file = refl
+node-rows nodes local file rows = refl

@@ -2,20 +2,22 @@
 use mathlib.Core.Path.{_≡_, refl}
 use mathlib.Core.Bool.{Bool, true, false, _&&_}
 use mathlib.Core.List.{List, []}
-use Prim.Native.Nat.{ℕ, _+_, _*_, _≤_, _<_}
+use Prim.Native.Nat.{ℕ, _≤_, _<_}
 use native.Mathlib.Omega.{arith}
 use borrow.Author.Tests.{le-leb, lt-leb}
 use lib.Dec.{leb}
 use lib.ListN.{length}
 use Rattle.meaning.proofs.Says.{Says, _also_, agree, says-as, says-le}
+use Rattle.meaning.specs.File.{rowAt}
+use Rattle.meaning.specs.declared.Section.{Section}
 use Rattle.meaning.specs.declared.Figures.{Figures}
 use Rattle.lines.specs.Making.{Put}
 use Rattle.lines.proofs.Making.{whole}
 use Rattle.text.specs.SheetText.{sheetText, nameOf, sized, textOf, Sized}
 use Rattle.text.specs.Writing.{Written, Fitted}
 
-module _ (f : Figures) (file : List ℕ) where
-  pub says-sized : Says (sized f file) (Sized f file)
+module _ (f : Figures) (file : List ℕ) (rows : Section) where
+  pub says-sized : Says (sized f file rows) (Sized f file rows)
   unfolding sized
   says-sized =
       says-as (says-le also says-le also says-le also says-le) (
@@ -24,25 +26,25 @@ module _ (f : Figures) (file : List ℕ) where
       )
 
   -- of few nodes, by the other three tests
-  pub sized-few : f .nodes ≤ 256 → (leb (f .generation .zones) 32 && leb (f .demand .zones) 32 && leb (64 + 24 * f .nodes) (length file)) ≡ sized f file
+  pub sized-few : f .nodes ≤ 256 → (leb (f .generation .zones) 32 && leb (f .demand .zones) 32 && leb (rowAt rows (f .nodes)) (length file)) ≡ sized f file rows
   sized-few few =
       agree _ _ (says-as (says-le also says-le also says-le) (
         λ t. record { generation = t .0 .0; demand = t .0 .1; nodes = few; inside = t .1 },
         λ s. ((s .generation, s .demand), s .inside),
       )) says-sized
 
-  pub sized-false : (Sized f file → ⊥) → false ≡ sized f file
-  sized-false n = go (sized f file) refl
+  pub sized-false : (Sized f file rows → ⊥) → false ≡ sized f file rows
+  sized-false n = go (sized f file rows) refl
     where
-      go : (t : Bool) → sized f file ≡ t → false ≡ t
+      go : (t : Bool) → sized f file rows ≡ t → false ≡ t
       go true e = absurd (n (says-sized .0 e))
       go false e = refl
 
-  pub text-sized : sized f file ≡ true → textOf f file ≡ sheetText f (nameOf file)
+  pub text-sized : sized f file rows ≡ true → textOf f file rows ≡ sheetText f (nameOf file rows)
   unfolding textOf
   text-sized e = rw e refl
 
-  pub text-none : sized f file ≡ false → textOf f file ≡ []
+  pub text-none : sized f file rows ≡ false → textOf f file rows ≡ []
   unfolding textOf
   text-none e = rw e refl
 

@@ -1,12 +1,13 @@
 -- 01, The sheet, of any figures, whether or not a case has them: the shape of meaning's `zoneLines` and `sheet`, from the tables of a struct.
 use mathlib.Core.Bool.{Bool, cond, _&&_}
 use mathlib.Core.List.{List, [], _++_}
-use Prim.Native.Nat.{ℕ, suc, _+_, _*_, _≤_}
+use Prim.Native.Nat.{ℕ, suc, _≤_}
 use lib.Dec.{leb}
 use lib.ListN.{length, getD}
 use Rattle.meaning.specs.Rows.{joined}
 use Rattle.meaning.specs.Name.{unpadded}
-use Rattle.meaning.specs.File.{nameAt}
+use Rattle.meaning.specs.File.{nameAt, rowAt}
+use Rattle.meaning.specs.declared.Section.{Section}
 use Rattle.meaning.specs.declared.Side.{Side}
 use Rattle.meaning.specs.declared.Side.the-variants.{Generation, Demand}
 use Rattle.meaning.specs.declared.SideFigures.{SideFigures}
@@ -33,22 +34,22 @@ sheetText f names =
     ++ (zoneTexts Generation (f .generation)
     ++ (zoneTexts Demand (f .demand) ++ (localTexts f names ++ remainderText (f .generation .remainder) (f .demand .remainder))))
 
--- the case file: nodes follow the 64 bytes of settings, 24 bytes each, and begin with their name
-unfoldable pub nameOf : (file : List ℕ) → ℕ → List ℕ
-nameOf file v = unpadded (nameAt file (64 + 24 * v))
+-- the name that begins row v of a section
+unfoldable pub nameOf : (file : List ℕ) → Section → ℕ → List ℕ
+nameOf file rows v = unpadded (nameAt file (rowAt rows v))
 
 -- whether the counts stay inside their tables and the file
-unfoldable pub sized : Figures → (file : List ℕ) → Bool
-sized f file =
-    leb (f .generation .zones) 32 && leb (f .demand .zones) 32 && leb (f .nodes) 256 && leb (64 + 24 * f .nodes) (length file)
+unfoldable pub sized : Figures → (file : List ℕ) → Section → Bool
+sized f file rows =
+    leb (f .generation .zones) 32 && leb (f .demand .zones) 32 && leb (f .nodes) 256 && leb (rowAt rows (f .nodes)) (length file)
 
 -- the text of figures, with the names of a file: none of figures whose counts run outside
-unfoldable pub textOf : Figures → (file : List ℕ) → List ℕ
-textOf f file = cond (sized f file) (sheetText f (nameOf file)) []
+unfoldable pub textOf : Figures → (file : List ℕ) → Section → List ℕ
+textOf f file rows = cond (sized f file rows) (sheetText f (nameOf file rows)) []
 
 -- what `sized` says
-pub record Sized (f : Figures) (file : List ℕ) : Type 0 where
+pub record Sized (f : Figures) (file : List ℕ) (rows : Section) : Type 0 where
   pub generation : f .generation .zones ≤ 32
   pub demand : f .demand .zones ≤ 32
   pub nodes : f .nodes ≤ 256
-  pub inside : 64 + 24 * f .nodes ≤ length file
+  pub inside : rowAt rows (f .nodes) ≤ length file

@@ -7,16 +7,17 @@ ghost use Rattle.text.specs.Writing.{Fitted};
 ghost use Rattle.text.specs.Refusing.{Refuses};
 use meaning::Figures;
 use meaning::Refusal;
+use meaning::Section;
 
-// Writes the text of figures at the front of a buffer that holds it; a shorter one is left as it is. The length is that of the text.
+// Writes the text of figures, with the names that begin the rows of a section, at the front of a buffer that holds it; a shorter one is left as it is. The length is that of the text.
 // These are any figures, whether or not a case has them: that they are those of the case in the file is what `sheet::write` promises.
 // The text is made aside first, in room for any.
-pub fn write_figures(figures: Figures, file: &[u8], out: &mut [u8]) -> usize
-    ensures { λ r. ⌜ Fitted (textOf figures (now (file .entry))) (now (out .entry)) (now (out .exit)) r ⌝ }
+pub fn write_figures(figures: Figures, file: &[u8], rows: Section, out: &mut [u8]) -> usize
+    ensures { λ r. ⌜ Fitted (textOf figures (now (file .entry)) rows) (now (out .entry)) (now (out .exit)) r ⌝ }
 {
-    if sections::sized(figures, file) {
+    if sections::sized(figures, file, rows) {
         let mut aside = [0u8; 22851];
-        let length = sections::put_figures(&mut aside, figures, file);
+        let length = sections::put_figures(&mut aside, figures, file, rows);
         if out.len() < length {
             return length;
         }

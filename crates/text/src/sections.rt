@@ -2,11 +2,13 @@
 use crate::put::put_line;
 use meaning::Figures;
 use meaning::LocalFigures;
+use meaning::Section;
 use meaning::Side;
 use meaning::SideFigures;
 ghost use mathlib.Core.Path.{_≡_};
-ghost use Prim.Native.Nat.{_+_, _*_, _≤_};
+ghost use Prim.Native.Nat.{_+_, _≤_};
 ghost use lib.ListN.{length};
+ghost use Rattle.meaning.specs.File.{rowAt};
 ghost use Rattle.lines.specs.Making.{Put};
 ghost use Rattle.text.specs.SheetText.{zoneTexts, nodeTexts, nameOf, sheetText, sized, Sized};
 
@@ -31,16 +33,17 @@ pub fn put_nodes(
     out: &mut [u8],
     from: usize,
     file: &[u8],
+    rows: Section,
     nodes: usize,
     local: [LocalFigures; 256],
 ) -> usize
-    requires { ⌜ (nodes ≤ 256) × (64 + 24 * nodes ≤ length (now file)) × (from + 14592 ≤ length (now out)) ⌝ }
-    ensures { λ r. ⌜ Put 14592 (now (out .entry)) from (nodeTexts nodes local (nameOf (now (file .entry)))) (now (out .exit)) r ⌝ }
+    requires { ⌜ (nodes ≤ 256) × (rowAt rows nodes ≤ length (now file)) × (from + 14592 ≤ length (now out)) ⌝ }
+    ensures { λ r. ⌜ Put 14592 (now (out .entry)) from (nodeTexts nodes local (nameOf (now (file .entry)) rows)) (now (out .exit)) r ⌝ }
 {
     let mut at = from;
     let mut v: usize = 0;
     while v < nodes {
-        let name = 64 + 24 * v;
+        let name = fields::row_at(rows, v as u32);
         let line = lines::node_line(&file[name..], local[v]);
         at = put_line(out, at, line);
         v += 1;
@@ -49,28 +52,28 @@ pub fn put_nodes(
 }
 
 // The text of figures, at the front of the buffer; answers its length.
-pub fn put_figures(out: &mut [u8], figures: Figures, file: &[u8]) -> usize
-    requires { ⌜ Sized figures (now file) × (22851 ≤ length (now out)) ⌝ }
-    ensures { λ r. ⌜ Put 22851 (now (out .entry)) 0 (sheetText figures (nameOf (now (file .entry)))) (now (out .exit)) r ⌝ }
+pub fn put_figures(out: &mut [u8], figures: Figures, file: &[u8], rows: Section) -> usize
+    requires { ⌜ Sized figures (now file) rows × (22851 ≤ length (now out)) ⌝ }
+    ensures { λ r. ⌜ Put 22851 (now (out .entry)) 0 (sheetText figures (nameOf (now (file .entry)) rows)) (now (out .exit)) r ⌝ }
 {
     let first = lines::constant_line(figures.c);
     let p1 = put_line(out, 0, first);
     let p2 = put_zones(out, p1, Side::Generation, figures.generation);
     let p3 = put_zones(out, p2, Side::Demand, figures.demand);
     let local = figures.local;
-    let p4 = put_nodes(out, p3, file, figures.nodes, local);
+    let p4 = put_nodes(out, p3, file, rows, figures.nodes, local);
     let last = lines::remainder_line(figures.generation.remainder, figures.demand.remainder);
     put_line(out, p4, last)
 }
 
 // Whether the counts stay inside their tables and the file.
-pub fn sized(figures: Figures, file: &[u8]) -> bool
-    ensures { λ r. ⌜ r ≡ sized figures (now (file .entry)) ⌝ }
+pub fn sized(figures: Figures, file: &[u8], rows: Section) -> bool
+    ensures { λ r. ⌜ r ≡ sized figures (now (file .entry)) rows ⌝ }
 {
     if 256 < figures.nodes {
         return false;
     }
     (figures.generation.zones <= 32)
         & (figures.demand.zones <= 32)
-        & (64 + 24 * figures.nodes <= file.len())
+        & (fields::row_at(rows, figures.nodes as u32) <= file.len())
 }

@@ -1,24 +1,25 @@
-use native.Mathlib.Omega.{arith}
-use Rattle.layout.proofs.Rows.{few}
-use Rattle.circuit_table.proofs.CircuitLaws.{told-circuits}
+use mathlib.Core.Path.{sym}
+use Rattle.layout.proofs.Rows.{nodes-from}
 use borrow.Author.Needs.{needs}
 use Rattle.circuit_table.proofs.judge.Statement.{statement}
 use Rattle.circuit_table.proofs.judge.Tie as tie
 
-counts-requires : tie.Need-counts-requires
-counts-requires c κs = search needs
+section-requires : tie.Need-section-requires
+section-requires c κs = search needs
+
+section-requires-2 : tie.Need-section-requires-2
+section-requires-2 c κs = search needs
 
 columns-requires : tie.Need-columns-requires
 columns-requires c κs = search needs
 
-mul-stage : tie.Need-mul-stage
-mul-stage c = omega (arith, few _ (c .before .before .counts .ensures) .nodes-low)
-
-add-stage : tie.Need-add-stage
-add-stage c = omega (arith, few _ (c .before .before .counts .ensures) .nodes-low)
+cast-stage : tie.Need-cast-stage
+cast-stage c = search needs
 
 stage-requires : tie.Need-stage-requires
-stage-requires c κs = told-circuits (c .before .before .counts .ensures) (c .before .columns .ensures)
+stage-requires c κs =
+    let rows = c .before .before in
+    record { nodes = sym (nodes-from _ (rows .before .section .ensures) .count); section = rows .section2 .ensures; columns = c .before .columns .ensures }
 
 returns : tie.Need-returns
 returns c = search needs
@@ -26,4 +27,10 @@ returns c = search needs
 pub judge-spec : {M : Type 1} → statement M
 judge-spec =
     tie.close
-    (tie.spec counts-requires columns-requires mul-stage add-stage stage-requires returns)
+    (tie.spec
+    section-requires
+    section-requires-2
+    columns-requires
+    cast-stage
+    stage-requires
+    returns)

@@ -1,43 +1,48 @@
-use Prim.Native.Nat.{_-_}
+use Prim.Native.Nat.{_+_, _-_}
 use native.Mathlib.Omega.{arith}
 use borrow.Author.Needs.{needs}
-use Rattle.meaning.proofs.Columns.{Filling, filling-none, filling-on, filling-fits, filling-more, filling-done}
-use Rattle.meaning.specs.File.{u32}
+use Rattle.meaning.proofs.Columns.{Filling, filling-none, filling-on, filling-more, filling-done}
+use Rattle.meaning.specs.File.{u32, rowAt}
 use Rattle.fields.proofs.column.Statement.{statement}
 use Rattle.fields.proofs.column.Tie as tie
 
 abbrev Inv-loop : tie.InvT-loop
-Inv-loop file start stride count all₀ at₀ i₀ all at i = Filling 0 (u32 file) start stride count all at i
+Inv-loop file rows field all₀ i₀ all i = Filling 0 512 (rows .count) (λ j. u32 file (rowAt rows j + field)) all i
 
 abbrev μ-loop : tie.MeasureT-loop
-μ-loop file start stride count all₀ at₀ i₀ all at i = 512 - i
+μ-loop file rows field all₀ i₀ all i = 512 - i
 
 loop-holds : tie.Need-loop-holds Inv-loop μ-loop
 loop-holds c = filling-none
 
+field-at-requires : tie.Need-field-at-requires Inv-loop μ-loop
+field-at-requires c κs = search needs
+
 u32-at-requires : tie.Need-u32-at-requires Inv-loop μ-loop
 u32-at-requires c κs = search needs
+
+cast-all : tie.Need-cast-all Inv-loop μ-loop
+cast-all c = search needs
 
 mul-all : tie.Need-mul-all Inv-loop μ-loop
 mul-all c = omega arith
 
 array-write-all : tie.Need-array-write-all Inv-loop μ-loop
-array-write-all c = let l = c .before in filling-on (l .before .loop .inv) (l .loop-test .taken) .1
-
-add-at : tie.Need-add-at Inv-loop μ-loop
-add-at c = let l = c .before in omega (arith, filling-fits (l .before .loop .inv) (filling-on (l .before .loop .inv) (l .loop-test .taken) .1) (omega arith) (omega arith))
+array-write-all c = let t = c .before .before in filling-on (t .before .before .loop .inv) (t .if1 .taken) .1
 
 add-i : tie.Need-add-i Inv-loop μ-loop
 add-i c = omega arith
 
 loop-less : tie.Need-loop-less Inv-loop μ-loop
-loop-less c = let l = c .before in omega (arith, filling-on (l .before .loop .inv) (l .loop-test .taken) .1)
+loop-less c = let t = c .before .before in omega (arith, filling-on (t .before .before .loop .inv) (t .if1 .taken) .1)
 
 loop-again : tie.Need-loop-again Inv-loop μ-loop
-loop-again c = filling-more (c .before .before .loop .inv) (c .before .loop-test .taken) (omega arith) (c .u32-at .ensures .value)
+loop-again c =
+    let t = c .before .before in
+    filling-more (t .before .before .loop .inv) (t .if1 .taken) (rw (c .before .field-at .ensures) at (c .u32-at .ensures .value))
 
 returns : tie.Need-returns Inv-loop μ-loop
-returns c = filling-done (c .before .loop .inv) (c .loop-test .left)
+returns c = filling-done (c .before .before .loop .inv) (c .if1 .left)
 
 pub column-spec : {M : Type 1} → statement M
 column-spec =
@@ -46,10 +51,11 @@ column-spec =
     Inv-loop
     μ-loop
     loop-holds
+    field-at-requires
     u32-at-requires
+    cast-all
     mul-all
     array-write-all
-    add-at
     add-i
     loop-less
     loop-again

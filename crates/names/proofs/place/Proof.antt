@@ -11,14 +11,14 @@ use Rattle.names.proofs.place.Statement.{statement}
 use Rattle.names.proofs.place.Tie as tie
 
 abbrev Inv-loop : tie.InvT-loop
-Inv-loop file start stride count at known row₀ row = (row ≤ count) × Passed (λ v. sameName (nameRow file start stride v) (nameAt file at)) row
+Inv-loop file rows at count known row₀ row = (row ≤ count) × Passed (λ v. sameName (nameRow file rows v) (nameAt file at)) row
 
 abbrev μ-loop : tie.MeasureT-loop
-μ-loop file start stride count at known row₀ row = count - row
+μ-loop file rows at count known row₀ row = count - row
 
 -- what a comparison tells of a row
 told : (c : tie.After-row-is Inv-loop μ-loop)
-    → let a = c .before .before .before .before .before .before .before .args in c .row-is .result ≡ sameName (nameRow (a .file .now) (a .start) (a .stride) (c .before .before .before .loop .row)) (nameAt (a .file .now) (a .at))
+    → let a = c .before .before .before .before .before .before .before .args in c .row-is .result ≡ sameName (nameRow (a .file .now) (a .rows) (c .before .before .before .loop .row)) (nameAt (a .file .now) (a .at))
 told c = rw (c .before .row-at2 .ensures) at (c .row-is .ensures)
 
 row-at-requires : tie.Need-row-at-requires Inv-loop μ-loop
@@ -36,9 +36,10 @@ row-at-requires-2 c κs = search needs
 row-is-requires : tie.Need-row-is-requires Inv-loop μ-loop
 row-is-requires c κs =
     let i = c .before .before .before in
+    let rows = i .before .before .before .args .rows in
     λ h.
     let p = rw (i .before .row-at .ensures) at (i .inside .ensures .both h) in
-    (rw (c .row-at2 .ensures) (row-below _ _ _ _ (omega arith) (p .0)), p .1)
+    (rw (c .row-at2 .ensures) (row-below rows _ _ (omega arith) (p .0)), p .1)
 
 cast-result : tie.Need-cast-result Inv-loop μ-loop
 cast-result c = search needs
@@ -54,6 +55,9 @@ loop-less c = search needs
 
 loop-again : tie.Need-loop-again Inv-loop μ-loop
 loop-again c = (omega arith, passed-more (c .before .before .before .before .loop .inv .1) (sym (told (c .before)) ∙ c .if1 .left))
+
+cast-result-2 : tie.Need-cast-result-2 Inv-loop μ-loop
+cast-result-2 c = search needs
 
 returns-2 : tie.Need-returns-2 Inv-loop μ-loop
 returns-2 c = search-ends _ _ (c .before .loop .inv .1) (omega arith) (omega arith)
@@ -74,4 +78,5 @@ place-spec =
     add-row
     loop-less
     loop-again
+    cast-result-2
     returns-2)

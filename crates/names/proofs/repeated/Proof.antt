@@ -11,21 +11,21 @@ use Rattle.names.proofs.repeated.Statement.{statement}
 use Rattle.names.proofs.repeated.Tie as tie
 
 abbrev Inv-loop : tie.InvT-loop
-Inv-loop file start stride count known row later early₀ early = (early ≤ row) × Passed (λ j. sameName (nameRow file start stride j) (nameRow file start stride row)) early
+Inv-loop file rows count end known row later early₀ early = (early ≤ row) × Passed (λ j. sameName (nameRow file rows j) (nameRow file rows row)) early
 
 abbrev μ-loop : tie.MeasureT-loop
-μ-loop file start stride count known row later early₀ early = row - early
+μ-loop file rows count end known row later early₀ early = row - early
 
 abbrev Inv-rows : tie.InvT-rows
-Inv-rows file start stride count known row₀ row = (row ≤ count) × Passed (seenEarlier (λ j. nameRow file start stride j)) row
+Inv-rows file rows count end known row₀ row = (row ≤ count) × Passed (seenEarlier (λ j. nameRow file rows j)) row
 
 abbrev μ-rows : tie.MeasureT-rows
-μ-rows file start stride count known row₀ row = count - row
+μ-rows file rows count end known row₀ row = count - row
 
 -- what a comparison tells of two rows
 told : (c : tie.After-row-is Inv-loop μ-loop Inv-rows μ-rows)
     → let q = c .before .before .before .before .before .before in
-    let a = q .before .before .before .before .args in c .row-is .result ≡ sameName (nameRow (a .file .now) (a .start) (a .stride) (c .before .before .before .loop .early)) (nameRow (a .file .now) (a .start) (a .stride) (q .rows .row))
+    let a = q .before .before .before .before .args in c .row-is .result ≡ sameName (nameRow (a .file .now) (a .rows) (c .before .before .before .loop .early)) (nameRow (a .file .now) (a .rows) (q .rows .row))
 told c = rw (c .before .before .before .before .row-at2 .ensures) at (rw (c .before .row-at3 .ensures) at (c .row-is .ensures))
 
 row-at-requires : tie.Need-row-at-requires Inv-loop μ-loop Inv-rows μ-rows
@@ -36,6 +36,9 @@ inside-requires c κs = search needs
 
 rows-holds : tie.Need-rows-holds Inv-loop μ-loop Inv-rows μ-rows
 rows-holds c = (omega arith, passed-zero _)
+
+cast-result : tie.Need-cast-result Inv-loop μ-loop Inv-rows μ-rows
+cast-result c = search needs
 
 row-at-requires-2 : tie.Need-row-at-requires-2 Inv-loop μ-loop Inv-rows μ-rows
 row-at-requires-2 c κs = search needs
@@ -50,12 +53,13 @@ row-is-requires : tie.Need-row-is-requires Inv-loop μ-loop Inv-rows μ-rows
 row-is-requires c κs =
     let l = c .before .before .before in
     let i = l .before .before .before in
+    let rows = i .before .before .before .args .rows in
     λ h.
     let p = rw (i .before .row-at .ensures) at (i .inside .ensures .both h) in
-    (rw (c .row-at3 .ensures) (row-below _ _ _ _ (omega arith) (p .0)), rw (l .row-at2 .ensures) (row-below _ _ _ _ (omega arith) (p .0)))
+    (rw (c .row-at3 .ensures) (row-below rows _ _ (omega arith) (p .0)), rw (l .row-at2 .ensures) (row-below rows _ _ (omega arith) (p .0)))
 
-cast-result : tie.Need-cast-result Inv-loop μ-loop Inv-rows μ-rows
-cast-result c = search needs
+cast-result-2 : tie.Need-cast-result-2 Inv-loop μ-loop Inv-rows μ-rows
+cast-result-2 c = search needs
 
 add-early : tie.Need-add-early Inv-loop μ-loop Inv-rows μ-rows
 add-early c = search needs
@@ -96,11 +100,12 @@ repeated-spec =
     row-at-requires
     inside-requires
     rows-holds
+    cast-result
     row-at-requires-2
     loop-holds
     row-at-requires-3
     row-is-requires
-    cast-result
+    cast-result-2
     add-early
     loop-less
     loop-again

@@ -16,14 +16,14 @@ abbrev start : tie.After-sized → tie.Start
 start c = c .before .before .before
 
 -- the figures are sized, and this is their text
-is-sized : (t : tie.Then1) → let a = start (t .before) .args in sized (a .figures) (a .file .now) ≡ true
+is-sized : (t : tie.Then1) → let a = start (t .before) .args in sized (a .figures) (a .file .now) (a .rows) ≡ true
 is-sized t = sym (t .before .sized .ensures) ∙ t .if1 .taken
 
 abbrev whole : tie.Then1 → List ℕ
-whole t = let a = start (t .before) .args in sheetText (a .figures) (nameOf (a .file .now))
+whole t = let a = start (t .before) .args in sheetText (a .figures) (nameOf (a .file .now) (a .rows))
 
-is-text : (t : tie.Then1) → let a = start (t .before) .args in textOf (a .figures) (a .file .now) ≡ whole t
-is-text t = let a = start (t .before) .args in text-sized (a .figures) (a .file .now) (is-sized t)
+is-text : (t : tie.Then1) → let a = start (t .before) .args in textOf (a .figures) (a .file .now) (a .rows) ≡ whole t
+is-text t = let a = start (t .before) .args in text-sized (a .figures) (a .file .now) (a .rows) (is-sized t)
 
 -- there is room aside for any text
 wide : 22851 ≤ length (replicate {A = ℕ} 22851 0)
@@ -39,7 +39,7 @@ put-figures-requires : tie.Need-put-figures-requires
 put-figures-requires c κs =
     let t = c .before in
     let a = start (t .before) .args in
-    (says-sized (a .figures) (a .file .now) .0 (is-sized t), wide)
+    (says-sized (a .figures) (a .file .now) (a .rows) .0 (is-sized t), wide)
 
 returns : tie.Need-returns
 returns c =
@@ -80,7 +80,7 @@ returns-2 c =
 returns-3 : tie.Need-returns-3
 returns-3 c =
     let a = start (c .before) .args in
-    rw (text-none (a .figures) (a .file .now) (sym (c .before .sized .ensures) ∙ c .if1 .left)) (fitted-none (a .out .now))
+    rw (text-none (a .figures) (a .file .now) (a .rows) (sym (c .before .sized .ensures) ∙ c .if1 .left)) (fitted-none (a .out .now))
 
 pub write-figures-spec : {M : Type 1} → statement M
 write-figures-spec =

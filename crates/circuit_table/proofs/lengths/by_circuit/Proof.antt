@@ -1,51 +1,53 @@
-use mathlib.Core.Path.{_≡_, sym}
-use Prim.Native.Nat.{_+_, _*_, _-_, _≤_}
-use Rattle.meaning.proofs.Columns.{column-none, column-turn, column-done}
-use Rattle.meaning.specs.Columns.{column}
-use Rattle.meaning.specs.File.{circuitAt}
+use Prim.Native.Nat.{_-_}
+use native.Mathlib.Omega.{arith}
+use borrow.Author.Needs.{needs}
+use Rattle.meaning.proofs.Columns.{Filling, filling-none, filling-on, filling-more, filling-done}
+use Rattle.meaning.specs.File.{rowAt, circuitAt}
+use Rattle.meaning.proofs.Frame.{row-low}
 use Rattle.layout.specs.Frame.{settingsIn}
 use Rattle.circuit_table.specs.Lengths.{lengthIfInRange}
-use native.Mathlib.Omega.{arith}
 use Rattle.circuit_table.proofs.lengths.by_circuit.Statement.{statement}
 use Rattle.circuit_table.proofs.lengths.by_circuit.Tie as tie
 
 abbrev Inv-loop : tie.InvT-loop
-Inv-loop file start count factors all₀ i₀ all i = (i ≤ count) × (all ≡ column 0 512 i (λ j. lengthIfInRange (settingsIn factors) (circuitAt file (start + 44 * j))))
+Inv-loop file rows factors all₀ i₀ all i = Filling 0 512 (rows .count) (λ j. lengthIfInRange (settingsIn factors) (circuitAt file (rowAt rows j))) all i
 
 abbrev μ-loop : tie.MeasureT-loop
-μ-loop file start count factors all₀ i₀ all i = count - i
+μ-loop file rows factors all₀ i₀ all i = 512 - i
 
 loop-holds : tie.Need-loop-holds Inv-loop μ-loop
-loop-holds c = (omega arith, sym (column-none _ _ _))
+loop-holds c = filling-none
 
-mul-length-at : tie.Need-mul-length-at Inv-loop μ-loop
-mul-length-at c = omega arith
-
-add-length-at : tie.Need-add-length-at Inv-loop μ-loop
-add-length-at c = omega arith
+row-at-requires : tie.Need-row-at-requires Inv-loop μ-loop
+row-at-requires c κs = search needs
 
 length-at-requires : tie.Need-length-at-requires Inv-loop μ-loop
-length-at-requires c κs = omega arith
+length-at-requires c κs =
+    let a = c .before .before .before .before .before .args in
+    omega (arith, c .row-at .ensures, row-low (a .rows) {i = c .before .before .before .loop .i} (omega arith) (omega arith) (omega arith))
+
+cast-all : tie.Need-cast-all Inv-loop μ-loop
+cast-all c = search needs
 
 mul-all : tie.Need-mul-all Inv-loop μ-loop
 mul-all c = omega arith
 
 array-write-all : tie.Need-array-write-all Inv-loop μ-loop
-array-write-all c = omega arith
+array-write-all c = let t = c .before .before in filling-on (t .before .before .loop .inv) (t .if1 .taken) .1
 
 add-i : tie.Need-add-i Inv-loop μ-loop
 add-i c = omega arith
 
 loop-less : tie.Need-loop-less Inv-loop μ-loop
-loop-less c = omega arith
+loop-less c = let t = c .before .before in omega (arith, filling-on (t .before .before .loop .inv) (t .if1 .taken) .1)
 
 loop-again : tie.Need-loop-again Inv-loop μ-loop
 loop-again c =
-    let l = c .before .before in
-    (omega arith, column-turn 0 512 _ (l .loop .i) (omega arith) (l .loop .inv .1) (c .length-at .ensures))
+    let t = c .before .before in
+    filling-more (t .before .before .loop .inv) (t .if1 .taken) (rw (c .before .row-at .ensures) at (c .length-at .ensures))
 
 returns : tie.Need-returns Inv-loop μ-loop
-returns c = column-done _ _ _ _ _ (c .before .loop .inv .1) (omega arith) (omega arith)
+returns c = filling-done (c .before .before .loop .inv) (c .if1 .left)
 
 pub by-circuit-spec : {M : Type 1} → statement M
 by-circuit-spec =
@@ -54,9 +56,9 @@ by-circuit-spec =
     Inv-loop
     μ-loop
     loop-holds
-    mul-length-at
-    add-length-at
+    row-at-requires
     length-at-requires
+    cast-all
     mul-all
     array-write-all
     add-i

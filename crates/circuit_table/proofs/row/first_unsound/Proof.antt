@@ -1,44 +1,60 @@
-use mathlib.Core.Path.{sym, ap, _∙_}
+use mathlib.Core.Path.{_≡_, sym, ap, _∙_}
 use mathlib.Core.Bool.{not}
 use Prim.Native.Nat.{_≤_, _-_}
 use native.Mathlib.Omega.{arith}
 use borrow.Author.Needs.{needs}
+use Rattle.meaning.specs.File.{rowAt, circuitAt}
+use Rattle.meaning.specs.Tables.{soundCircuitRow}
+use Rattle.meaning.proofs.Frame.{row-low}
 use Rattle.meaning.proofs.Rows.{Passed, passed-zero, passed-more}
-use Rattle.circuit_table.specs.Told.{unsoundCircuit}
 use Rattle.meaning.proofs.First.{first-stops, first-ends}
-use Rattle.circuit_table.proofs.CircuitLaws.{ends-at}
+use Rattle.layout.specs.Readable.{readable}
+use Rattle.circuit_table.specs.Told.{unsoundCircuit}
+use Rattle.circuit_table.proofs.CircuitLaws.{few, ends-at}
 use Rattle.circuit_table.proofs.row.first_unsound.Statement.{statement}
 use Rattle.circuit_table.proofs.row.first_unsound.Tie as tie
 
 abbrev Inv-loop : tie.InvT-loop
-Inv-loop file rows start columns i₀ i = (i ≤ rows .circuits) × Passed (unsoundCircuit file start) i
+Inv-loop file nodes rows columns count i₀ i = (i ≤ count) × Passed (unsoundCircuit file rows) i
 
 abbrev μ-loop : tie.MeasureT-loop
-μ-loop file rows start columns i₀ i = rows .circuits - i
+μ-loop file nodes rows columns count i₀ i = count - i
+
+-- what the test tells of a row
+told : (c : tie.After-sound-row Inv-loop μ-loop)
+    → let l = c .before .before .before .before .before in
+    let a = l .before .before .args in soundCircuitRow (readable (a .file .now) .nodes) (circuitAt (a .file .now) (rowAt (a .rows) (l .loop .i))) ≡ c .sound-row .result
+told c = sym (rw (c .before .row-at .ensures) at (c .sound-row .ensures))
 
 loop-holds : tie.Need-loop-holds Inv-loop μ-loop
 loop-holds c = (omega arith, passed-zero _)
 
-mul-sound-row : tie.Need-mul-sound-row Inv-loop μ-loop
-mul-sound-row c = search needs
+cast-first : tie.Need-cast-first Inv-loop μ-loop
+cast-first c = search needs
 
-add-sound-row : tie.Need-add-sound-row Inv-loop μ-loop
-add-sound-row c = search needs
+mul-first : tie.Need-mul-first Inv-loop μ-loop
+mul-first c = search needs
 
-mul-sound-row-2 : tie.Need-mul-sound-row-2 Inv-loop μ-loop
-mul-sound-row-2 c = search needs
+element-copy-out-first : tie.Need-element-copy-out-first Inv-loop μ-loop
+element-copy-out-first c = omega (arith, few _ (c .before .before .before .pre))
 
-element-copy-out-sound-row : tie.Need-element-copy-out-sound-row Inv-loop μ-loop
-element-copy-out-sound-row c = search needs
+cast-second : tie.Need-cast-second Inv-loop μ-loop
+cast-second c = search needs
 
-mul-sound-row-3 : tie.Need-mul-sound-row-3 Inv-loop μ-loop
-mul-sound-row-3 c = search needs
+mul-second : tie.Need-mul-second Inv-loop μ-loop
+mul-second c = search needs
 
-element-copy-out-sound-row-2 : tie.Need-element-copy-out-sound-row-2 Inv-loop μ-loop
-element-copy-out-sound-row-2 c = search needs
+element-copy-out-second : tie.Need-element-copy-out-second Inv-loop μ-loop
+element-copy-out-second c = omega (arith, few _ (c .before .before .before .before .pre))
+
+row-at-requires : tie.Need-row-at-requires Inv-loop μ-loop
+row-at-requires c κs = search needs
 
 sound-row-requires : tie.Need-sound-row-requires Inv-loop μ-loop
-sound-row-requires c κs = ends-at (c .before .before .before .before .before .before .pre) (c .before .before .before .before .loop .i) (omega arith)
+sound-row-requires c κs =
+    let l = c .before .before .before .before in
+    let s = l .before .before in
+    rw (c .row-at .ensures) (ends-at _ (s .pre) (l .loop .i) (omega arith) (row-low (s .args .rows) (omega arith) (omega arith) (omega arith)))
 
 add-i : tie.Need-add-i Inv-loop μ-loop
 add-i c = search needs
@@ -47,13 +63,19 @@ loop-less : tie.Need-loop-less Inv-loop μ-loop
 loop-less c = search needs
 
 loop-again : tie.Need-loop-again Inv-loop μ-loop
-loop-again c = (omega arith, passed-more (c .before .before .before .before .before .before .loop .inv .1) (ap not (sym (c .before .sound-row .ensures) ∙ c .if2 .taken)))
+loop-again c = (omega arith, passed-more (c .before .before .before .before .before .before .loop .inv .1) (ap not (told (c .before) ∙ c .if1 .taken)))
+
+cast-result : tie.Need-cast-result Inv-loop μ-loop
+cast-result c = search needs
 
 returns : tie.Need-returns Inv-loop μ-loop
-returns c = first-stops (c .before .before .before .before .before .before .loop .inv .1) (omega arith) (ap not (sym (c .before .sound-row .ensures) ∙ c .if2 .left))
+returns c = first-stops (c .before .before .before .before .before .before .loop .inv .1) (omega arith) (ap not (told (c .before) ∙ c .if1 .left))
+
+cast-result-2 : tie.Need-cast-result-2 Inv-loop μ-loop
+cast-result-2 c = search needs
 
 returns-2 : tie.Need-returns-2 Inv-loop μ-loop
-returns-2 c = first-ends (c .before .before .loop .inv .1) (omega arith)
+returns-2 c = first-ends (c .before .loop .inv .1) (omega arith)
 
 pub first-unsound-spec : {M : Type 1} → statement M
 first-unsound-spec =
@@ -62,15 +84,18 @@ first-unsound-spec =
     Inv-loop
     μ-loop
     loop-holds
-    mul-sound-row
-    add-sound-row
-    mul-sound-row-2
-    element-copy-out-sound-row
-    mul-sound-row-3
-    element-copy-out-sound-row-2
+    cast-first
+    mul-first
+    element-copy-out-first
+    cast-second
+    mul-second
+    element-copy-out-second
+    row-at-requires
     sound-row-requires
     add-i
     loop-less
     loop-again
+    cast-result
     returns
+    cast-result-2
     returns-2)

@@ -14,31 +14,22 @@ abbrev μ-loop : tie.MeasureT-loop
 loop-holds : tie.Need-loop-holds Inv-loop μ-loop
 loop-holds c = chained-none
 
-mul-word : tie.Need-mul-word Inv-loop μ-loop
-mul-word c = search needs
-
-word-requires : tie.Need-word-requires Inv-loop μ-loop
-word-requires c κs = search needs
+offset-requires : tie.Need-offset-requires Inv-loop μ-loop
+offset-requires c κs = search needs
 
 record-size-requires : tie.Need-record-size-requires Inv-loop μ-loop
 record-size-requires c κs = search needs
 
-mul-word-2 : tie.Need-mul-word-2 Inv-loop μ-loop
-mul-word-2 c = search needs
-
-add-word : tie.Need-add-word Inv-loop μ-loop
-add-word c = search needs
-
-word-requires-2 : tie.Need-word-requires-2 Inv-loop μ-loop
-word-requires-2 c κs = search needs
+count-requires : tie.Need-count-requires Inv-loop μ-loop
+count-requires c κs = search needs
 
 mul-start : tie.Need-mul-start Inv-loop μ-loop
-mul-start c = omega (arith, size-low (c .before .before .before .before .loop .section) (c .before .record-size .ensures) (c .word2 .ensures .below))
+mul-start c = omega (arith, size-low (c .before .before .before .before .loop .section) (c .before .record-size .ensures) (c .count .ensures .1))
 
 add-start : tie.Need-add-start Inv-loop μ-loop
 add-start c =
     let l = c .before .before .before .before in
-    omega (arith, l .loop .inv .within, l .loop .inv .low, size-low (l .loop .section) (c .before .record-size .ensures) (c .word2 .ensures .below))
+    omega (arith, l .loop .inv .within, l .loop .inv .low, size-low (l .loop .section) (c .before .record-size .ensures) (c .count .ensures .1))
 
 add-section : tie.Need-add-section Inv-loop μ-loop
 add-section c = search needs
@@ -49,7 +40,7 @@ loop-less c = search needs
 loop-again : tie.Need-loop-again Inv-loop μ-loop
 loop-again c =
     let l = c .before .before .before .before in
-    chained-on (l .loop .inv) (omega arith) (c .before .before .word .ensures .value) (c .before .record-size .ensures) (c .word2 .ensures .value) (c .word2 .ensures .below)
+    chained-on (l .loop .inv) (omega arith) (c .before .before .offset .ensures .0) (c .before .record-size .ensures) (c .count .ensures .0) (c .count .ensures .1)
 
 add-result : tie.Need-add-result Inv-loop μ-loop
 add-result c = omega (arith, c .before .loop .inv .within, c .before .loop .inv .low)
@@ -64,12 +55,9 @@ chained-spec =
     Inv-loop
     μ-loop
     loop-holds
-    mul-word
-    word-requires
+    offset-requires
     record-size-requires
-    mul-word-2
-    add-word
-    word-requires-2
+    count-requires
     mul-start
     add-start
     add-section

@@ -8,40 +8,36 @@ use Rattle.station_table.proofs.row.stage.Tie as tie
 first-unsound-requires : tie.Need-first-unsound-requires
 first-unsound-requires c κs = search needs
 
-cast-repeated : tie.Need-cast-repeated
-cast-repeated c = search needs
-
-cast-repeated-2 : tie.Need-cast-repeated-2
-cast-repeated-2 c = search needs
+cast-count : tie.Need-cast-count
+cast-count c = search needs
 
 repeated-requires : tie.Need-repeated-requires
 repeated-requires c κs = search needs
 
+add-t9 : tie.Need-add-t9
+add-t9 c = search needs
+
+returns : tie.Need-returns
+returns c = let p = c .before .before in station-unsound _ (p .before .before .before .pre) (p .first-unsound .ensures) (first-lowest (c .before .repeated .ensures)) (omega arith)
+
 add-t11 : tie.Need-add-t11
 add-t11 c = search needs
 
-returns : tie.Need-returns
-returns c = let p = c .before .before in station-unsound (p .before .before .pre) (p .first-unsound .ensures) (first-lowest (c .before .repeated .ensures)) (omega arith)
-
-add-t13 : tie.Need-add-t13
-add-t13 c = search needs
-
 returns-2 : tie.Need-returns-2
-returns-2 c = let p = c .before .before .before in station-repeated (p .before .before .pre) (p .first-unsound .ensures) (first-lowest (c .before .before .repeated .ensures)) (omega arith) (omega arith)
+returns-2 c = let p = c .before .before .before in station-repeated _ (p .before .before .before .pre) (p .first-unsound .ensures) (first-lowest (c .before .before .repeated .ensures)) (omega arith) (omega arith)
 
 returns-3 : tie.Need-returns-3
-returns-3 c = let p = c .before .before .before in stations-sound (p .before .before .pre) (p .first-unsound .ensures) (first-lowest (c .before .before .repeated .ensures)) (omega arith) (omega arith)
+returns-3 c = let p = c .before .before .before in stations-sound _ (p .before .before .before .pre) (p .first-unsound .ensures) (first-lowest (c .before .before .repeated .ensures)) (omega arith) (omega arith)
 
 pub stage-spec : {M : Type 1} → statement M
 stage-spec =
     tie.close
     (tie.spec
+    cast-count
     first-unsound-requires
-    cast-repeated
-    cast-repeated-2
     repeated-requires
-    add-t11
+    add-t9
     returns
-    add-t13
+    add-t11
     returns-2
     returns-3)

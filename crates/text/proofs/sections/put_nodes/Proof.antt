@@ -1,7 +1,9 @@
 -- `text::sections::put_nodes` meets its contract: the rows before v are written.
 use mathlib.Core.Path.{_≡_}
 use Prim.Native.Nat.{_≤_, _-_, _*_}
+use lib.ListN.{length}
 use Rattle.meaning.specs.Rows.{joined}
+use Rattle.meaning.proofs.Frame.{row-rise}
 use Rattle.lines.specs.Making.{Put}
 use Rattle.lines.proofs.Making.{kept, longer, ready, copied}
 use Rattle.text.proofs.Joined.{rows-start, rows-more}
@@ -12,25 +14,32 @@ use Rattle.text.proofs.sections.put_nodes.Statement.{statement}
 use Rattle.text.proofs.sections.put_nodes.Tie as tie
 
 abbrev Inv-loop : tie.InvT-loop
-Inv-loop out₀ from file nodes local at₀ v₀ out at v = (v ≤ nodes) × Put (57 * v) out₀ from (joined v (nodeRow local file)) out at
+Inv-loop out₀ from file rows nodes local at₀ v₀ out at v = (v ≤ nodes) × Put (57 * v) out₀ from (joined v (nodeRow local file rows)) out at
 
 abbrev μ-loop : tie.MeasureT-loop
-μ-loop out₀ from file nodes local at₀ v₀ out at v = nodes - v
+μ-loop out₀ from file rows nodes local at₀ v₀ out at v = nodes - v
 
 loop-holds : tie.Need-loop-holds Inv-loop μ-loop
-loop-holds c = let a = c .before .before .args in (omega arith, rows-start (a .out .now) (a .from) (nodeRow (a .t5) (a .file .now)))
+loop-holds c = let a = c .before .before .args in (omega arith, rows-start (a .out .now) (a .from) (nodeRow (a .t6) (a .file .now) (a .rows)))
 
-mul-name : tie.Need-mul-name Inv-loop μ-loop
-mul-name c = search needs
+cast-row-at : tie.Need-cast-row-at Inv-loop μ-loop
+cast-row-at c = search needs
 
-add-name : tie.Need-add-name Inv-loop μ-loop
-add-name c = search needs
+row-at-requires : tie.Need-row-at-requires Inv-loop μ-loop
+row-at-requires c κs = search needs
+
+-- a node's name is inside the file
+inside : (c : tie.After-row-at Inv-loop μ-loop) → c .row-at .result ≤ length (c .before .before .before .before .before .args .file .now)
+inside c =
+    let l = c .before .before in
+    let a = l .before .before .before .args in
+    omega (arith, c .row-at .ensures, row-rise (a .rows) (l .loop .v) (a .nodes) (omega arith), l .before .before .before .pre)
 
 sub-node-line : tie.Need-sub-node-line Inv-loop μ-loop
-sub-node-line c = search needs
+sub-node-line c = inside c
 
 part-node-line-start : tie.Need-part-node-line-start Inv-loop μ-loop
-part-node-line-start c = search needs
+part-node-line-start c = search (needs, inside c)
 
 part-node-line-end : tie.Need-part-node-line-end Inv-loop μ-loop
 part-node-line-end c = search needs
@@ -47,7 +56,7 @@ node-line-requires c κs = search needs
 put-line-requires : tie.Need-put-line-requires Inv-loop μ-loop
 put-line-requires c κs =
     let n = c .before in
-    let l = n .before .before .before .before .loop in
+    let l = n .before .before .before .before .before .loop in
     let i = l .inv .1 in
     ready (n .node-line .result) (n .node-line .ensures) (omega arith) (l .at) (omega (arith, i .next, i .short, kept i))
 
@@ -61,10 +70,11 @@ loop-again : tie.Need-loop-again Inv-loop μ-loop
 loop-again c =
     let p = c .before .before in
     let n = p .before .before in
-    let l = n .before .before .before .before in
+    let nn = n .before .before .before in
+    let l = nn .before .before in
     let a = l .before .before .before .args in
     let row = copied (n .node-line .result) (n .node-line .ensures) (omega arith) (p .put-line .ensures) in
-    (omega arith, longer (rows-more {w = 57} (nodeRow (a .t5) (a .file .now)) (l .loop .v) (l .loop .inv .1) (rw (node-row (a .t5) (a .file .now) (l .loop .v)) row)) (omega arith))
+    (omega arith, longer (rows-more {w = 57} (nodeRow (a .t6) (a .file .now) (a .rows)) (l .loop .v) (l .loop .inv .1) (rw (node-row (a .t6) (a .file .now) (a .rows) (l .loop .v) _ (nn .row-at .ensures)) row)) (omega arith))
 
 same-length : tie.Need-same-length Inv-loop μ-loop
 same-length c = kept (c .before .loop .inv .1)
@@ -74,7 +84,7 @@ returns c =
     let l = c .before in
     let a = l .before .before .before .args in
     let e : l .loop .v ≡ a .nodes = omega arith in
-    rw (node-rows (a .nodes) (a .t5) (a .file .now)) (longer (rw e at (l .loop .inv .1)) (omega arith))
+    rw (node-rows (a .nodes) (a .t6) (a .file .now) (a .rows)) (longer (rw e at (l .loop .inv .1)) (omega arith))
 
 pub put-nodes-spec : {M : Type 1} → statement M
 put-nodes-spec =
@@ -83,8 +93,8 @@ put-nodes-spec =
     Inv-loop
     μ-loop
     loop-holds
-    mul-name
-    add-name
+    cast-row-at
+    row-at-requires
     sub-node-line
     part-node-line-start
     part-node-line-end

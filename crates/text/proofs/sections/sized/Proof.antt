@@ -6,16 +6,18 @@ use Rattle.text.proofs.sections.sized.Statement.{statement}
 use Rattle.text.proofs.sections.sized.Tie as tie
 
 returns : tie.Need-returns
-returns c = sized-false _ _ (λ w. omega (arith, w .nodes))
+returns c = sized-false _ _ _ (λ w. omega (arith, w .nodes))
 
-mul-result : tie.Need-mul-result
-mul-result c = search needs
+cast-row-at : tie.Need-cast-row-at
+cast-row-at c = search needs
 
-add-result : tie.Need-add-result
-add-result c = search needs
+row-at-requires : tie.Need-row-at-requires
+row-at-requires c κs = search needs
 
 returns-2 : tie.Need-returns-2
-returns-2 c = let s = c .before .before .before .before .before in sized-few (s .args .figures) (s .args .file .now) (omega arith)
+returns-2 c =
+    let s = c .before .before .before .before .before .before .before in
+    rw (c .row-at .ensures) (sized-few (s .args .figures) (s .args .file .now) (s .args .rows) (omega arith))
 
 pub sized-spec : {M : Type 1} → statement M
-sized-spec = tie.close (tie.spec returns mul-result add-result returns-2)
+sized-spec = tie.close (tie.spec returns cast-row-at row-at-requires returns-2)

@@ -1,8 +1,8 @@
 use Rattle.layout.specs.Readable.{noStudy}
 use Rattle.layout.specs.Frame.{settingsIn}
 use mathlib.Core.Path.{refl}
-use Rattle.layout.proofs.section.no_settings.Statement.{statement}
-use Rattle.layout.proofs.section.no_settings.Tie as tie
+use Rattle.layout.proofs.settings_row.no_settings.Statement.{statement}
+use Rattle.layout.proofs.settings_row.no_settings.Tie as tie
 
 returns : tie.Need-returns
 unfolding settingsIn noStudy

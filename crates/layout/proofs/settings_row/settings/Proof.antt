@@ -1,7 +1,7 @@
 use Rattle.layout.proofs.Rows.{settings-read}
 use borrow.Author.Needs.{needs}
-use Rattle.layout.proofs.section.settings.Statement.{statement}
-use Rattle.layout.proofs.section.settings.Tie as tie
+use Rattle.layout.proofs.settings_row.settings.Statement.{statement}
+use Rattle.layout.proofs.settings_row.settings.Tie as tie
 
 u32-at-requires : tie.Need-u32-at-requires
 u32-at-requires c κs = search needs
