@@ -23,7 +23,7 @@ use Rattle.circuit_table.specs.Told.{ToldEnds, ToldCircuits, unsoundCirc
 use Rattle.meaning.proofs.First.{first-as, at-first, at-none}
 
 module _ (file : List ℕ) {n : ℕ} {t : Section} {c : CircuitColumns} (told : ToldCircuits file n t c) where
-  abbrev from : ReadFrom (circuitAt file) noCircuit t (readable file .circuits)
+  abbrev from : ReadFrom (circuitAt file (t .size)) noCircuit t (readable file .circuits)
   from = circuits-from file (told .section)
 
   pub few : t .count ≤ 512

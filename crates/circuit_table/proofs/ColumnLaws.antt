@@ -29,7 +29,7 @@ module _ (file : List ℕ) where
         → f ≡ column (n .count) 512 (t .count) (λ i. firstNamed file n (rowAt t i + 0))
         → g ≡ column (n .count) 512 (t .count) (λ i. firstNamed file n (rowAt t i + 12))
         → x ≡ column 0 512 (t .count) (λ i. u32 file (rowAt t i + 28))
-        → l ≡ column 0 512 (t .count) (λ i. lengthIfInRange s (circuitAt file (rowAt t i)))
+        → l ≡ column 0 512 (t .count) (λ i. lengthIfInRange s (circuitAt file (t .size) (rowAt t i)))
         → k ≡ column 0 512 (t .count) (λ i. u32 file (rowAt t i + 40))
         → record { first = f; second = g; x = x; length = l; mark = k } ≡ circuitsOf S
     unfolding circuitsOf circuitAt

@@ -3,12 +3,13 @@ use mathlib.Core.Bool.{Bool, cond, _&&_}
 use Prim.Native.Nat.{ℕ, _+_, _*_}
 use lib.Dec.{leb}
 use Rattle.meaning.specs.Study.{Settings, Circuit}
-use Rattle.meaning.specs.Direction.{overheadFactor, cableFactor, expandedLength}
+use Rattle.meaning.specs.Direction.{overheadFactor, cableFactor, ownOr, expandedLength}
 
 -- 01, Quantities: both lengths and both factors up to their range's end, as in every sound table
 unfoldable pub lengthInRange : Settings → Circuit → Bool
 lengthInRange s c =
-    leb c.overhead 500000 && leb c.cable 500000 && leb (overheadFactor s c.voltage) 30000 && leb (cableFactor s c.voltage) 30000
+    leb c.overhead 500000 && leb c.cable 500000 && leb (ownOr c.factor (overheadFactor s c.voltage)) 30000
+    && leb (ownOr c.factor (cableFactor s c.voltage)) 30000
 
 -- the expanded length in mm; 0 where a length or a factor is above its range
 unfoldable pub lengthIfInRange : Settings → Circuit → ℕ

@@ -5,8 +5,8 @@ use mathlib.Core.List.{List}
 use Prim.Native.Nat.{ℕ, _+_, _≤_}
 use lib.ListN.{length}
 use Rattle.meaning.specs.declared.Section.{Section}
-use Rattle.meaning.specs.Name.{wellFormed, sameName}
-use Rattle.meaning.specs.Study.{Node, Circuit}
+use Rattle.meaning.specs.Name.{Name, wellFormed, sameName}
+use Rattle.meaning.specs.Study.{Node}
 use Rattle.meaning.specs.File.{nameAt, rowAt, circuitAt}
 use Rattle.meaning.specs.Tables.{known, soundCircuitRow}
 use Rattle.meaning.specs.Grid.{place}
@@ -15,9 +15,8 @@ use Rattle.circuit_table.specs.declared.CircuitColumns.{CircuitColumns}
 use Rattle.circuit_table.specs.Columns.{circuitsOf}
 
 -- 4, a circuit's ends: well formed, known and not equal
-abbrev pub soundEnds : List Node → Circuit → Bool
-soundEnds nodes c =
-    wellFormed c.first && wellFormed c.second && known nodes c.first && known nodes c.second && not (sameName c.first c.second)
+abbrev pub soundEnds : List Node → (first second : Name) → Bool
+soundEnds nodes first second = wellFormed first && wellFormed second && known nodes first && known nodes second && not (sameName first second)
 
 -- the ends of a circuit's row at a place, as its names have them
 pub record ToldEnds (file : List ℕ) (at n a b : ℕ) : Type 0 where
@@ -34,4 +33,4 @@ pub record ToldCircuits (file : List ℕ) (n : ℕ) (rows : Section) (c : Circui
 
 -- the circuit's row at its place is not sound
 abbrev pub unsoundCircuit : List ℕ → (rows : Section) → (i : ℕ) → Bool
-unsoundCircuit file rows i = not (soundCircuitRow (readable file .nodes) (circuitAt file (rowAt rows i)))
+unsoundCircuit file rows i = not (soundCircuitRow (readable file .nodes) (circuitAt file (rows .size) (rowAt rows i)))

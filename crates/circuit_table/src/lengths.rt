@@ -1,18 +1,22 @@
-// 01, step 4: the expanded length of a circuit, by voltage.
+// 01, step 4: the expanded length of a circuit, by its own factor or by voltage.
+use crate::factor::factor_at;
 use layout::StudySettings;
 use meaning::Section;
 ghost use mathlib.Core.Path.{_≡_};
 ghost use Prim.Native.Nat.{_≤_};
 ghost use Rattle.meaning.specs.File.{rowAt, circuitAt};
 ghost use Rattle.meaning.specs.Columns.{column};
-ghost use Rattle.meaning.specs.Direction.{overheadFactor, cableFactor};
+ghost use Rattle.meaning.specs.Direction.{overheadFactor, cableFactor, ownOr};
 ghost use Rattle.circuit_table.specs.Lengths.{expandedBy, lengthIfInRange};
 ghost use Rattle.layout.specs.Frame.{settingsIn};
 
-// The factor of overhead line; a voltage that no sound row has takes that of 132 kV.
-pub fn overhead_factor(factors: StudySettings, voltage: usize) -> usize
-    ensures { λ r. ⌜ r ≡ overheadFactor (settingsIn factors) voltage ⌝ }
+// The factor of overhead line: the row's own, or else that of its voltage. A voltage that no sound row without its own has takes that of 132 kV.
+pub fn overhead_factor(factors: StudySettings, voltage: usize, own: usize) -> usize
+    ensures { λ r. ⌜ r ≡ ownOr own (overheadFactor (settingsIn factors) voltage) ⌝ }
 {
+    if own != 0 {
+        return own;
+    }
     match voltage {
         400 => factors.overhead400,
         275 => factors.overhead275,
@@ -20,10 +24,13 @@ pub fn overhead_factor(factors: StudySettings, voltage: usize) -> usize
     }
 }
 
-// The factor of cable.
-pub fn cable_factor(factors: StudySettings, voltage: usize) -> usize
-    ensures { λ r. ⌜ r ≡ cableFactor (settingsIn factors) voltage ⌝ }
+// The factor of cable, in the same way.
+pub fn cable_factor(factors: StudySettings, voltage: usize, own: usize) -> usize
+    ensures { λ r. ⌜ r ≡ ownOr own (cableFactor (settingsIn factors) voltage) ⌝ }
 {
+    if own != 0 {
+        return own;
+    }
     match voltage {
         400 => factors.cable400,
         275 => factors.cable275,
@@ -42,26 +49,28 @@ pub fn expanded(overhead: usize, over: usize, cable: usize, under: usize) -> u64
 }
 
 // The expanded length of the circuit at a place.
-pub fn length_at(file: &[u8], at: usize, factors: StudySettings) -> u64
+pub fn length_at(file: &[u8], size: u32, at: usize, factors: StudySettings) -> u64
     requires { ⌜ at ≤ 18446744069414584320 ⌝ }
-    ensures { λ r. ⌜ r ≡ lengthIfInRange (settingsIn factors) (circuitAt (now (file .entry)) at) ⌝ }
+    ensures { λ r. ⌜ r ≡ lengthIfInRange (settingsIn factors) (circuitAt (now (file .entry)) size at) ⌝ }
 {
     let voltage = fields::u32_at(file, at + 24);
     let overhead = fields::u32_at(file, at + 32);
     let cable = fields::u32_at(file, at + 36);
-    let over = overhead_factor(factors, voltage);
-    let under = cable_factor(factors, voltage);
+    let own = factor_at(file, size, at);
+    let over = overhead_factor(factors, voltage, own);
+    let under = cable_factor(factors, voltage, own);
     expanded(overhead, over, cable, under)
 }
 
 // Expanded lengths of the circuits; nothing past the last row, and no more than 512.
 pub fn by_circuit(file: &[u8], rows: Section, factors: StudySettings) -> [u64; 512]
-    ensures { λ r. ⌜ r ≡ column 0 512 (rows .count) (λ i. lengthIfInRange (settingsIn factors) (circuitAt (now (file .entry)) (rowAt rows i))) ⌝ }
+    ensures { λ r. ⌜ r ≡ column 0 512 (rows .count) (λ i. lengthIfInRange (settingsIn factors) (circuitAt (now (file .entry)) (rows .size) (rowAt rows i))) ⌝ }
 {
+    let size = rows.size;
     let mut all = [0u64; 512];
     let mut i = 0u32;
     while (i < rows.count) & (i < 512) {
-        all[i as usize] = length_at(file, fields::row_at(rows, i), factors);
+        all[i as usize] = length_at(file, size, fields::row_at(rows, i), factors);
         i += 1;
     }
     all

@@ -1,29 +1,23 @@
 // 4: the rows of the circuits' table, their ends resolved.
 ghost use mathlib.Core.Path.{_≡_};
-ghost use mathlib.Core.Bool.{_||_};
-ghost use lib.Dec.{eqb};
-ghost use Rattle.meaning.specs.File.{u32, circuitAt};
+ghost use Prim.Native.Nat.{_+_};
+ghost use Rattle.meaning.specs.File.{nameAt, circuitAt};
 ghost use Rattle.meaning.specs.Tables.{soundCircuitRow, circuitsStage};
 ghost use Rattle.layout.specs.Readable.{readable};
 ghost use Rattle.meaning.specs.First.{IsFirst};
 ghost use Rattle.circuit_table.specs.Told.{soundEnds, ToldEnds, ToldCircuits, unsoundCircuit};
 use crate::CircuitColumns;
+use crate::factor::factor_at;
+use crate::factor::sound_factor;
+use crate::factor::sound_voltage;
 use meaning::Judgement;
 use meaning::Refusal;
 use meaning::Section;
 
-// Whether there are circuits of the voltage at a place.
-pub fn known_voltage(file: &[u8], at: usize) -> bool
-    ensures { λ r. ⌜ r ≡ (eqb (u32 (now (file .entry)) at) 132 || eqb (u32 (now (file .entry)) at) 275 || eqb (u32 (now (file .entry)) at) 400) ⌝ }
-{
-    let voltage = fields::u32_at(file, at);
-    (voltage == 132) | (voltage == 275) | (voltage == 400)
-}
-
 // Whether the ends of the row at a place are well formed, known and not the same.
 pub fn sound_ends(file: &[u8], at: usize, nodes: usize, first: usize, second: usize) -> bool
     requires { ⌜ ToldEnds (now file) at nodes first second ⌝ }
-    ensures { λ r. ⌜ r ≡ soundEnds (readable (now (file .entry)) .nodes) (circuitAt (now (file .entry)) at) ⌝ }
+    ensures { λ r. ⌜ r ≡ soundEnds (readable (now (file .entry)) .nodes) (nameAt (now (file .entry)) at) (nameAt (now (file .entry)) (at + 12)) ⌝ }
 {
     names::name_formed(file, at)
         & names::name_formed(file, at + 12)
@@ -33,12 +27,22 @@ pub fn sound_ends(file: &[u8], at: usize, nodes: usize, first: usize, second: us
 }
 
 // Whether the row at a place, with the ends that its names have, is sound.
-pub fn sound_row(file: &[u8], at: usize, nodes: usize, first: usize, second: usize) -> bool
+pub fn sound_row(
+    file: &[u8],
+    size: u32,
+    at: usize,
+    nodes: usize,
+    first: usize,
+    second: usize,
+) -> bool
     requires { ⌜ ToldEnds (now file) at nodes first second ⌝ }
-    ensures { λ r. ⌜ r ≡ soundCircuitRow (readable (now (file .entry)) .nodes) (circuitAt (now (file .entry)) at) ⌝ }
+    ensures { λ r. ⌜ r ≡ soundCircuitRow (readable (now (file .entry)) .nodes) (circuitAt (now (file .entry)) size at) ⌝ }
 {
+    let voltage = fields::u32_at(file, at + 24);
+    let own = factor_at(file, size, at);
     sound_ends(file, at, nodes, first, second)
-        & known_voltage(file, at + 24)
+        & sound_voltage(voltage)
+        & sound_factor(voltage, own)
         & fields::between(file, at + 28, 1, 10000)
         & fields::at_most(file, at + 32, 500000)
         & fields::at_most(file, at + 36, 500000)
@@ -51,11 +55,12 @@ pub fn first_unsound(file: &[u8], nodes: usize, rows: Section, columns: CircuitC
     ensures { λ r. ⌜ IsFirst (unsoundCircuit (now (file .entry)) rows) (rows .count) r ⌝ }
 {
     let count = rows.count;
+    let size = rows.size;
     let mut i = 0u32;
     while i < count {
         let first = columns.first[i as usize];
         let second = columns.second[i as usize];
-        if sound_row(file, fields::row_at(rows, i), nodes, first, second) {
+        if sound_row(file, size, fields::row_at(rows, i), nodes, first, second) {
             i += 1;
         } else {
             return i as usize;

@@ -49,7 +49,7 @@ abbrev nodeOf : String → (zone demand : ℕ) → Node
 nodeOf n zone kw = record { name = name n; generationZone = zone; demandZone = zone; demand = kw }
 
 abbrev circuitOf : String → String → (voltage metres mark : ℕ) → Circuit
-circuitOf a b v m mark = record { first = name a; second = name b; voltage = v; x = 1; overhead = m; cable = 0; localMark = mark }
+circuitOf a b v m mark = record { first = name a; second = name b; voltage = v; x = 1; overhead = m; cable = 0; localMark = mark; factor = 0 }
 
 -- the last circuit's mark, p, and the demand of each node, with stations; lengths of 4.5, 2.5 and 2.5 m
 abbrev studyWith : (mark p head mill ford weir : ℕ) → List Station → Study

@@ -1,5 +1,6 @@
--- The demands are not empty: KILN, KILN with its stations divided and listed differently and with another proposal, with an interconnector, and with other plant types.
+-- The demands are not empty: KILN, KILN with its stations divided and listed differently and with another proposal, with an interconnector, with other plant types, and as a file of version 2.
 use mathlib.Core.Path.{_≡_, refl, sym, _∙_, ap}
+use mathlib.Core.Logic.{inl}
 use mathlib.Core.List.{List, [], _∷_}
 use Prim.Native.Nat.{ℕ, zero, suc, _+_, _≤_, _<_}
 use Prim.Native.String.{String}
@@ -7,7 +8,7 @@ use native.Mathlib.Omega.{arith}
 use lib.IntN.{pos}
 use lib.ListN.{getD, replicate, set}
 use Rattle.meaning.specs.Study.{Station, Study, Runs}
-use Rattle.meaning.specs.File.{studyOf}
+use Rattle.meaning.specs.File.{u32, versionOf, studyOf, runsIn}
 use Rattle.meaning.specs.Rows.{rows}
 use Rattle.meaning.specs.declared.System.the-variants.{Base}
 use Rattle.meaning.specs.declared.Refusal.the-variants.{Unbalanced, MissesTooHigh}
@@ -17,12 +18,13 @@ use Rattle.meaning.specs.Refusals.{Stopped}
 use Rattle.meaning.specs.declared.Judgement.the-variants.{Passes}
 use Rattle.meaning.specs.declared.Answer.the-variants.{Refused}
 use Rattle.meaning.specs.Grid.{gridOf, capacityOf, nodeTec}
-use Rattle.meaning.specs.Outcome.{judged, sheetOf, settle}
+use Rattle.meaning.specs.Outcome.{judged, sheetOf, settle, prints}
 use Rattle.meaning.specs.Conditions.{InRange, Acceptable}
 use Rattle.meaning.specs.Demands
 use Rattle.meaning.specs.Demands.{IsWritten, IsRefused, Recovered, SameButStations, Parts, Rearranged, exchanged, below, then, StationsRearranged, Agree, PassesToFive, AsIn01, Balances, SameTotals}
-use Rattle.meaning.proofs.Write.{name, fileOf}
-use Rattle.meaning.proofs.Kiln.{kiln, kilnRuns, kilnBase, kilnWider, kilnLocal, kilnSettings, kilnNodes, kilnCircuits, kilnStations, kilnSheet, kiln-judged, stationOf}
+use Rattle.meaning.specs.Versions.{SayTheSame}
+use Rattle.meaning.proofs.Write.{name, fileOf, fileIn}
+use Rattle.meaning.proofs.Kiln.{kiln, kilnRuns, kilnBase, kilnWider, kilnLocal, kilnSettings, kilnNodes, kilnCircuits, kilnStations, kilnStudy, kilnSheet, kiln-judged, circuitOf, stationOf}
 use Rattle.meaning.proofs.Links.{half}
 use Rattle.meaning.proofs.Opened.{opened}
 use Rattle.meaning.proofs.Rows.{rows-at}
@@ -30,7 +32,7 @@ use Rattle.meaning.proofs.Whole.{judge-file}
 use Rattle.meaning.proofs.Tables.{judge-rows}
 use Rattle.meaning.proofs.Judged.{judged-pass}
 use Rattle.claims.proofs.Stations.{rearranged}
-use Rattle.claims.proofs.Theorems.{accepted-exactly-when, refused-exactly-when, one-answer, revenue-recovered, centre-balances, solvers-agree, stations-hidden, no-interconnector-no-change, types-hidden}
+use Rattle.claims.proofs.Theorems.{accepted-exactly-when, refused-exactly-when, one-answer, revenue-recovered, centre-balances, solvers-agree, stations-hidden, no-interconnector-no-change, types-hidden, one-sheet-in-either-version, new-voltages-in-version-two}
 
 -- ---- KILN is acceptable, and settled in either way
 kiln-acceptable : Acceptable kiln kilnRuns
@@ -200,3 +202,53 @@ retyped-totals = record { settings = refl; nodes = refl; circuits = refl; tec = 
 
 retyped-sheet : sheetOf kiln kilnRuns ≡ sheetOf retyped kilnRuns
 retyped-sheet = types-hidden kiln retyped kilnRuns retyped-totals .sheets
+
+-- ---- KILN as a version 2 file says what KILN says, and is settled as KILN is; a case with a link at 320 is accepted, in version 2
+abbrev kilnTwo : List ℕ
+kilnTwo = fileIn 2 kilnStudy kilnRuns
+
+two-judged : judged kilnTwo kilnRuns ≡ Passes
+unfolding opened
+two-judged = refl
+
+own-runs : (runsIn kiln ≡ kilnRuns) × (runsIn kilnTwo ≡ kilnRuns)
+unfolding opened
+own-runs = (refl, refl)
+
+say-the-same : SayTheSame kiln kilnTwo
+unfolding opened
+say-the-same = record {
+  whole = rw (own-runs .0) (kiln-acceptable .whole);
+  otherWhole = rw (own-runs .1) (judged-pass kilnTwo kilnRuns .0 two-judged .whole);
+  settings = refl;
+  nodes = refl;
+  circuits = refl;
+  stations = refl;
+}
+
+two-versions : (versionOf kiln ≡ 1) × (versionOf kilnTwo ≡ 2) × (settle kiln kilnRuns (replicate 200 7) ≡ settle kilnTwo kilnRuns (replicate 200 7)) × (prints kiln ≡ prints kilnTwo)
+unfolding versionOf u32
+two-versions =
+    let one = one-sheet-in-either-version kiln kilnTwo say-the-same in
+    (refl, refl, one .settled kilnRuns (replicate 200 7), one .printed (own-runs .0 ∙ sym (own-runs .1)))
+
+abbrev subsea : List ℕ
+subsea =
+    fileIn 2
+    (record {
+      settings = kilnSettings;
+      nodes = kilnNodes;
+      circuits = circuitOf "NODA" "NODB" 100 10000 ∷ circuitOf "NODB" "NODC" 100 20000
+          ∷ record { first = name "NODA"; second = name "NODC"; voltage = 320; x = 200; overhead = 0; cable = 17000; localMark = 0; factor = 2000 }
+          ∷ [];
+      stations = kilnStations;
+    })
+    kilnRuns
+
+subsea-judged : judged subsea kilnRuns ≡ Passes
+unfolding opened
+subsea-judged = refl
+
+subsea-version : versionOf subsea ≡ 2
+unfolding opened
+subsea-version = new-voltages-in-version-two subsea kilnRuns (judged-pass subsea kilnRuns .0 subsea-judged) 2 (omega arith) (inl refl)

@@ -1,7 +1,9 @@
--- The user's demands, proved: each statement is a type of meaning/specs/Demands.antt or, for request 2, Mirror.antt, and its proof is in the file named here.
+-- The user's demands, proved: each statement is a type of meaning/specs/Demands.antt or, for requests 2 and 3, Mirror.antt and Versions.antt, and its proof is in the file named here.
 use Rattle.meaning.specs.Demands.{EveryInputSettled, AcceptedExactlyWhen, RefusedExactlyWhen, OneAnswer, JudgeIsWrite, RevenueRecovered, CentreBalances, SolversAgree, StationsHidden, CapacityKept, SheetsFit, AllButInterconnectorsPay, NoInterconnectorNoChange, TypesHidden}
 use Rattle.meaning.specs.Mirror.{NearestMirrors, OnlyNegativeHalvesMove, FiguresMove, AveragesMirror, ZonesMirror, PrintedMirror, SidesMirror, MoneyMirrors}
+use Rattle.meaning.specs.Versions.{OneSheetInEitherVersion, VersionOneByVoltage, NewVoltagesInVersionTwo, OwnFactorForBothLengths, NoFactorNoChange}
 use Rattle.meaning.proofs.Mirror as Mirror
+use Rattle.meaning.proofs.Versions as Versions
 use Rattle.sizes.proofs.Accepted as Sizes
 use Rattle.claims.proofs.Accepted
 use Rattle.claims.proofs.Recovered
@@ -99,3 +101,23 @@ sides-mirror = Mirror.sides-mirror
 -- and with the same revenue and no local income residuals, totals and remainders too: all of the sheet but its `L` lines
 pub money-mirrors : MoneyMirrors
 money-mirrors = Mirror.money-mirrors
+
+-- 02, request 3: whole files that say the same, of either version, are settled, judged and printed alike, refusals included
+pub one-sheet-in-either-version : OneSheetInEitherVersion
+one-sheet-in-either-version = Versions.one-sheet-in-either-version
+
+-- a file of version 1 has no factor but 0, whatever stands behind its rows
+pub version-one-by-voltage : VersionOneByVoltage
+version-one-by-voltage = Versions.version-one-by-voltage
+
+-- so circuits at 320 and 525 are accepted in version 2 alone
+pub new-voltages-in-version-two : NewVoltagesInVersionTwo
+new-voltages-in-version-two = Versions.new-voltages-in-version-two
+
+-- a factor of its own is for both lengths of a row, and in place of the voltage's
+pub own-factor-for-both-lengths : OwnFactorForBothLengths
+own-factor-for-both-lengths = Versions.own-factor-for-both-lengths
+
+-- and a row without one has 01's length
+pub no-factor-no-change : NoFactorNoChange
+no-factor-no-change = Versions.no-factor-no-change

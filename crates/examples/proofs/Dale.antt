@@ -6,12 +6,12 @@ use mathlib.Core.Path.{_≡_, refl}
 use mathlib.Core.List.{List, [], _∷_, _++_}
 use Prim.Native.Nat.{ℕ, _*_}
 use Prim.Native.String.{String}
-use lib.IntN.{ℤ, pos, negℤ, _+ℤ_, _-ℤ_}
+use lib.IntN.{ℤ, pos, negℤ, _+ℤ_}
 use lib.ListN.{length}
 use Rattle.meaning.specs.Rows.{rows}
 use Rattle.meaning.specs.Text.{text}
 use Rattle.meaning.specs.Study.{Settings, Node, Circuit, Station, Study, Runs}
-use Rattle.meaning.specs.File.{studyOf, runsIn}
+use Rattle.meaning.specs.File.{runsIn}
 use Rattle.meaning.specs.Scaled.{missing, scaled}
 use Rattle.meaning.specs.Grid.{gridOf, nodeTec, totalDemand}
 use Rattle.meaning.specs.Direction.{direction}
@@ -20,7 +20,7 @@ use Rattle.meaning.specs.declared.Direction.the-variants.{Idle, Forward, Backwa
 use Rattle.meaning.specs.declared.Judgement.the-variants.{Passes}
 use Rattle.meaning.specs.declared.Side.the-variants.{Generation, Demand}
 use Rattle.meaning.specs.Systems.{baseFlow}
-use Rattle.meaning.specs.Outcome.{judged, sheetOf, prints}
+use Rattle.meaning.specs.Outcome.{judged, prints}
 use Rattle.meaning.specs.Read.{sideIncome, printedRemainder}
 use Rattle.meaning.proofs.Write.{name, fileOf}
 use Rattle.meaning.proofs.Opened.{opened}
@@ -48,7 +48,7 @@ abbrev nodeOf : String → (generationZone demandZone demand : ℕ) → Node
 nodeOf n g d kw = record { name = name n; generationZone = g; demandZone = d; demand = kw }
 
 abbrev circuitOf : String → String → (voltage x overhead cable mark : ℕ) → Circuit
-circuitOf a b v x o c m = record { first = name a; second = name b; voltage = v; x = x; overhead = o; cable = c; localMark = m }
+circuitOf a b v x o c m = record { first = name a; second = name b; voltage = v; x = x; overhead = o; cable = c; localMark = m; factor = 0 }
 
 abbrev stationOf : String → String → (plantType tec : ℕ) → Station
 stationOf i n t kw = record { identifier = name i; node = name n; plantType = t; tec = kw }

@@ -1,11 +1,10 @@
 -- Damaged forms of KILN, and what stops each, in the order of 01's table; 10 and 11 are in meaning/proofs/Small.antt, 12 in meaning/proofs/Kiln.antt.
 use mathlib.Core.Path.{_≡_, refl}
 use mathlib.Core.List.{List, [], _∷_, _++_}
-use Prim.Native.Nat.{ℕ}
 use lib.IntN.{ℤ, pos, negℤ}
 use lib.ListN.{take, drop, set, replicate}
 use Rattle.meaning.specs.Text.{text}
-use Rattle.meaning.specs.Study.{Settings, Node, Circuit, Station, Study, Runs}
+use Rattle.meaning.specs.Study.{Node, Circuit, Station, Study, Runs}
 use Rattle.meaning.specs.declared.System.the-variants.{Base, Local}
 use Rattle.meaning.specs.declared.Judgement.{Judgement}
 use Rattle.meaning.specs.declared.Judgement.the-variants.{Stops}
@@ -24,7 +23,7 @@ abbrev withRuns : (b w l : List ℤ) → Judgement
 withRuns b w l = judged kiln (record { base = b; wider = w; local = l })
 
 -- 1: a byte short, a byte too many, the version (byte 532), a run too short
-not-whole : judged (take 539 kiln) kilnRuns ∷ judged (kiln ++ (0 ∷ [])) kilnRuns ∷ judged (set kiln 532 2) kilnRuns
+not-whole : judged (take 539 kiln) kilnRuns ∷ judged (kiln ++ (0 ∷ [])) kilnRuns ∷ judged (set kiln 532 3) kilnRuns
     ∷ withRuns kilnBase (take 5 kilnWider) kilnLocal ∷ []
     ≡ Stops BadFile ∷ Stops BadFile ∷ Stops BadFile ∷ Stops BadFile ∷ []
 unfolding opened

@@ -6,3 +6,5 @@ pub mod Dale
 pub mod Limits
 -- interconnectors: what they bring in, and 13 in its place
 pub mod Links
+-- version 2 files: circuits with a factor of their own, and what 1 and 4 refuse
+pub mod Subsea

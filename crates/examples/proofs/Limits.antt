@@ -21,7 +21,7 @@ use Rattle.meaning.proofs.Kiln.{nodeOf, stationOf}
 use Rattle.meaning.proofs.Opened.{opened}
 
 abbrev circuitOf : String → String → (voltage x overhead mark : ℕ) → Circuit
-circuitOf a b v x o m = record { first = name a; second = name b; voltage = v; x = x; overhead = o; cable = 0; localMark = m }
+circuitOf a b v x o m = record { first = name a; second = name b; voltage = v; x = x; overhead = o; cable = 0; localMark = m; factor = 0 }
 
 -- the network with its reference and its six circuits; each total is 100,000,000 kW, and every setting of money at its highest
 abbrev studyOf : (reference : ℕ) → List Circuit → Study

@@ -2,13 +2,13 @@
 use mathlib.Core.Path.{_≡_, refl}
 use mathlib.Core.List.{List, [], _∷_}
 use Prim.Native.Nat.{ℕ}
-use lib.IntN.{ℤ, pos, negℤ}
+use lib.IntN.{ℤ, pos}
 use lib.ListN.{set, replicate}
 use Rattle.meaning.specs.Study.{Settings, Node, Circuit, Station, Runs}
 use Rattle.meaning.specs.declared.System.the-variants.{Base, Wider, Local}
 use Rattle.meaning.specs.declared.Refusal.the-variants.{BadFile, BadSetting, BadNode, BadCircuit, BadStation, Unreached, BadTotal, BadNumber, Unbalanced, MissesTooHigh, ShortBuffer, NoChargeableTec}
 use Rattle.meaning.specs.declared.Answer.{Answer}
-use Rattle.meaning.specs.declared.Answer.the-variants.{Accepted, Refused}
+use Rattle.meaning.specs.declared.Answer.the-variants.{Refused}
 use Rattle.meaning.specs.Outcome.{settle}
 use Rattle.meaning.proofs.Write.{fileOf}
 use Rattle.meaning.proofs.Opened.{opened}
@@ -99,9 +99,9 @@ answer settings nodes circuits stations b w l =
 abbrev inFive : (b w l : List ℤ) → Answer
 inFive b w l = answer kilnSettings kilnNodes kilnCircuits kilnStations b w l
 
--- the same with version 2 (byte 532)
+-- the same with version 3 (byte 532)
 version : (let runs : Runs = record { base = base₈; wider = wider₈; local = local₈ } in
-    settle (set (fileOf (record { settings = lostReference; nodes = nameless; circuits = unknownEnd; stations = repeated }) runs) 532 2) runs (replicate 5 7) .answer)
+    settle (set (fileOf (record { settings = lostReference; nodes = nameless; circuits = unknownEnd; stations = repeated }) runs) 532 3) runs (replicate 5 7) .answer)
     ≡ Refused BadFile
 unfolding opened
 version = refl

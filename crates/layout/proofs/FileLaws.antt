@@ -1,19 +1,19 @@
 -- A file's tests as propositions; a whole file is one as the conditions say it, with the runs that stand in it.
-use mathlib.Core.Path.{_≡_, refl, sym, _∙_}
-use mathlib.Core.Logic.{_⊎_, inl, inr}
+use mathlib.Core.Path.{_≡_, refl, sym}
+use mathlib.Core.Logic.{_⊎_}
 use mathlib.Core.List.{List}
-use mathlib.Core.Bool.{Bool, true, false, _&&_}
+use mathlib.Core.Bool.{Bool, true, false, cond, _&&_}
 use Prim.Native.Nat.{ℕ, zero, suc, _+_, _*_, _-_, _≤_, _<_, _^_}
 use native.Mathlib.Nat.{mul-le-mul}
 use native.Mathlib.Omega.{arith}
 use lib.Dec.{eqb, leb}
 use lib.ListN.{length}
-use Rattle.meaning.specs.Rows.{_between_and_, all, rows}
-use Rattle.meaning.specs.File.{u32, sections, trailerSize, recordSize, versionOf, statedLength, sectionCount, sectionOffset, sectionStart, section, counted, chained, fileWhole, runIn, runsIn}
+use Rattle.meaning.specs.Rows.{_between_and_, all}
+use Rattle.meaning.specs.File.{u32, sections, trailerSize, circuitSize, recordSize, mostCircuits, versionOf, statedLength, sectionCount, sectionOffset, sectionStart, section, counted, chained, fileWhole, runIn, runsIn}
 use Rattle.meaning.specs.Study.{Runs}
 use Rattle.meaning.specs.Conditions.{InRange, WholeFile}
-use Rattle.meaning.proofs.Rows.{length-rows, below-suc}
-use Rattle.meaning.proofs.Says.{Says, says-as, _also_, says-le, says-eq, says-between, says-all}
+use Rattle.meaning.proofs.Rows.{length-rows}
+use Rattle.meaning.proofs.Says.{Says, says-as, _also_, says-le, says-eq, says-between, says-either, says-all}
 
 -- a test that is what it should be
 pub is-true : {b : Bool} {P : Type 0} → Says b P → P → true ≡ b
@@ -40,7 +40,7 @@ module _ (file : List ℕ) where
   pub record Counted : Type 0 where
     pub oneSettings : sectionCount file 0 ≡ 1
     pub nodes : InRange (sectionCount file 1) 1 256
-    pub circuits : sectionCount file 2 ≤ 512
+    pub circuits : sectionCount file 2 ≤ mostCircuits (versionOf file)
     pub stations : sectionCount file 3 ≤ 512
     pub base : sectionCount file 4 ≡ sectionCount file 1 + sectionCount file 2
     pub wider : sectionCount file 5 ≡ sectionCount file 1 + sectionCount file 2
@@ -73,13 +73,13 @@ module _ (file : List ℕ) where
       )
 
   -- the numbers of the trailer, tested one by one
-  pub counted-is : (one nodes circuits stations base wider local : ℕ) → one ≡ sectionCount file 0 → nodes ≡ sectionCount file 1 → circuits ≡ sectionCount file 2
-      → stations ≡ sectionCount file 3 → base ≡ sectionCount file 4 → wider ≡ sectionCount file 5 → local ≡ sectionCount file 6
-      → (eqb one 1 && (leb 1 nodes && leb nodes 256) && leb circuits 512 && leb stations 512
+  pub counted-is : (one nodes circuits most stations base wider local : ℕ) → one ≡ sectionCount file 0 → nodes ≡ sectionCount file 1 → circuits ≡ sectionCount file 2
+      → most ≡ mostCircuits (versionOf file) → stations ≡ sectionCount file 3 → base ≡ sectionCount file 4 → wider ≡ sectionCount file 5 → local ≡ sectionCount file 6
+      → (eqb one 1 && (leb 1 nodes && leb nodes 256) && leb circuits most && leb stations 512
       && (eqb base (nodes + circuits) && eqb wider (nodes + circuits) && eqb local (nodes + circuits)))
       ≡ counted file
   unfolding counted _between_and_ all
-  counted-is one nodes circuits stations base wider local o n c k b w l = rw (o, n, c, k, b, w, l) refl
+  counted-is one nodes circuits most stations base wider local o n c m k b w l = rw (o, n, c, m, k, b, w, l) refl
 
   pub says-chained : Says (chained file) Chained
   unfolding chained
@@ -87,7 +87,7 @@ module _ (file : List ℕ) where
 
   pub record FileParts : Type 0 where
     pub long : 128 ≤ length file
-    pub version : versionOf file ≡ 1
+    pub version : (versionOf file ≡ 1) ⊎ (versionOf file ≡ 2)
     pub fileLength : statedLength file ≡ length file
     pub counts : Counted
     pub sections : Chained
@@ -96,7 +96,7 @@ module _ (file : List ℕ) where
   pub says-file : Says (fileWhole file) FileParts
   unfolding fileWhole
   says-file =
-      says-as (says-le also says-eq also says-eq also says-counted also says-chained also says-eq) (
+      says-as (says-le also says-either also says-eq also says-counted also says-chained also says-eq) (
         λ t. record {
           long = t .0 .0 .0 .0 .0;
           version = t .0 .0 .0 .0 .1;
@@ -111,8 +111,8 @@ module _ (file : List ℕ) where
   -- of a file that is long enough, what is left to test
   pub whole-rest : (version end word : ℕ) (counts sections : Bool) → 128 ≤ length file → version ≡ versionOf file → end ≡ statedLength file
       → counts ≡ counted file → sections ≡ chained file → word ≡ u32 file 52
-      → (eqb version 1 && eqb end (length file) && counts && sections && eqb word 0) ≡ fileWhole file
-  unfolding fileWhole
+      → ((leb 1 version && leb version 2) && eqb end (length file) && counts && sections && eqb word 0) ≡ fileWhole file
+  unfolding fileWhole _between_and_
   whole-rest version end word counts sections h v l c s z =
       let e : leb 128 (length file) ≡ true = says-le .1 h in
       rw (v, l, c, s, z, e) refl
@@ -167,30 +167,38 @@ module _ (file : List ℕ) where
   unfolding sectionStart
   start-zero = refl
 
-  pub start-more : (k : ℕ) → sectionStart file (k + 1) ≡ sectionStart file k + recordSize k * sectionCount file k
+  pub start-more : (k : ℕ) → sectionStart file (k + 1) ≡ sectionStart file k + recordSize (versionOf file) k * sectionCount file k
   unfolding sectionStart
   start-more k = let e : k + 1 ≡ suc k = omega arith in rw e refl
 
-pub record-small : (k : ℕ) → recordSize k ≤ 64
+circuit-small : (v : ℕ) → circuitSize v ≤ 64
+unfolding circuitSize
+circuit-small v = go (eqb v 2)
+  where
+    go : (b : Bool) → cond b 48 44 ≤ 64
+    go true = omega arith
+    go false = omega arith
+
+pub record-small : (v k : ℕ) → recordSize v k ≤ 64
 unfolding recordSize
-record-small zero = omega arith
-record-small (suc zero) = omega arith
-record-small (suc (suc zero)) = omega arith
-record-small (suc (suc (suc zero))) = omega arith
-record-small (suc (suc (suc (suc zero)))) = omega arith
-record-small (suc (suc (suc (suc (suc zero))))) = omega arith
-record-small (suc (suc (suc (suc (suc (suc zero)))))) = omega arith
-record-small (suc (suc (suc (suc (suc (suc (suc k))))))) = omega arith
+record-small v zero = omega arith
+record-small v (suc zero) = omega arith
+record-small v (suc (suc zero)) = circuit-small v
+record-small v (suc (suc (suc zero))) = omega arith
+record-small v (suc (suc (suc (suc zero)))) = omega arith
+record-small v (suc (suc (suc (suc (suc zero))))) = omega arith
+record-small v (suc (suc (suc (suc (suc (suc zero)))))) = omega arith
+record-small v (suc (suc (suc (suc (suc (suc (suc k))))))) = omega arith
 
 -- a section as the trailer has it: it starts at its offset
-pub section-told : (file : List ℕ) (s offset size count : ℕ) → fileWhole file ≡ true → s < sections → offset ≡ sectionOffset file s → size ≡ recordSize s → count ≡ sectionCount file s
+pub section-told : (file : List ℕ) (s offset size count : ℕ) → fileWhole file ≡ true → s < sections → offset ≡ sectionOffset file s → size ≡ recordSize (versionOf file) s → count ≡ sectionCount file s
     → record { start = offset; size = size; count = count } ≡ section file s
 unfolding section
 section-told file s offset size count e h o z n = rw (o, z, n, says-file file .0 e .sections .chain s h) refl
 
-pub solution-size : (k : ℕ) → 3 < k → k < 7 → 8 ≡ recordSize k
+pub solution-size : (v k : ℕ) → 3 < k → k < 7 → 8 ≡ recordSize v k
 unfolding recordSize
-solution-size k h l = rw (four k h) at (three (λ j. 8 ≡ recordSize (4 + j)) refl refl refl (k - 4) (omega arith))
+solution-size v k h l = rw (four k h) at (three (λ j. 8 ≡ recordSize v (4 + j)) refl refl refl (k - 4) (omega arith))
 
 -- after k turns: whether the first k sections follow one another, and where the next begins
 pub record ChainedTo (file : List ℕ) (k : ℕ) (follow : Bool) (start : ℕ) : Type 0 where
@@ -200,8 +208,8 @@ pub record ChainedTo (file : List ℕ) (k : ℕ) (follow : Bool) (start : ℕ) :
   pub so-far : follow ≡ all (λ s. eqb (sectionOffset file s) (sectionStart file s)) k
 
 -- a section's size, so that the next start fits 64 bits
-pub size-low : (k : ℕ) {size count : ℕ} → size ≡ recordSize k → count < 2 ^ 32 → size * count ≤ 274877906944
-size-low k e h = mul-le-mul {n₂ = 64} {m₂ = 4294967296} (rw e (record-small k)) (omega arith)
+pub size-low : (v k : ℕ) {size count : ℕ} → size ≡ recordSize v k → count < 2 ^ 32 → size * count ≤ 274877906944
+size-low v k e h = mul-le-mul {n₂ = 64} {m₂ = 4294967296} (rw e (record-small v k)) (omega arith)
 
 module _ {file : List ℕ} where
   pub chained-none : ChainedTo file 0 true 0
@@ -209,14 +217,14 @@ module _ {file : List ℕ} where
   chained-none = record { within = omega arith; here = sym (start-zero file); low = omega arith; so-far = refl }
 
   pub chained-on : {k start offset size count : ℕ} {follow : Bool} → ChainedTo file k follow start → k < 7 → offset ≡ sectionOffset file k
-      → size ≡ recordSize k → count ≡ sectionCount file k → count < 2 ^ 32 → ChainedTo file (k + 1) (follow && eqb offset start) (start + size * count)
+      → size ≡ recordSize (versionOf file) k → count ≡ sectionCount file k → count < 2 ^ 32 → ChainedTo file (k + 1) (follow && eqb offset start) (start + size * count)
   unfolding all
   chained-on {k} t h o s n l =
       let e : k + 1 ≡ suc k = omega arith in
       record {
         within = omega arith;
         here = rw (t .here, s, n) (sym (start-more file k));
-        low = omega (arith, t .low, size-low k s l);
+        low = omega (arith, t .low, size-low (versionOf file) k s l);
         so-far = rw (e, o, t .here, t .so-far) refl;
       }
 

@@ -1,5 +1,5 @@
 -- What a readable file says, row by row: each row is read at its place in the file.
-use mathlib.Core.Path.{_≡_, refl, sym, _∙_, ap}
+use mathlib.Core.Path.{_≡_, refl}
 use mathlib.Core.List.{List}
 use mathlib.Core.Bool.{Bool, true, false, cond, _&&_}
 use Prim.Native.Nat.{ℕ, _+_, _≤_, _<_}
@@ -13,7 +13,7 @@ use Rattle.meaning.specs.Study.{Settings, Study, noNode, noCircuit, noStation}
 use Rattle.meaning.specs.File.{u32, u64, sections, recordSize, sectionCount, section, rowAt, table, settingsAt, nodeAt, circuitAt, stationAt, fileWhole, studyOf, runsIn}
 use Rattle.meaning.proofs.Rows.{length-rows}
 use Rattle.meaning.proofs.Says.{_also_, says-lt, says-true}
-use Rattle.meaning.proofs.Frame.{ReadFrom, table-read, row-inside}
+use Rattle.meaning.proofs.Frame.{ReadFrom, table-read, row-inside, circuits-most}
 use Rattle.layout.proofs.FileLaws.{whole-file, start-zero}
 use Rattle.layout.specs.Readable.{noStudy, readable, noSection, sectionIn}
 use Rattle.layout.specs.Frame.{countsOf, settingsIn}
@@ -129,11 +129,11 @@ module _ (file : List ℕ) where
       go true = refl
       go false = refl
 
-  circuits-read : S .circuits ≡ table (circuitAt file) (sectionIn file 2)
+  circuits-read : S .circuits ≡ table (circuitAt file (sectionIn file 2 .size)) (sectionIn file 2)
   unfolding readable studyOf noStudy sectionIn rows
   circuits-read = go (fileWhole file)
     where
-      go : (b : Bool) → cond b (studyOf file) noStudy .circuits ≡ table (circuitAt file) (cond b (section file 2) noSection)
+      go : (b : Bool) → cond b (studyOf file) noStudy .circuits ≡ table (circuitAt file (cond b (section file 2) noSection .size)) (cond b (section file 2) noSection)
       go true = refl
       go false = refl
 
@@ -148,7 +148,7 @@ module _ (file : List ℕ) where
   pub nodes-from : {t : Section} → t ≡ sectionIn file 1 → ReadFrom (nodeAt file) noNode t (S .nodes)
   nodes-from e = rw (e, nodes-read) table-read
 
-  pub circuits-from : {t : Section} → t ≡ sectionIn file 2 → ReadFrom (circuitAt file) noCircuit t (S .circuits)
+  pub circuits-from : {t : Section} → t ≡ sectionIn file 2 → ReadFrom (circuitAt file (t .size)) noCircuit t (S .circuits)
   circuits-from e = rw (e, circuits-read) table-read
 
   pub stations-from : {t : Section} → t ≡ sectionIn file 3 → ReadFrom (stationAt file) noStation t (S .stations)
@@ -160,7 +160,7 @@ module _ (file : List ℕ) where
 
   pub circuits-few : {t : Section} → t ≡ sectionIn file 2 → t .count ≤ 512
   unfolding section
-  circuits-few e = rw e (either-section (λ t. t .count ≤ 512) 2 (λ h e. whole-file file e .circuits) (omega arith))
+  circuits-few e = rw e (either-section (λ t. t .count ≤ 512) 2 (λ h e. circuits-most file (runsIn file) (whole-file file e)) (omega arith))
 
   pub stations-few : {t : Section} → t ≡ sectionIn file 3 → t .count ≤ 512
   unfolding section
@@ -171,7 +171,7 @@ module _ (file : List ℕ) where
   unfolding section
   solution-few k e = rw e (either-section (λ t. t .count ≤ 768) (4 + k)
       (λ h e. let w = whole-file file e in
-      omega (arith, w .solutions (4 + k) (record { least = omega arith; most = omega arith }), w .nodes .most, w .circuits)) (omega arith))
+      omega (arith, w .solutions (4 + k) (record { least = omega arith; most = omega arith }), w .nodes .most, circuits-most file (runsIn file) w)) (omega arith))
 
   -- ---- what the loops over the rows ask
   pub few : {r : RowCounts} → r ≡ countsOf (readable file) → Few r

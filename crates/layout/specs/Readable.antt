@@ -4,7 +4,7 @@ use mathlib.Core.List.{List, []}
 use Prim.Native.Nat.{ℕ}
 use lib.Dec.{ltb}
 use Rattle.meaning.specs.declared.Section.{Section}
-use Rattle.meaning.specs.Study.{Settings, Study}
+use Rattle.meaning.specs.Study.{Study}
 use Rattle.meaning.specs.File.{sections, section, fileWhole, studyOf}
 
 -- a study without rows, all settings 0

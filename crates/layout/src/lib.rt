@@ -53,7 +53,8 @@ pub fn whole(file: &[u8]) -> bool
     if file.len() < 128 {
         return false;
     }
-    (fields::u32_at(file, file.len() - 8) == 1)
+    let version = trailer::version(file);
+    ((1 <= version) & (version <= 2))
         & (fields::u32_at(file, file.len() - 4) == file.len())
         & trailer::counted(file)
         & trailer::chained(file)

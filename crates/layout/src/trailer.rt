@@ -4,7 +4,7 @@ ghost use mathlib.Core.Path.{_≡_};
 ghost use mathlib.Core.Bool.{true};
 ghost use Prim.Native.Nat.{_≤_, _<_, _^_};
 ghost use lib.ListN.{length};
-ghost use Rattle.meaning.specs.File.{recordSize, sectionOffset, sectionCount, section, counted, chained, fileWhole, studyOf};
+ghost use Rattle.meaning.specs.File.{circuitSize, recordSize, mostCircuits, versionOf, sectionOffset, sectionCount, section, counted, chained, fileWhole, studyOf};
 ghost use Rattle.layout.specs.Frame.{countsOf};
 use meaning::Section;
 
@@ -13,15 +13,43 @@ pub const SECTIONS: usize = 7;
 
 const TRAILER: usize = 64;
 
+// The version, in the file's last 8 bytes.
+pub fn version(file: &[u8]) -> usize
+    requires { ⌜ 8 ≤ length (now file) ⌝ }
+    ensures { λ r. ⌜ r ≡ versionOf (now (file .entry)) ⌝ }
+{
+    fields::u32_at(file, file.len() - 8)
+}
+
+// The bytes of a circuit's record.
+fn circuit_size(version: usize) -> usize
+    ensures { λ r. ⌜ r ≡ circuitSize version ⌝ }
+{
+    match version {
+        2 => 48,
+        _ => 44,
+    }
+}
+
+// The most circuits that a file holds.
+fn most_circuits(version: usize) -> usize
+    ensures { λ r. ⌜ r ≡ mostCircuits version ⌝ }
+{
+    match version {
+        2 => 480,
+        _ => 512,
+    }
+}
+
 // The bytes of a section's record.
-pub fn record_size(section: usize) -> usize
+pub fn record_size(version: usize, section: usize) -> usize
     requires { ⌜ section < 7 ⌝ }
-    ensures { λ r. ⌜ r ≡ recordSize section ⌝ }
+    ensures { λ r. ⌜ r ≡ recordSize version section ⌝ }
 {
     match section {
         0 => 64,
         1 => 24,
-        2 => 44,
+        2 => circuit_size(version),
         3 => 32,
         _ => 8,
     }
@@ -53,7 +81,7 @@ pub fn counted(file: &[u8]) -> bool
     let numbers = nodes + circuits;
     (count(file, 0) == 1)
         & ((1 <= nodes) & (nodes <= 256))
-        & (circuits <= 512)
+        & (circuits <= most_circuits(version(file)))
         & (count(file, 3) <= 512)
         & ((count(file, 4) == numbers) & (count(file, 5) == numbers) & (count(file, 6) == numbers))
 }
@@ -63,12 +91,13 @@ pub fn chained(file: &[u8]) -> bool
     requires { ⌜ 64 ≤ length (now file) ⌝ }
     ensures { λ r. ⌜ r ≡ chained (now (file .entry)) ⌝ }
 {
+    let version = version(file);
     let mut follow = true;
     let mut start = 0;
     let mut section = 0;
     while section < SECTIONS {
         follow = follow & (offset(file, section) == start);
-        start += record_size(section) * count(file, section);
+        start += record_size(version, section) * count(file, section);
         section += 1;
     }
     follow & (start + TRAILER == file.len())
@@ -93,7 +122,7 @@ pub fn section(file: &[u8], number: usize) -> Section
 {
     Section {
         start: offset(file, number) as u32,
-        size: record_size(number) as u32,
+        size: record_size(version(file), number) as u32,
         count: count(file, number) as u32,
     }
 }

@@ -1,16 +1,18 @@
 -- The frame of a file: where rows lie, and that those of a whole file lie inside it. Products of a record's size and a row's number are settled here alone.
 use mathlib.Core.Path.{_≡_, refl, sym, ap}
 use mathlib.Core.Logic.{_⊎_, inl, inr}
+use mathlib.Core.Bool.{Bool, true, false, cond}
 use mathlib.Core.List.{List}
 use Prim.Native.Nat.{ℕ, zero, suc, _+_, _*_, _≤_, _<_, _^_}
 use native.Mathlib.Nat.{mul-le-mul}
 use native.Mathlib.Omega.{arith}
+use lib.Dec.{eqb}
 use lib.ListN.{length, getD}
 use Rattle.meaning.specs.declared.Section.{Section}
 use Rattle.meaning.specs.Rows.{rows}
 use Rattle.meaning.specs.Columns.{column}
 use Rattle.meaning.specs.Study.{Runs}
-use Rattle.meaning.specs.File.{sections, trailerSize, recordSize, sectionCount, sectionStart, section, rowAt, table, studyOf}
+use Rattle.meaning.specs.File.{sections, circuitSize, recordSize, mostCircuits, versionOf, sectionCount, sectionStart, section, rowAt, table, studyOf}
 use Rattle.meaning.specs.Conditions.{WholeFile, InRange}
 use Rattle.meaning.proofs.Rows.{below-suc, rows-at, length-rows}
 use Rattle.meaning.proofs.Columns.{column-table}
@@ -61,6 +63,15 @@ module _ (file : List ℕ) where
       go rise (inl l) = omega (arith, rise (omega arith))
       go rise (inr e) = rw e (omega arith)
 
+-- however many circuits a version holds
+most-low : (version : ℕ) → mostCircuits version ≤ 512
+unfolding mostCircuits
+most-low version = go (eqb version 2)
+  where
+    go : (b : Bool) → cond b 480 512 ≤ 512
+    go true = omega arith
+    go false = omega arith
+
 -- ---- a whole file
 module _ (file : List ℕ) (runs : Runs) (whole : WholeFile file runs) where
   pub section-inside : (s : ℕ) → s < sections → rowAt (section file s) (section file s .count) ≤ length file
@@ -69,15 +80,27 @@ module _ (file : List ℕ) (runs : Runs) (whole : WholeFile file runs) where
   pub row-inside : (s i : ℕ) → s < sections → i < section file s .count → rowAt (section file s) i + section file s .size ≤ length file
   row-inside s i h l = omega (arith, row-ends (section file s) i (section file s .count) l, section-inside s h)
 
+  pub circuits-most : sectionCount file 2 ≤ 512
+  circuits-most = omega (arith, whole .circuits, most-low (versionOf file))
+
   -- "count is nodes plus circuits": 4 base, 5 wider, 6 local
   solution-count : (k : ℕ) → k < 3 → sectionCount file (4 + k) ≡ sectionCount file 1 + sectionCount file 2
   solution-count k h = whole .solutions (4 + k) (record { least = omega arith; most = omega arith })
 
-  -- 256 nodes, 512 circuits and 512 stations make the longest file
+  -- 256 nodes, 512 circuits of version 1 and 512 stations make the longest file; version 2 has at most 63,360 bytes
   pub file-short : length file ≤ 63616
-  unfolding sectionStart recordSize
-  file-short =
-      omega (arith, whole .end, whole .oneSettings, whole .nodes .most, whole .circuits, whole .stations, solution-count 0 (omega arith), solution-count 1 (omega arith), solution-count 2 (omega arith))
+  unfolding sectionStart recordSize circuitSize mostCircuits
+  file-short = go (whole .version)
+    where
+      go : (versionOf file ≡ 1) ⊎ (versionOf file ≡ 2) → length file ≤ 63616
+      go (inl e) =
+          let end = rw e at (whole .end) in
+          let circuits = rw e at (whole .circuits) in
+          omega (arith, end, whole .oneSettings, whole .nodes .most, circuits, whole .stations, solution-count 0 (omega arith), solution-count 1 (omega arith), solution-count 2 (omega arith))
+      go (inr e) =
+          let end = rw e at (whole .end) in
+          let circuits = rw e at (whole .circuits) in
+          omega (arith, end, whole .oneSettings, whole .nodes .most, circuits, whole .stations, solution-count 0 (omega arith), solution-count 1 (omega arith), solution-count 2 (omega arith))
 
   pub counts : (length (studyOf file .nodes) ≡ sectionCount file 1) × (length (studyOf file .circuits) ≡ sectionCount file 2) × (length (studyOf file .stations) ≡ sectionCount file 3)
   unfolding studyOf section

@@ -44,7 +44,7 @@ nodeOf n kw = record { name = name n; generationZone = 1; demandZone = 1; demand
 
 abbrev pub circuitOf : String → String → (x metres : ℕ) → Circuit
 circuitOf a b x metres =
-    record { first = name a; second = name b; voltage = 400; x = x; overhead = metres; cable = 0; localMark = 0 }
+    record { first = name a; second = name b; voltage = 400; x = x; overhead = metres; cable = 0; localMark = 0; factor = 0 }
 
 abbrev pub stationOf : String → String → ℕ → Station
 stationOf i n kw = record { identifier = name i; node = name n; plantType = 7; tec = kw }

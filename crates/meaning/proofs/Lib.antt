@@ -14,11 +14,14 @@ pub mod Sides
 pub mod Mirror
 pub mod Centre
 pub mod Frame
+pub mod Lengths
 pub mod Tables
 -- the stages judge the conditions of 01's order
 pub mod Whole
 pub mod Proposals
 pub mod Judged
+-- 02, request 3: files of two versions
+pub mod Versions
 -- the definitions computed: the starred rows, case KILN and its damaged forms, interconnectors
 pub mod Write
 pub mod Opened

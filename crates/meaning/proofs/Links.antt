@@ -53,7 +53,7 @@ towed =
         revenue = 1;
       };
       nodes = nodeOf "A" 0 ∷ record { name = name "B"; generationZone = 2; demandZone = 1; demand = 802 } ∷ [];
-      circuits = record { first = name "A"; second = name "B"; voltage = 400; x = 1; overhead = 10; cable = 0; localMark = 1 } ∷ [];
+      circuits = record { first = name "A"; second = name "B"; voltage = 400; x = 1; overhead = 10; cable = 0; localMark = 1; factor = 0 } ∷ [];
       stations = stationOf "S" "A" 300 ∷ linkOf "T" "A" 101 ∷ linkOf "U" "B" 401 ∷ [];
     }
 

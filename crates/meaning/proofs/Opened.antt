@@ -6,13 +6,13 @@ use Rattle.meaning.specs.Study.{Runs}
 use Rattle.meaning.specs.Outcome.{Settled}
 use Rattle.meaning.specs.Rows.{_between_and_, firstOf, lowest, found, all, rows, joined}
 use Rattle.meaning.specs.Name.{nameByte, unpadded, every, wellFormed, sameName}
-use Rattle.meaning.specs.File.{u32, u64, nameAt, recordSize, sectionOffset, sectionCount, versionOf, statedLength, sectionStart, section, chained, counted, fileWhole, runsWhole, settingsAt, nodeAt, circuitAt, stationAt, studyOf, i64, runIn, runsIn}
+use Rattle.meaning.specs.File.{u32, u64, nameAt, circuitSize, recordSize, mostCircuits, sectionOffset, sectionCount, versionOf, statedLength, sectionStart, section, chained, counted, fileWhole, runsWhole, settingsAt, nodeAt, factorAt, circuitAt, stationAt, studyOf, i64, runIn, runsIn}
 use Rattle.meaning.specs.Answers.{systemNumber, refusal, values, _orElse_, unless, at}
-use Rattle.meaning.specs.Tables.{seenEarlier, known, soundScales, soundSettings, soundNodeRow, soundCircuitRow, soundStationRow, soundNode, soundCircuit, soundStation, settingsStage, nodesStage, circuitsStage, stationsStage}
+use Rattle.meaning.specs.Tables.{seenEarlier, known, soundScales, soundSettings, soundNodeRow, newVoltage, soundVoltage, soundFactor, soundCircuitRow, soundStationRow, soundNode, soundCircuit, soundStation, settingsStage, nodesStage, circuitsStage, stationsStage}
 use Rattle.meaning.specs.Grid.{plantOf, scales, pays, place, tecAt, capacityOf, gridOf, tecOf, soundTotals, totalsStage, chargeableStage}
 use Rattle.meaning.specs.Network.{networkOf, leadsTo, spread, reachedBy, reachedNodes, reachStage}
 use Rattle.meaning.specs.Scaled.{wholeShare, leftOver, missing, scaled}
-use Rattle.meaning.specs.Direction.{overheadFactor, cableFactor, expandedLength, direction, inDoubt, hasLength, signed, signedLength}
+use Rattle.meaning.specs.Direction.{overheadFactor, cableFactor, ownOr, expandedLength, direction, inDoubt, hasLength, signed, signedLength}
 use Rattle.meaning.specs.Proposal.{flowOut, flowIn, miss, missSum, numberInRange, balanced, rangeStage, balanceStage, missStage, systemStage}
 use Rattle.meaning.specs.Systems.{runOf, limitOf, net, supply, lengthOf, offset, proposed, directionClear, directionStage, proposalsStage}
 use Rattle.meaning.specs.Figures.{metres, tariff, residualOf, remainderOf, widerMetres, localMetres, distance, zones, zoneOf, weight, paying, zoneWeight, zonePaying, totalPaying, overZones, target, zonalMetres, C, afterC, zoneTariff, localTariff, localIncome, rest, residual, remainder, zoneTotal}
@@ -22,5 +22,5 @@ use Rattle.meaning.specs.Outcome.{fileStage, runsStage, rowsStage, gridS
 use Rattle.meaning.specs.Read.{withFront, pieces, field, readNatural, readWhole, hasLetter, padded, overLines, zoneIncome, nodeIncome, lineIncome, sideIncome, printedIncome, remainderField, printedRemainder}
 
 unfoldable pub opened : (file : List ℕ) → Runs → (buffer : List ℕ) → Settled
-unfolding sum Σ floorDiv rounded nearest _between_and_ firstOf lowest found all rows joined nameByte unpadded every wellFormed sameName u32 u64 nameAt recordSize sectionOffset sectionCount versionOf statedLength sectionStart section chained counted fileWhole runsWhole settingsAt nodeAt circuitAt stationAt studyOf i64 runIn runsIn systemNumber refusal values _orElse_ unless at seenEarlier known soundScales soundSettings soundNodeRow soundCircuitRow soundStationRow soundNode soundCircuit soundStation settingsStage nodesStage circuitsStage stationsStage plantOf scales pays place tecAt capacityOf gridOf tecOf soundTotals totalsStage chargeableStage networkOf leadsTo spread reachedBy reachedNodes reachStage wholeShare leftOver missing scaled overheadFactor cableFactor expandedLength direction inDoubt hasLength signed signedLength flowOut flowIn miss missSum numberInRange balanced rangeStage balanceStage missStage systemStage runOf limitOf net supply lengthOf offset proposed directionClear directionStage proposalsStage metres tariff residualOf remainderOf widerMetres localMetres distance zones zoneOf weight paying zoneWeight zonePaying totalPaying overZones target zonalMetres C afterC zoneTariff localTariff localIncome rest residual remainder zoneTotal digits natural decimal line letter zoneLine zoneLines localLine sheet fileStage runsStage rowsStage gridStage tablesStage judged refused written bufferStage answeredBy answerOf settledBy settle refusedLine printedBy prints withFront pieces field readNatural readWhole hasLetter padded overLines zoneIncome nodeIncome lineIncome sideIncome printedIncome remainderField printedRemainder
+unfolding sum Σ floorDiv rounded nearest _between_and_ firstOf lowest found all rows joined nameByte unpadded every wellFormed sameName u32 u64 nameAt circuitSize recordSize mostCircuits sectionOffset sectionCount versionOf statedLength sectionStart section chained counted fileWhole runsWhole settingsAt nodeAt factorAt circuitAt stationAt studyOf i64 runIn runsIn systemNumber refusal values _orElse_ unless at seenEarlier known soundScales soundSettings soundNodeRow newVoltage soundVoltage soundFactor soundCircuitRow soundStationRow soundNode soundCircuit soundStation settingsStage nodesStage circuitsStage stationsStage plantOf scales pays place tecAt capacityOf gridOf tecOf soundTotals totalsStage chargeableStage networkOf leadsTo spread reachedBy reachedNodes reachStage wholeShare leftOver missing scaled overheadFactor cableFactor ownOr expandedLength direction inDoubt hasLength signed signedLength flowOut flowIn miss missSum numberInRange balanced rangeStage balanceStage missStage systemStage runOf limitOf net supply lengthOf offset proposed directionClear directionStage proposalsStage metres tariff residualOf remainderOf widerMetres localMetres distance zones zoneOf weight paying zoneWeight zonePaying totalPaying overZones target zonalMetres C afterC zoneTariff localTariff localIncome rest residual remainder zoneTotal digits natural decimal line letter zoneLine zoneLines localLine sheet fileStage runsStage rowsStage gridStage tablesStage judged refused written bufferStage answeredBy answerOf settledBy settle refusedLine printedBy prints withFront pieces field readNatural readWhole hasLetter padded overLines zoneIncome nodeIncome lineIncome sideIncome printedIncome remainderField printedRemainder
 opened file runs buffer = settle file runs buffer

@@ -56,7 +56,7 @@ pairOf k circuit =
     }
 
 abbrev pairStudy : (k mark : ℕ) → Study
-pairStudy k mark = pairOf k (record { first = name "A"; second = name "B"; voltage = 400; x = 1; overhead = 10; cable = 0; localMark = mark })
+pairStudy k mark = pairOf k (record { first = name "A"; second = name "B"; voltage = 400; x = 1; overhead = 10; cable = 0; localMark = mark; factor = 0 })
 
 abbrev pair : (k m : ℕ) → (potential : ℤ) → Settled
 pair k m potential =
@@ -138,7 +138,7 @@ local-mark = refl
 -- 4: lengths by voltage, and the sign of a flow that runs backward: 1 m overhead and 10 m of cable, from A to B and from B to A
 abbrev lengthAt : (voltage : ℕ) → (first second : String) → (flow : ℤ) → ℤ
 lengthAt voltage first second z =
-    let S = pairOf 401 (record { first = name first; second = name second; voltage = voltage; x = 1; overhead = 1; cable = 10; localMark = 0 }) in
+    let S = pairOf 401 (record { first = name first; second = name second; voltage = voltage; x = 1; overhead = 1; cable = 10; localMark = 0; factor = 0 }) in
     lengthOf (gridOf S) (record { base = pos 401000000 ∷ pos 0 ∷ z ∷ []; wider = []; local = [] }) 0
 
 lengths : lengthAt 400 "A" "B" (pos 401000000) ∷ lengthAt 275 "A" "B" (pos 401000000) ∷ lengthAt 132 "A" "B" (pos 401000000) ∷ []

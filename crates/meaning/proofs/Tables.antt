@@ -14,11 +14,11 @@ use Rattle.meaning.specs.Name.{Name, sameName}
 use Rattle.meaning.specs.Study.{Settings, Node, Study, node, circuit, station}
 use Rattle.meaning.specs.declared.Refusal.the-variants.{BadSetting, BadNode, BadCircuit, BadStation, Unreached, BadTotal, NoChargeableTec}
 use Rattle.meaning.specs.declared.Judgement.the-variants.{Passes}
-use Rattle.meaning.specs.Tables.{seenEarlier, known, soundScales, soundSettings, soundNodeRow, soundCircuitRow, soundStationRow, soundNode, soundCircuit, soundStation, settingsStage, nodesStage, circuitsStage, stationsStage}
+use Rattle.meaning.specs.Tables.{seenEarlier, known, soundScales, soundSettings, soundNodeRow, newVoltage, soundVoltage, soundFactor, soundCircuitRow, soundStationRow, soundNode, soundCircuit, soundStation, settingsStage, nodesStage, circuitsStage, stationsStage}
 use Rattle.meaning.specs.Grid.{gridOf, place, soundTotals, totalsStage, chargeableStage, totalDemand, totalTec}
 use Rattle.meaning.specs.Network.{networkOf, reachStage}
 use Rattle.meaning.specs.Outcome.{rowsStage, gridStage}
-use Rattle.meaning.specs.Conditions.{InRange, Known, SoundSettings, SoundNode, SoundCircuit, SoundStation, SoundTables, SoundStudy}
+use Rattle.meaning.specs.Conditions.{InRange, Known, NewVoltage, SoundSettings, SoundNode, SoundCircuit, SoundStation, SoundTables, SoundStudy}
 use Rattle.meaning.specs.Refusals.{AllMet, rowsOrder, gridOrder}
 use Rattle.meaning.proofs.Rows.{Lowest, nothing, first, lowest-is, lowest-stops}
 use Rattle.meaning.proofs.Walk.{Placed, reached-is}
@@ -52,24 +52,40 @@ module _ (S : Study) where
       (says-wellFormed (node (S .nodes) i .name) also says-between also says-between also says-le also says-new (λ j. node (S .nodes) j .name) i)
       (λ t. record { name = t .0 .0 .0 .0; generationZone = t .0 .0 .0 .1; demandZone = t .0 .0 .1; demand = t .0 .1; new = t .1 }, λ r. ((((r .name, r .generationZone), r .demandZone), r .demand), r .new))
 
+  says-new-voltage : (voltage : ℕ) → Says (newVoltage voltage) (NewVoltage voltage)
+  unfolding newVoltage
+  says-new-voltage voltage = says-eq either says-eq
+
+  says-voltage : (voltage : ℕ) → Says (soundVoltage voltage) ((voltage ≡ 132) ⊎ (voltage ≡ 275) ⊎ (voltage ≡ 400) ⊎ NewVoltage voltage)
+  unfolding soundVoltage
+  says-voltage voltage = says-as (says-eq either says-eq either says-eq either says-new-voltage voltage) (there, back)
+    where
+      there : {A B C D : Type 0} → ((A ⊎ B) ⊎ C) ⊎ D → A ⊎ B ⊎ C ⊎ D
+      there (inl (inl (inl h))) = inl h
+      there (inl (inl (inr h))) = inr (inl h)
+      there (inl (inr h)) = inr (inr (inl h))
+      there (inr h) = inr (inr (inr h))
+
+      back : {A B C D : Type 0} → A ⊎ B ⊎ C ⊎ D → ((A ⊎ B) ⊎ C) ⊎ D
+      back (inl h) = inl (inl (inl h))
+      back (inr (inl h)) = inl (inl (inr h))
+      back (inr (inr (inl h))) = inl (inr h)
+      back (inr (inr (inr h))) = inr h
+
+  says-factor : (voltage factor : ℕ) → Says (soundFactor voltage factor) (((factor ≡ 0) ⊎ InRange factor 1000 30000) × (NewVoltage voltage → factor ≢ 0))
+  unfolding soundFactor
+  says-factor voltage factor =
+      says-as ((says-eq either says-between) also says-not (says-new-voltage voltage also says-eq))
+      (λ t. (t .0, λ n e. t .1 (n, e)), λ t. (t .0, λ p. t .1 (p .0) (p .1)))
+
   says-circuit : (i : ℕ) → Says (soundCircuit S i) (SoundCircuit S i)
   unfolding soundCircuit soundCircuitRow
   says-circuit i =
       let c = circuit (S .circuits) i in
       says-as
       (says-wellFormed c.first also says-wellFormed c.second also says-known c.first also says-known c.second also says-not (says-name c.first c.second)
-      also says-as (says-eq either says-eq either says-eq) (there, back) also says-between also says-le also says-le also says-le)
-      (λ t. record { firstName = t .0 .0 .0 .0 .0 .0 .0 .0 .0; secondName = t .0 .0 .0 .0 .0 .0 .0 .0 .1; first = t .0 .0 .0 .0 .0 .0 .0 .1; second = t .0 .0 .0 .0 .0 .0 .1; apart = t .0 .0 .0 .0 .0 .1; voltage = t .0 .0 .0 .0 .1; x = t .0 .0 .0 .1; overhead = t .0 .0 .1; cable = t .0 .1; localMark = t .1 }, λ r. (((((((((r .firstName, r .secondName), r .first), r .second), r .apart), r .voltage), r .x), r .overhead), r .cable), r .localMark))
-    where
-      there : {A B C : Type 0} → (A ⊎ B) ⊎ C → A ⊎ B ⊎ C
-      there (inl (inl h)) = inl h
-      there (inl (inr h)) = inr (inl h)
-      there (inr h) = inr (inr h)
-
-      back : {A B C : Type 0} → A ⊎ B ⊎ C → (A ⊎ B) ⊎ C
-      back (inl h) = inl (inl h)
-      back (inr (inl h)) = inl (inr h)
-      back (inr (inr h)) = inr h
+      also says-voltage c.voltage also says-factor c.voltage c.factor also says-between also says-le also says-le also says-le)
+      (λ t. record { firstName = t .0 .0 .0 .0 .0 .0 .0 .0 .0 .0; secondName = t .0 .0 .0 .0 .0 .0 .0 .0 .0 .1; first = t .0 .0 .0 .0 .0 .0 .0 .0 .1; second = t .0 .0 .0 .0 .0 .0 .0 .1; apart = t .0 .0 .0 .0 .0 .0 .1; voltage = t .0 .0 .0 .0 .0 .1; factor = t .0 .0 .0 .0 .1 .0; ownFactor = t .0 .0 .0 .0 .1 .1; x = t .0 .0 .0 .1; overhead = t .0 .0 .1; cable = t .0 .1; localMark = t .1 }, λ r. ((((((((((r .firstName, r .secondName), r .first), r .second), r .apart), r .voltage), (r .factor, r .ownFactor)), r .x), r .overhead), r .cable), r .localMark))
 
   says-station : (i : ℕ) → Says (soundStation S i) (SoundStation S i)
   unfolding soundStation soundStationRow

@@ -7,7 +7,7 @@ use lib.IntN.{ℤ, pos, natAbs, _-ℤ_}
 use lib.ListN.{length, getD}
 use Rattle.meaning.specs.Name.{Name}
 use Rattle.meaning.specs.Study.{Settings, Circuit, Study, Runs, node, circuit, station}
-use Rattle.meaning.specs.File.{u32, sections, trailerSize, versionOf, statedLength, sectionOffset, sectionCount, sectionStart, studyOf}
+use Rattle.meaning.specs.File.{u32, sections, trailerSize, mostCircuits, versionOf, statedLength, sectionOffset, sectionCount, sectionStart, studyOf}
 use Rattle.meaning.specs.declared.System.{System}
 use Rattle.meaning.specs.Grid.{Grid, gridOf, totalDemand, totalTec, totalPayingTec}
 use Rattle.meaning.specs.Network.{Network, networkOf, Reached}
@@ -24,11 +24,11 @@ pub record InRange (x low high : ℕ) : Type 0 where
 -- not 1
 pub record WholeFile (file : List ℕ) (runs : Runs) : Type 0 where
   pub long : 128 ≤ length file
-  pub version : versionOf file ≡ 1
+  pub version : (versionOf file ≡ 1) ⊎ (versionOf file ≡ 2)
   pub fileLength : statedLength file ≡ length file
   pub oneSettings : sectionCount file 0 ≡ 1
   pub nodes : InRange (sectionCount file 1) 1 256
-  pub circuits : sectionCount file 2 ≤ 512
+  pub circuits : sectionCount file 2 ≤ mostCircuits (versionOf file)
   pub stations : sectionCount file 3 ≤ 512
   pub solutions : (section : ℕ) → InRange section 4 6 → sectionCount file section ≡ sectionCount file 1 + sectionCount file 2
   pub chain : (section : ℕ) → section < sections → sectionOffset file section ≡ sectionStart file section
@@ -78,6 +78,10 @@ pub record Known (S : Study) (name : Name) : Type 0 where
   pub isNode : place < length (S .nodes)
   pub named : node (S .nodes) place .name ≡ name
 
+-- 02, request 3: "320 or 525, new voltages"
+abbrev pub NewVoltage : ℕ → Type 0
+NewVoltage voltage = (voltage ≡ 320) ⊎ (voltage ≡ 525)
+
 -- not 4 at row i
 pub record SoundCircuit (S : Study) (i : ℕ) : Type 0 where
   pub firstName : WellFormed (circuit (S .circuits) i .first)
@@ -86,6 +90,9 @@ pub record SoundCircuit (S : Study) (i : ℕ) : Type 0 where
   pub second : Known S (circuit (S .circuits) i .second)
   pub apart : circuit (S .circuits) i .first ≢ circuit (S .circuits) i .second
   pub voltage : (circuit (S .circuits) i .voltage ≡ 132) ⊎ (circuit (S .circuits) i .voltage ≡ 275) ⊎ (circuit (S .circuits) i .voltage ≡ 400)
+      ⊎ NewVoltage (circuit (S .circuits) i .voltage)
+  pub factor : (circuit (S .circuits) i .factor ≡ 0) ⊎ InRange (circuit (S .circuits) i .factor) 1000 30000
+  pub ownFactor : NewVoltage (circuit (S .circuits) i .voltage) → circuit (S .circuits) i .factor ≢ 0
   pub x : InRange (circuit (S .circuits) i .x) 1 10000
   pub overhead : circuit (S .circuits) i .overhead ≤ 500000
   pub cable : circuit (S .circuits) i .cable ≤ 500000

@@ -8,16 +8,20 @@ use Rattle.meaning.specs.declared.Direction.{Direction}
 use Rattle.meaning.specs.declared.Direction.the-variants.{Idle, Forward, Backward, InDoubt}
 use Rattle.meaning.specs.Study.{Settings, Circuit}
 
--- the factors of a voltage, in thousandths
+-- the factors of a voltage, in thousandths; a new one has none, and takes those of 132 in no sound row
 unfoldable pub overheadFactor : Settings → (voltage : ℕ) → ℕ
 overheadFactor s voltage = cond (eqb voltage 400) s.overhead400 (cond (eqb voltage 275) s.overhead275 s.overhead132)
 
 unfoldable pub cableFactor : Settings → (voltage : ℕ) → ℕ
 cableFactor s voltage = cond (eqb voltage 400) s.cable400 (cond (eqb voltage 275) s.cable275 s.cable132)
 
+-- 02, request 3: "each such circuit has its own factor", "0 means by voltage, otherwise" it is "for both lengths of the row"
+unfoldable pub ownOr : (factor byVoltage : ℕ) → ℕ
+ownOr factor byVoltage = cond (eqb factor 0) byVoltage factor
+
 -- "Expanded length in mm is overhead metres times its factor plus cable metres times its factor, by voltage."
 unfoldable pub expandedLength : Settings → Circuit → ℕ
-expandedLength s c = c.overhead * overheadFactor s c.voltage + c.cable * cableFactor s c.voltage
+expandedLength s c = c.overhead * ownOr c.factor (overheadFactor s c.voltage) + c.cable * ownOr c.factor (cableFactor s c.voltage)
 
 -- "idle at a base flow of magnitude up to 200,000,000, directed above 400,000,000, and in doubt between"
 unfoldable pub direction : (flow : ℤ) → Direction

@@ -25,9 +25,17 @@ nameAt file at = take 12 (drop at file)
 abbrev pub sections : ℕ
 sections = 7
 
+-- "Circuit, 44 bytes"; 02, request 3: "Case version 2 has circuit rows of 48 bytes, with the new factor last"
+unfoldable pub circuitSize : (version : ℕ) → ℕ
+circuitSize version = cond (eqb version 2) 48 44
+
 -- the bytes of a record of each
-unfoldable pub recordSize : (section : ℕ) → ℕ
-recordSize section = getD (64 ∷ 24 ∷ 44 ∷ 32 ∷ 8 ∷ 8 ∷ 8 ∷ []) section 0
+unfoldable pub recordSize : (version section : ℕ) → ℕ
+recordSize version section = getD (64 ∷ 24 ∷ circuitSize version ∷ 32 ∷ 8 ∷ 8 ∷ 8 ∷ []) section 0
+
+-- Quantities: circuits 0..512; 02, request 3: "Version 2 holds at most 480 circuits, to fit 64 KiB."
+unfoldable pub mostCircuits : (version : ℕ) → ℕ
+mostCircuits version = cond (eqb version 2) 480 512
 
 -- the trailer: "for each section in order, its offset and its record count", "then the version 1 and the whole file length": 64 bytes
 abbrev pub trailerSize : ℕ
@@ -39,7 +47,7 @@ sectionOffset file section = u32 file (length file - trailerSize + 8 * section)
 unfoldable pub sectionCount : List ℕ → (section : ℕ) → ℕ
 sectionCount file section = u32 file (length file - trailerSize + 8 * section + 4)
 
--- version and length end the file
+-- version and length end the file, however long the trailer is
 unfoldable pub versionOf : List ℕ → ℕ
 versionOf file = u32 file (length file - 8)
 
@@ -49,10 +57,10 @@ statedLength file = u32 file (length file - 4)
 -- where a section must start: where the one before it ends; behind the last one starts the trailer
 unfoldable pub sectionStart : List ℕ → (section : ℕ) → ℕ
 sectionStart file zero = 0
-sectionStart file (suc section) = sectionStart file section + recordSize section * sectionCount file section
+sectionStart file (suc section) = sectionStart file section + recordSize (versionOf file) section * sectionCount file section
 
 unfoldable pub section : List ℕ → (section : ℕ) → Section
-section file s = record { start = sectionStart file s; size = recordSize s; count = sectionCount file s }
+section file s = record { start = sectionStart file s; size = recordSize (versionOf file) s; count = sectionCount file s }
 
 -- where row i of a section begins
 abbrev pub rowAt : Section → (i : ℕ) → ℕ
@@ -66,17 +74,17 @@ table row s = rows (s .count) (λ i. row (rowAt s i))
 unfoldable pub chained : List ℕ → Bool
 chained file = all (λ s. eqb (sectionOffset file s) (sectionStart file s)) sections && eqb (sectionStart file sections + trailerSize) (length file)
 
--- Quantities: rows 1..256, 0..512, 0..512; a solution's "count is nodes plus circuits"
+-- Quantities: rows 1..256, 0..512 (480), 0..512; a solution's "count is nodes plus circuits"
 unfoldable pub counted : List ℕ → Bool
 counted file =
-    eqb (sectionCount file 0) 1 && sectionCount file 1 between 1 and 256 && leb (sectionCount file 2) 512
+    eqb (sectionCount file 0) 1 && sectionCount file 1 between 1 and 256 && leb (sectionCount file 2) (mostCircuits (versionOf file))
     && leb (sectionCount file 3) 512
     && all (λ k. eqb (sectionCount file (4 + k)) (sectionCount file 1 + sectionCount file 2)) 3
 
 -- not refused as 1, for what the file says: length, version, counts, chain, the settings' zero
 unfoldable pub fileWhole : List ℕ → Bool
 fileWhole file =
-    leb 128 (length file) && eqb (versionOf file) 1 && eqb (statedLength file) (length file) && counted file && chained file
+    leb 128 (length file) && versionOf file between 1 and 2 && eqb (statedLength file) (length file) && counted file && chained file
     && eqb (u32 file 52) 0
 
 -- not refused as 1, for the lengths of the three runs: "A run of another length is refused as 1."
@@ -107,8 +115,12 @@ unfoldable pub nodeAt : List ℕ → ℕ → Node
 nodeAt file at =
     record { name = nameAt file at; generationZone = u32 file (at + 12); demandZone = u32 file (at + 16); demand = u32 file (at + 20) }
 
-unfoldable pub circuitAt : List ℕ → ℕ → Circuit
-circuitAt file at =
+-- 02, request 3: the factor, where the row has room for it; "Version 1 files read as if the factor were 0"
+unfoldable pub factorAt : List ℕ → (size at : ℕ) → ℕ
+factorAt file size at = cond (leb 48 size) (u32 file (at + 44)) 0
+
+unfoldable pub circuitAt : List ℕ → (size at : ℕ) → Circuit
+circuitAt file size at =
     record {
       first = nameAt file at;
       second = nameAt file (at + 12);
@@ -117,6 +129,7 @@ circuitAt file at =
       overhead = u32 file (at + 32);
       cable = u32 file (at + 36);
       localMark = u32 file (at + 40);
+      factor = factorAt file size at;
     }
 
 unfoldable pub stationAt : List ℕ → ℕ → Station
@@ -129,7 +142,7 @@ studyOf file =
     record {
       settings = settingsAt file (sectionStart file 0);
       nodes = table (nodeAt file) (section file 1);
-      circuits = table (circuitAt file) (section file 2);
+      circuits = table (circuitAt file (section file 2 .size)) (section file 2);
       stations = table (stationAt file) (section file 3);
     }
 

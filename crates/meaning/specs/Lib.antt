@@ -22,6 +22,7 @@ pub mod Refusals
 pub mod Read
 pub mod Demands
 pub mod Mirror
+pub mod Versions
 pub mod Calls
 -- no words of 01: arrays and searches as code has them
 pub mod Columns

@@ -38,11 +38,22 @@ soundNodeRow s n =
     wellFormed n.name && n.generationZone between 1 and s.generationZones && n.demandZone between 1 and s.demandZones
     && leb n.demand 20000000
 
+-- "voltage (132, 275 or 400)"; 02, request 3: "320 or 525, new voltages"
+unfoldable pub newVoltage : (voltage : ℕ) → Bool
+newVoltage voltage = eqb voltage 320 || eqb voltage 525
+
+unfoldable pub soundVoltage : (voltage : ℕ) → Bool
+soundVoltage voltage = eqb voltage 132 || eqb voltage 275 || eqb voltage 400 || newVoltage voltage
+
+-- 02, request 3: "0 means by voltage, otherwise 1,000 to 30,000"; at a new voltage "it may not be 0"
+unfoldable pub soundFactor : (voltage factor : ℕ) → Bool
+soundFactor voltage factor = (eqb factor 0 || factor between 1000 and 30000) && not (newVoltage voltage && eqb factor 0)
+
 -- 4: malformed, out of range, "unknown end, equal ends"
 unfoldable pub soundCircuitRow : List Node → Circuit → Bool
 soundCircuitRow nodes c =
     wellFormed c.first && wellFormed c.second && known nodes c.first && known nodes c.second
-    && not (sameName c.first c.second) && (eqb c.voltage 132 || eqb c.voltage 275 || eqb c.voltage 400)
+    && not (sameName c.first c.second) && soundVoltage c.voltage && soundFactor c.voltage c.factor
     && c.x between 1 and 10000 && leb c.overhead 500000 && leb c.cable 500000 && leb c.localMark 1
 
 -- 5, a row by itself

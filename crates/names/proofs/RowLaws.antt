@@ -5,7 +5,7 @@ use mathlib.Core.Option.{Option·getD}
 use Prim.Native.Nat.{ℕ, _+_, _≤_, _<_}
 use native.Mathlib.Omega.{arith}
 use Rattle.meaning.specs.declared.Section.{Section}
-use Rattle.meaning.specs.Rows.{lowest, found, any}
+use Rattle.meaning.specs.Rows.{lowest, found}
 use Rattle.meaning.specs.Name.{Name, sameName}
 use Rattle.meaning.specs.File.{rowAt}
 use Rattle.meaning.specs.Tables.{seenEarlier}

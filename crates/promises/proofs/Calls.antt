@@ -1,5 +1,5 @@
 -- The demands hold of every call of the entry.
-use mathlib.Core.Path.{_≡_, refl, sym, _∙_, ap, subst}
+use mathlib.Core.Path.{_≡_, refl, sym, _∙_, ap, ap₂, subst}
 use mathlib.Core.Logic.{_↔_, _⊎_, inl, inr}
 use mathlib.Core.List.{List, _++_}
 use Prim.Native.Nat.{ℕ}
@@ -15,8 +15,9 @@ use Rattle.meaning.specs.Outcome.{sheetOf, Settled, settle, written, refused}
 use Rattle.meaning.specs.Conditions.{Acceptable}
 use Rattle.meaning.specs.Demands.{IsWritten, IsRefused, Recovered, SameButStations, Agree, PassesToFive}
 use Rattle.meaning.specs.Mirror.{ShowsMirror}
+use Rattle.meaning.specs.Versions.{SayTheSame, OneCase}
 use Rattle.claims.proofs.Accepted.{accepted≢refused}
-use Rattle.claims.proofs.Theorems.{every-input-settled, accepted-exactly-when, refused-exactly-when, revenue-recovered, solvers-agree, stations-hidden, printed-mirror}
+use Rattle.claims.proofs.Theorems.{every-input-settled, accepted-exactly-when, refused-exactly-when, revenue-recovered, solvers-agree, stations-hidden, printed-mirror, one-sheet-in-either-version}
 use Rattle.meaning.specs.Refusals.{Stopped}
 use Rattle.meaning.specs.Calls.{Call, Kept}
 use Rattle.promises.specs.Calls.{IsAccepted, sheetIn, IsRefusal, Promised, EveryCallPromised, EveryTwoPromised}
@@ -96,8 +97,18 @@ pub every-call-promised : EveryCallPromised
 every-call-promised = promised
 
 pub every-two-promised : EveryTwoPromised
-every-two-promised c d keptC keptD = record { agree = agree; hidden = hidden }
+every-two-promised c d keptC keptD = record { agree = agree; hidden = hidden; either = either }
   where
+    either : SayTheSame (c .file) (d .file) → c .runs ≡ d .runs → c .before ≡ d .before → (c .answer ≡ d .answer) × (c .after ≡ d .after)
+    either same runs before = (ap (λ (s : Settled). s .answer) one, ap (λ (s : Settled). s .buffer) one)
+      where
+        one : _≡_ {A = Settled} (record { answer = c .answer; buffer = c .after }) (record { answer = d .answer; buffer = d .after })
+        one =
+            keptC .contract
+            ∙ one-sheet-in-either-version (c .file) (d .file) same .settled (c .runs) (c .before)
+            ∙ ap₂ (λ (r : Runs) (b : List ℕ). settle (d .file) r b) runs before
+            ∙ sym (keptD .contract)
+
     agree : IsAccepted c → IsAccepted d → SameButStations (studyOf (c .file)) (studyOf (d .file))
         → Agree (studyOf (c .file)) (c .runs) (d .runs) (sheetIn c) (sheetIn d)
     agree a b same =

@@ -16,6 +16,7 @@ use Rattle.meaning.specs.Outcome.{sheetOf, Settled, settle, written, refused}
 use Rattle.meaning.specs.Refusals.{Stopped}
 use Rattle.meaning.specs.Demands.{Accepting, Recovered, SameButStations, Agree, PassesToFive}
 use Rattle.meaning.specs.Mirror.{ShowsMirror}
+use Rattle.meaning.specs.Versions.{SayTheSame}
 use Rattle.meaning.specs.Calls.{Call, Kept, four, ToldCall, ToldKept}
 use Rattle.meaning.proofs.Table.{values-tell, number-positive}
 use Rattle.claims.proofs.Listed.{stopped-listed}
@@ -145,7 +146,7 @@ pub every-told-promised : EveryToldPromised
 every-told-promised = promised
 
 pub every-two-told : EveryTwoTold
-every-two-told c d keptC keptD = record { agree = agree; hidden = hidden }
+every-two-told c d keptC keptD = record { agree = agree; hidden = hidden; either = either }
   where
     two : BothPromised (inner c keptC) (inner d keptD)
     two = every-two-promised (inner c keptC) (inner d keptD) (inner-kept c keptC) (inner-kept d keptD)
@@ -157,11 +158,21 @@ every-two-told c d keptC keptD = record { agree = agree; hidden = hidden }
         (subst (Agree (studyOf (c .file)) (c .runs) (d .runs) (sheetIn (inner c keptC))) (sheet-in d keptD f)
         (two .agree (is-accepted c keptC e) (is-accepted d keptD f) same))
 
+    -- one answer is told in one way
+    told : inner c keptC .answer ≡ inner d keptD .answer → (c .result ≡ d .result) × (c .numbers ≡ d .numbers)
+    told a = (
+      keptC .answer .number ∙ ap (λ (x : Answer). values x .number) a ∙ sym (keptD .answer .number),
+      keptC .answer .numbers ∙ ap (λ (x : Answer). four (values x)) a ∙ sym (keptD .answer .numbers),
+    )
+
     hidden : c .runs ≡ d .runs → PassesToFive (c .file) (c .runs) → PassesToFive (d .file) (d .runs)
         → SameButStations (studyOf (c .file)) (studyOf (d .file)) → length (c .before) ≡ length (d .before)
         → (c .result ≡ d .result) × (c .numbers ≡ d .numbers)
-    hidden runs p q same e =
-        let a = two .hidden runs p q same e in (
-          keptC .answer .number ∙ ap (λ (x : Answer). values x .number) a ∙ sym (keptD .answer .number),
-          keptC .answer .numbers ∙ ap (λ (x : Answer). four (values x)) a ∙ sym (keptD .answer .numbers),
-        )
+    hidden runs p q same e = told (two .hidden runs p q same e)
+
+    either : SayTheSame (c .file) (d .file) → c .runs ≡ d .runs → c .before ≡ d .before
+        → (c .result ≡ d .result) × (c .numbers ≡ d .numbers) × (c .after ≡ d .after)
+    either same runs before =
+        let one = two .either same runs before in
+        let t = told (one .0) in
+        (t .0, t .1, one .1)

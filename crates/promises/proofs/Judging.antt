@@ -1,5 +1,5 @@
 -- The demands hold of every answer that is given without a buffer.
-use mathlib.Core.Path.{_≡_, refl, sym, _∙_, ap, ap₂}
+use mathlib.Core.Path.{_≡_, refl, sym, ap, ap₂}
 use mathlib.Core.Logic.{_↔_}
 use mathlib.Core.List.{List}
 use Prim.Native.Nat.{ℕ}
@@ -20,8 +20,8 @@ use Rattle.claims.proofs.Accepted.{refused-same, accepted≢refused}
 use Rattle.claims.proofs.Listed.{case-listed, case-number}
 use Rattle.claims.proofs.Hidden.{judged-alike}
 use Rattle.claims.proofs.Same.{same-grid}
-use Rattle.claims.proofs.Theorems.{judge-is-write}
-use Rattle.promises.specs.Judging.{RefusalJudged, EveryJudgePromised, JudgesHideStations}
+use Rattle.claims.proofs.Theorems.{judge-is-write, one-sheet-in-either-version}
+use Rattle.promises.specs.Judging.{RefusalJudged, EveryJudgePromised, JudgesHideStations, JudgesInEitherVersion}
 
 -- ---- what is answered by a judgement: accepted exactly when it passes, a refusal exactly when it stops so
 module _ (sheet : List ℕ) where
@@ -66,3 +66,6 @@ pub judges-hide-stations : JudgesHideStations
 unfolding answerOf
 judges-hide-stations file file′ runs p q same =
     ap₂ answeredBy (judged-alike file file′ runs p q same) (ap (λ (G : Grid). sheet G runs) (same-grid same))
+
+pub judges-in-either-version : JudgesInEitherVersion
+judges-in-either-version file file′ runs same = one-sheet-in-either-version file file′ same .judged runs

@@ -24,7 +24,7 @@ use Rattle.claims.proofs.Listed.{case-listed, case-number}
 use Rattle.claims.proofs.Told.{line-told}
 use Rattle.claims.proofs.Hidden.{judged-alike}
 use Rattle.claims.proofs.Same.{same-grid}
-use Rattle.claims.proofs.Theorems.{revenue-recovered, solvers-agree, printed-mirror}
+use Rattle.claims.proofs.Theorems.{revenue-recovered, solvers-agree, printed-mirror, one-sheet-in-either-version}
 use Rattle.output.proofs.Cut.{input-cut}
 use Rattle.meaning.specs.Calls.{Prints}
 use Rattle.promises.specs.Program.{shown, RefusalPrinted, PrintPromised, EveryPrintPromised, BothPrinted, EveryTwoPrinted, Filled, EveryReadPromised}
@@ -106,7 +106,7 @@ every-print-promised file r p = subst (PrintPromised file) (shown-is (prints fil
 
 both : (file file′ : List ℕ) → BothPrinted file file′ (prints file) (prints file′)
 unfolding prints
-both file file′ = record { agree = agree; hidden = hidden }
+both file file′ = record { agree = agree; hidden = hidden; either = λ same runs. one-sheet-in-either-version file file′ same .printed runs }
   where
     agree : Acceptable file (runsIn file) → Acceptable file′ (runsIn file′) → SameButStations (studyOf file) (studyOf file′)
         → Agree (studyOf file) (runsIn file) (runsIn file′) (prints file) (prints file′)

@@ -13,6 +13,7 @@ use Rattle.meaning.specs.Outcome.{sheetOf}
 use Rattle.meaning.specs.Refusals.{Stopped}
 use Rattle.meaning.specs.Demands.{ListedFor, Accepting, Recovered, SameButStations, Agree, PassesToFive}
 use Rattle.meaning.specs.Mirror.{ShowsMirror}
+use Rattle.meaning.specs.Versions.{SayTheSame}
 use Rattle.meaning.specs.Calls.{Call, Kept}
 
 -- accepted, with the sheet's length
@@ -55,6 +56,8 @@ pub record BothPromised (c d : Call) : Type 0 where
   -- and a refusal tells no more of the stations
   pub hidden : c .runs ≡ d .runs → PassesToFive (c .file) (c .runs) → PassesToFive (d .file) (d .runs)
       → SameButStations (studyOf (c .file)) (studyOf (d .file)) → length (c .before) ≡ length (d .before) → c .answer ≡ d .answer
+  -- 02, request 3: and files of two versions that say the same get one answer, and one sheet in one place
+  pub either : SayTheSame (c .file) (d .file) → c .runs ≡ d .runs → c .before ≡ d .before → (c .answer ≡ d .answer) × (c .after ≡ d .after)
 
 abbrev pub EveryTwoPromised : Type 0
 EveryTwoPromised = (c d : Call) → Kept c → Kept d → BothPromised c d

@@ -13,6 +13,7 @@ use Rattle.meaning.specs.Outcome.{sheetOf}
 use Rattle.meaning.specs.Refusals.{Stopped}
 use Rattle.meaning.specs.Demands.{ListedFor, Accepting, Recovered, SameButStations, Agree, PassesToFive}
 use Rattle.meaning.specs.Mirror.{ShowsMirror}
+use Rattle.meaning.specs.Versions.{SayTheSame}
 use Rattle.meaning.specs.Calls.{four, ToldCall, ToldKept}
 
 -- the sheet that a caller finds at the buffer's front: its length is the fourth number
@@ -53,6 +54,9 @@ pub record BothTold (c d : ToldCall) : Type 0 where
   pub hidden : c .runs ≡ d .runs → PassesToFive (c .file) (c .runs) → PassesToFive (d .file) (d .runs)
       → SameButStations (studyOf (c .file)) (studyOf (d .file)) → length (c .before) ≡ length (d .before)
       → (c .result ≡ d .result) × (c .numbers ≡ d .numbers)
+  -- 02, request 3: and files of two versions that say the same get one result, and one sheet in one place
+  pub either : SayTheSame (c .file) (d .file) → c .runs ≡ d .runs → c .before ≡ d .before
+      → (c .result ≡ d .result) × (c .numbers ≡ d .numbers) × (c .after ≡ d .after)
 
 abbrev pub EveryTwoTold : Type 0
 EveryTwoTold = (c d : ToldCall) → ToldKept c → ToldKept d → BothTold c d

@@ -14,6 +14,7 @@ use Rattle.meaning.specs.Outcome.{sheetOf, answerOf, settle}
 use Rattle.meaning.specs.Conditions.{Acceptable}
 use Rattle.meaning.specs.Refusals.{FirstUnmet, caseOrder}
 use Rattle.meaning.specs.Demands.{ListedFor, SameButStations, PassesToFive}
+use Rattle.meaning.specs.Versions.{SayTheSame}
 use Rattle.meaning.specs.Calls.{Tells}
 
 -- a refusal of 01's table, never 12
@@ -46,3 +47,7 @@ abbrev pub JudgesHideStations : Type 0
 JudgesHideStations =
     (file file′ : List ℕ) (runs : Runs) → PassesToFive file runs → PassesToFive file′ runs → SameButStations (studyOf file) (studyOf file′)
     → answerOf file runs ≡ answerOf file′ runs
+
+-- ---- 02, request 3: files of two versions that say the same get one answer
+abbrev pub JudgesInEitherVersion : Type 0
+JudgesInEitherVersion = (file file′ : List ℕ) (runs : Runs) → SayTheSame file file′ → answerOf file runs ≡ answerOf file′ runs

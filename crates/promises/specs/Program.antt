@@ -15,6 +15,7 @@ use Rattle.meaning.specs.Conditions.{Acceptable}
 use Rattle.meaning.specs.Refusals.{FirstUnmet, caseOrder}
 use Rattle.meaning.specs.Demands.{ListedFor, Recovered, SameButStations, Agree, PassesToFive}
 use Rattle.meaning.specs.Mirror.{ShowsMirror}
+use Rattle.meaning.specs.Versions.{SayTheSame}
 use Rattle.meaning.specs.Calls.{Prints}
 
 -- the bytes that the program writes
@@ -50,6 +51,8 @@ pub record BothPrinted (file file′ text text′ : List ℕ) : Type 0 where
   -- and a refusal tells no more of the stations
   pub hidden : runsIn file ≡ runsIn file′ → PassesToFive file (runsIn file) → PassesToFive file′ (runsIn file′)
       → SameButStations (studyOf file) (studyOf file′) → text ≡ text′
+  -- 02, request 3: and files of two versions that say the same, solutions too, print alike
+  pub either : SayTheSame file file′ → runsIn file ≡ runsIn file′ → text ≡ text′
 
 abbrev pub EveryTwoPrinted : Type 0
 EveryTwoPrinted = (file file′ : List ℕ) (r r′ : Printed) → Prints (prints file) r → Prints (prints file′) r′ → BothPrinted file file′ (shown r) (shown r′)

@@ -9,15 +9,16 @@ use Rattle.integers.specs.Numbers.{sum}
 use Rattle.integers.proofs.Sum.{sum-same}
 use Rattle.meaning.specs.declared.Kw.{Kw}
 use Rattle.meaning.specs.Rows as R
-use Rattle.meaning.specs.Study.{Settings, Circuit, Study, Runs}
+use Rattle.meaning.specs.Study.{Settings, Study, Runs, circuit}
 use Rattle.meaning.specs.Grid.{gridOf, nodeTec, nodeDemand, totalTec, totalDemand}
 use Rattle.meaning.specs.declared.System.the-variants.{Base}
 use Rattle.meaning.specs.Scaled.{scaled}
 use Rattle.meaning.specs.Systems.{net, supply}
 use Rattle.meaning.specs.Direction.{expandedLength}
-use Rattle.meaning.specs.Conditions.{SoundSettings, SoundTables}
+use Rattle.meaning.specs.Conditions.{SoundSettings, SoundCircuit, SoundTables}
 use Rattle.meaning.proofs.Says.{says-le, _also_}
 use Rattle.meaning.proofs.Tables.{says-totals}
+use Rattle.meaning.proofs.Lengths.{overhead-in, cable-in, has-length}
 use Rattle.sizes.proofs.Scaling.{systems-fit}
 use Rattle.layout.specs.declared.RowCounts.{RowCounts}
 use Rattle.layout.specs.declared.StudySettings.{StudySettings}
@@ -32,13 +33,14 @@ use Rattle.tables.specs.declared.Opened.{Opened}
 use Rattle.supply.specs.Supply.{baseSupply}
 use Rattle.supply.proofs.Bounds.{base-supply-at}
 use Rattle.proposal.specs.Case.{caseOf}
-use Rattle.proposal.proofs.Told.{Told, kw-at, scaled-same, of-rows, overhead-in, cable-in}
+use Rattle.proposal.proofs.Told.{Told, kw-at, scaled-same, of-rows}
 
 -- a sound row's length is in range
-long-is : (s : Settings) (nodes : ℕ) → SoundSettings nodes s → (c : Circuit) → c .overhead ≤ 500000 → c .cable ≤ 500000 → lengthIfInRange s c ≡ expandedLength s c
+long-is : (S : Study) → SoundSettings (length (S .nodes)) (S .settings) → (i : ℕ) → SoundCircuit S i
+    → lengthIfInRange (S .settings) (circuit (S .circuits) i) ≡ expandedLength (S .settings) (circuit (S .circuits) i)
 unfolding lengthIfInRange lengthInRange
-long-is s nodes sound c o k =
-    rw ((says-le also says-le also says-le also says-le) .1 (((o, k), overhead-in s nodes sound (c .voltage) .most), cable-in s nodes sound (c .voltage) .most)) refl
+long-is S sound i row =
+    rw ((says-le also says-le also says-le also says-le) .1 (((row .overhead, row .cable), overhead-in (S .settings) _ sound S i row .most), cable-in (S .settings) _ sound S i row .most)) refl
 
 module _ (S : Study) (sound : SoundTables S) (few : length (S .nodes) ≤ 256) (fewer : length (S .circuits) ≤ 512)
     (o : Opened) (er : o .counts ≡ countsOf S) (es : settingsIn (o .settings) ≡ S .settings) (en : o .nodes ≡ nodesOf S) (ee : o .circuits ≡ circuitsOf S)
@@ -110,7 +112,8 @@ module _ (S : Study) (sound : SoundTables S) (few : length (S .nodes) ≤ 256) (
         second = of-rows 0 512 _ _ (ends .second) fewer (ap (λ (e : CircuitColumns). e .second) ee);
         x = of-rows 0 512 _ _ (ends .x) fewer (ap (λ (e : CircuitColumns). e .x) ee);
         lengths = λ c h. of-rows 0 512 _ _ (ends .length) fewer (ap (λ (e : CircuitColumns). e .length) ee) c h
-            ∙ (let r = sound .circuits c h in long-is (S .settings) _ (sound .settings) _ (r .overhead) (r .cable));
+            ∙ long-is S (sound .settings) c (sound .circuits c h);
+        some = λ c h. has-length (S .settings) _ (sound .settings) S c (sound .circuits c h);
         short = systems-fit S sound runs .expanded;
         marks = of-rows 0 512 _ _ (ends .mark) fewer (ap (λ (e : CircuitColumns). e .mark) ee);
         supply = supplied;

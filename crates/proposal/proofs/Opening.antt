@@ -87,4 +87,4 @@ module _ (file : List ℕ) (runs : Runs) (o : Opened) (t : Opens file (length (r
     proposals-decide k q r f w g =
         rw g (with-judgement r
         (passes-first (proposalsStage (gridOf S) runs) (t .judgement) h
-        (f ∙ ap (λ (c : Case). proposalsIn c (runs .base) (runs .wider) (runs .local)) q ∙ proposals-told (gridOf S) (caseOf o) told-case (s .nodesFew .most) runs (s .tables .settings) circuits-of)))
+        (f ∙ ap (λ (c : Case). proposalsIn c (runs .base) (runs .wider) (runs .local)) q ∙ proposals-told (gridOf S) (caseOf o) told-case (s .nodesFew .most) runs circuits-of)))

@@ -1,15 +1,12 @@
 -- Columns that are a grid's: with them supply, offset and direction are those of the definitions.
-use mathlib.Core.Path.{_≡_, refl, sym, _∙_, ap, ap₂}
-use mathlib.Core.Bool.{Bool, true, false, not, cond}
+use mathlib.Core.Path.{_≡_, refl, _∙_, ap, ap₂}
+use mathlib.Core.Bool.{not, cond}
 use mathlib.Core.List.{List}
 use Prim.Native.Nat.{ℕ, _+_, _*_, _-_, _/_, _%_, _≤_, _<_}
-use native.Mathlib.Nat.{mul-le-mul-left, zero-mul}
-use native.Mathlib.Decide.{decLe}
 use native.Mathlib.Omega.{arith}
 use lib.Dec.{eqb, leb}
 use lib.IntN.{pos}
 use lib.ListN.{length, getD, getD-replicate}
-use borrow.Author.Tests.{le-leb}
 use Rattle.integers.proofs.Sum.{sum-same}
 use Rattle.meaning.specs.declared.Kw.{Kw}
 use Rattle.meaning.specs.declared.System.{System}
@@ -17,13 +14,12 @@ use Rattle.meaning.specs.declared.System.the-variants.{Base, Wider, Local}
 use Rattle.meaning.specs.declared.Refusal.the-variants.{DirectionInDoubt}
 use Rattle.meaning.specs.Answers.{at, _orElse_}
 use Rattle.meaning.specs.Rows.{rows, failing}
-use Rattle.meaning.specs.Study.{Settings, Circuit, Runs, circuit}
+use Rattle.meaning.specs.Study.{Runs, circuit}
 use Rattle.meaning.specs.Grid.{Grid, place}
 use Rattle.meaning.specs.Network.{networkOf}
 use Rattle.meaning.specs.Scaled.{wholeShare, leftOver, missing, scaled}
-use Rattle.meaning.specs.Direction.{overheadFactor, cableFactor, expandedLength, hasLength, signedLength}
+use Rattle.meaning.specs.Direction.{expandedLength, hasLength, signedLength}
 use Rattle.meaning.specs.Systems.{runOf, supply, lengthOf, offset, proposed, solutionStage, directionClear, directionStage, proposalsStage}
-use Rattle.meaning.specs.Conditions.{InRange, SoundSettings}
 use Rattle.meaning.proofs.Rows.{rows-at, lowest-same}
 use Rattle.flows.specs.declared.Case.{Case}
 use Rattle.flows.specs.Flows.{number, circuitsIn, netIn, signedBy, offsetIn, offsetAt}
@@ -47,6 +43,7 @@ pub record Told (G : Grid) (k : Case) : Type 0 where
   pub x : (c : ℕ) → c < length (G .circuits) → numberAt (k .x) c ≡ circuit (G .circuits) c .x
   pub lengths : (c : ℕ) → c < length (G .circuits) → numberAt (k .length) c ≡ expandedLength (G .settings) (circuit (G .circuits) c)
   pub short : (c : ℕ) → c < length (G .circuits) → expandedLength (G .settings) (circuit (G .circuits) c) ≤ 30000000000
+  pub some : (c : ℕ) → c < length (G .circuits) → leb 1 (expandedLength (G .settings) (circuit (G .circuits) c)) ≡ hasLength (circuit (G .circuits) c)
   pub marks : (c : ℕ) → c < length (G .circuits) → numberAt (k .mark) c ≡ circuit (G .circuits) c .localMark
   pub supply : (v : ℕ) → v < k .nodes → number (k .supply) v ≡ supply G Base v
 
@@ -67,40 +64,6 @@ module _ (n : ℕ) (f g : ℕ → ℕ) (demand : ℕ) (e : (v : ℕ) → v < n �
   pub scaled-same : (v : ℕ) → v < n → scaled n f demand v ≡ scaled n g demand v
   unfolding scaled
   scaled-same v h = rw (share-same v h, over-same v h, missing-same, sum-same v (leftOver n f demand) (leftOver n g demand) (λ i l. over-same i (omega arith))) refl
-
--- ---- 11: with factors of at least 1 a circuit has an expanded length exactly when it has a length
-long-both : (o k f g : ℕ) → 1 ≤ f → 1 ≤ g → leb 1 (o * f + k * g) ≡ leb 1 (o + k)
-long-both o k f g h l = go (decLe 1 (o + k))
-  where
-    go : Dec (1 ≤ o + k) → leb 1 (o * f + k * g) ≡ leb 1 (o + k)
-    go (yes y) = le-leb 1 (o * f + k * g) (omega (arith, mul-le-mul-left o h, mul-le-mul-left k l)) ∙ sym (le-leb 1 (o + k) y)
-    go (no n) =
-        let a : o ≡ 0 = omega arith in
-        let b : k ≡ 0 = omega arith in
-        rw (a, b, zero-mul f, zero-mul g) refl
-
-module _ (s : Settings) (nodes : ℕ) (sound : SoundSettings nodes s) where
-  pub overhead-in : (voltage : ℕ) → InRange (overheadFactor s voltage) 1000 30000
-  unfolding overheadFactor
-  overhead-in voltage = go (eqb voltage 400) (eqb voltage 275)
-    where
-      go : (a b : Bool) → InRange (cond a (s .overhead400) (cond b (s .overhead275) (s .overhead132))) 1000 30000
-      go true b = record { least = omega (arith, sound .overhead400); most = omega (arith, sound .overhead400) }
-      go false true = sound .overhead275
-      go false false = sound .overhead132
-
-  pub cable-in : (voltage : ℕ) → InRange (cableFactor s voltage) 1000 30000
-  unfolding cableFactor
-  cable-in voltage = go (eqb voltage 400) (eqb voltage 275)
-    where
-      go : (a b : Bool) → InRange (cond a (s .cable400) (cond b (s .cable275) (s .cable132))) 1000 30000
-      go true b = sound .cable400
-      go false true = sound .cable275
-      go false false = sound .cable132
-
-  pub has-length : (c : Circuit) → leb 1 (expandedLength s c) ≡ hasLength c
-  unfolding expandedLength hasLength
-  has-length c = long-both (c .overhead) (c .cable) _ _ (omega (arith, overhead-in (c .voltage) .least)) (omega (arith, cable-in (c .voltage) .least))
 
 pub kw-at : {a : Kw} {n : ℕ} → a ≡ kilowatts n → a .0 ≡ n
 kw-at e = ap (λ (a : Kw). a .0) e
@@ -140,19 +103,19 @@ module _ (G : Grid) (k : Case) (t : Told G k) (few : k .nodes ≤ 256) (runs : R
   })
 
   -- 11
-  clear-same : SoundSettings (length (G .nodes)) (G .settings) → (c : ℕ) → c < length (G .circuits) → clearBy (k .nodes) (k .length) (runs .base) c ≡ directionClear G runs c
+  clear-same : (c : ℕ) → c < length (G .circuits) → clearBy (k .nodes) (k .length) (runs .base) c ≡ directionClear G runs c
   unfolding directionClear clearBy networkOf
-  clear-same sound c h = rw (t .lengths c h, has-length (G .settings) _ sound (circuit (G .circuits) c), t .nodes) refl
+  clear-same c h = rw (t .lengths c h, t .some c h, t .nodes) refl
 
-  doubt-told : SoundSettings (length (G .nodes)) (G .settings) → circuitsIn (k .nodes) (length (runs .base)) ≡ length (G .circuits) → doubtIn k (runs .base) ≡ directionStage G runs
+  doubt-told : circuitsIn (k .nodes) (length (runs .base)) ≡ length (G .circuits) → doubtIn k (runs .base) ≡ directionStage G runs
   unfolding directionStage
-  doubt-told sound m =
+  doubt-told m =
       ap (λ o. at o DirectionInDoubt)
       (ap (failing (clearBy (k .nodes) (k .length) (runs .base))) m
-      ∙ lowest-same (λ c. not (clearBy (k .nodes) (k .length) (runs .base) c)) (λ c. not (directionClear G runs c)) (length (G .circuits)) (λ c h. ap not (clear-same sound c h)))
+      ∙ lowest-same (λ c. not (clearBy (k .nodes) (k .length) (runs .base) c)) (λ c. not (directionClear G runs c)) (length (G .circuits)) (λ c h. ap not (clear-same c h)))
 
   -- the whole chain
-  pub proposals-told : SoundSettings (length (G .nodes)) (G .settings) → ((system : System) → circuitsIn (k .nodes) (length (runOf runs system)) ≡ length (G .circuits))
+  pub proposals-told : ((system : System) → circuitsIn (k .nodes) (length (runOf runs system)) ≡ length (G .circuits))
       → proposalsIn k (runs .base) (runs .wider) (runs .local) ≡ proposalsStage G runs
   unfolding proposalsStage runOf
-  proposals-told sound m = ap₂ _orElse_ (net-alike Base (m Base)) (ap₂ _orElse_ (doubt-told sound (m Base)) (ap₂ _orElse_ (net-alike Wider (m Wider)) (net-alike Local (m Local))))
+  proposals-told m = ap₂ _orElse_ (net-alike Base (m Base)) (ap₂ _orElse_ (doubt-told (m Base)) (ap₂ _orElse_ (net-alike Wider (m Wider)) (net-alike Local (m Local))))

@@ -1,21 +1,19 @@
 -- What sound tables say of the grid that the figures are made from. Past this file nothing looks into a study.
 use mathlib.Core.Path.{_≡_}
-use mathlib.Core.Bool.{Bool, true, false, cond}
 use Prim.Native.Nat.{ℕ, _≤_, _<_}
-use native.Mathlib.Nat.{mul-le-mul}
 use native.Mathlib.Omega.{arith}
-use lib.Dec.{eqb}
 use lib.ListN.{length}
 use Rattle.integers.specs.Numbers.{sum}
 use Rattle.integers.proofs.Sum.{sum-le}
-use Rattle.meaning.specs.Study.{Study, Settings, Circuit, node, circuit}
+use Rattle.meaning.specs.Study.{Study, node, circuit}
 use Rattle.meaning.specs.Grid.{Grid, gridOf, totalTec, totalDemand}
-use Rattle.meaning.specs.Direction.{overheadFactor, cableFactor, expandedLength}
+use Rattle.meaning.specs.Direction.{expandedLength}
 use Rattle.meaning.specs.declared.Side.{Side}
 use Rattle.meaning.specs.declared.Side.the-variants.{Generation, Demand}
 use Rattle.meaning.specs.Figures.{zones, zoneOf, weight, paying, totalPaying}
-use Rattle.meaning.specs.Conditions.{InRange, SoundSettings, SoundTables, SoundStudy}
+use Rattle.meaning.specs.Conditions.{InRange, SoundTables, SoundStudy}
 use Rattle.meaning.proofs.Plants.{node-pays}
+use Rattle.meaning.proofs.Lengths.{expanded-most}
 
 pub record Ranged (G : Grid) : Type 0 where
   pub zonesMost : (side : Side) → zones G side ≤ 32
@@ -47,30 +45,6 @@ unfolding totalPaying paying
 divisors S study Generation = study .chargeable
 divisors S study Demand = study .tables .totals .demandTotal .least
 
--- 01, step 4: two lengths of up to 500 km, each at a factor of up to 30
-module _ (s : Settings) (nodes : ℕ) (sound : SoundSettings nodes s) where
-  overhead-most : (voltage : ℕ) → overheadFactor s voltage ≤ 30000
-  unfolding overheadFactor
-  overhead-most voltage = go (eqb voltage 400) (eqb voltage 275)
-    where
-      go : (a b : Bool) → cond a (s .overhead400) (cond b (s .overhead275) (s .overhead132)) ≤ 30000
-      go true b = omega (arith, sound .overhead400)
-      go false true = sound .overhead275 .most
-      go false false = sound .overhead132 .most
-
-  cable-most : (voltage : ℕ) → cableFactor s voltage ≤ 30000
-  unfolding cableFactor
-  cable-most voltage = go (eqb voltage 400) (eqb voltage 275)
-    where
-      go : (a b : Bool) → cond a (s .cable400) (cond b (s .cable275) (s .cable132)) ≤ 30000
-      go true b = sound .cable400 .most
-      go false true = sound .cable275 .most
-      go false false = sound .cable132 .most
-
-  expanded-most : (c : Circuit) → c .overhead ≤ 500000 → c .cable ≤ 500000 → expandedLength s c ≤ 30000000000
-  unfolding expandedLength
-  expanded-most c o k = omega (arith, mul-le-mul o (overhead-most (c .voltage)), mul-le-mul k (cable-most (c .voltage)))
-
 pub ranged : (S : Study) → SoundTables S → Ranged (gridOf S)
 unfolding gridOf zones zoneOf weight
 ranged S sound = record {
@@ -86,7 +60,7 @@ ranged S sound = record {
   localFactor = sound .settings .localFactor .most;
   revenue = sound .settings .revenue;
   names = λ v h. sound .nodes v h .name .long;
-  expanded = λ c h. expanded-most (S .settings) (length (S .nodes)) (sound .settings) (circuit (S .circuits) c) (sound .circuits c h .overhead) (sound .circuits c h .cable);
+  expanded = λ c h. expanded-most (S .settings) (length (S .nodes)) (sound .settings) S c (sound .circuits c h);
 }
   where
     zonesMost : (side : Side) → zones (gridOf S) side ≤ 32

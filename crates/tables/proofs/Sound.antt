@@ -87,7 +87,7 @@ opened-sound {file} {base} {wider} {local} {o} t q =
       circuitCount = m;
       stationCount = k;
       nodesFew = record { least = omega (arith, l .0, w .nodes .least); most = omega (arith, l .0, w .nodes .most) };
-      circuitsFew = omega (arith, l .1, w .circuits);
+      circuitsFew = omega (arith, l .1, frame.circuits-most file (runsIn file) w);
       stationsFew = omega (arith, l .2, w .stations);
       baseRun = omega (arith, l .0, l .1, r .0 .0, w .solutions 4 (record { least = omega arith; most = omega arith }));
       widerRun = omega (arith, l .0, l .1, r .0 .1, w .solutions 5 (record { least = omega arith; most = omega arith }));

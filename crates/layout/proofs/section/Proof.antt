@@ -1,7 +1,6 @@
-use mathlib.Core.Path.{_≡_, refl, sym, _∙_, ap}
-use mathlib.Core.Bool.{Bool, true, _&&_}
+use mathlib.Core.Path.{_≡_, refl, sym, _∙_}
+use mathlib.Core.Bool.{true}
 use Prim.Native.Nat.{_<_}
-use lib.Dec.{ltb}
 use borrow.Author.Needs.{needs}
 use Rattle.meaning.specs.File.{fileWhole}
 use Rattle.meaning.proofs.Says.{_also_, says-lt, says-true}

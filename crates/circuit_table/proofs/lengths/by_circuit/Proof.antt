@@ -10,10 +10,10 @@ use Rattle.circuit_table.proofs.lengths.by_circuit.Statement.{statement
 use Rattle.circuit_table.proofs.lengths.by_circuit.Tie as tie
 
 abbrev Inv-loop : tie.InvT-loop
-Inv-loop file rows factors all₀ i₀ all i = Filling 0 512 (rows .count) (λ j. lengthIfInRange (settingsIn factors) (circuitAt file (rowAt rows j))) all i
+Inv-loop file rows factors size all₀ i₀ all i = Filling 0 512 (rows .count) (λ j. lengthIfInRange (settingsIn factors) (circuitAt file (rows .size) (rowAt rows j))) all i
 
 abbrev μ-loop : tie.MeasureT-loop
-μ-loop file rows factors all₀ i₀ all i = 512 - i
+μ-loop file rows factors size all₀ i₀ all i = 512 - i
 
 loop-holds : tie.Need-loop-holds Inv-loop μ-loop
 loop-holds c = filling-none

@@ -1,9 +1,4 @@
-use Prim.Native.Nat.{ℕ, _+_, _*_, _≤_}
-use native.Mathlib.Omega.{arith}
-use mathlib.Core.Path.{_≡_, _∙_}
-use Rattle.layout.specs.Frame.{settingsIn}
-use Rattle.circuit_table.specs.Lengths.{lengthIfInRange}
-use Rattle.meaning.specs.File.{circuitAt}
+use mathlib.Core.Path.{_∙_}
 use Rattle.circuit_table.proofs.LengthLaws.{length-read}
 use borrow.Author.Needs.{needs}
 use Rattle.circuit_table.proofs.lengths.length_at.Statement.{statement}
@@ -27,6 +22,9 @@ add-u32-at-3 c = search needs
 u32-at-requires-3 : tie.Need-u32-at-requires-3
 u32-at-requires-3 c κs = search needs
 
+factor-at-requires : tie.Need-factor-at-requires
+factor-at-requires c κs = search needs
+
 overhead-factor-requires : tie.Need-overhead-factor-requires
 overhead-factor-requires c κs = search needs
 
@@ -39,9 +37,10 @@ expanded-requires c κs = search needs
 returns : tie.Need-returns
 returns c =
     let p = c .before in
+    let own = p .before .before in
     c .expanded .ensures
-    ∙ length-read _ _ _ _ _ _ _ _ (p .before .before .before .before .u32-at .ensures .value) (p .before .before .before .u32-at2 .ensures .value)
-    (p .before .before .u32-at3 .ensures .value) (p .before .overhead-factor .ensures) (p .cable-factor .ensures)
+    ∙ length-read _ _ _ _ _ _ _ _ _ _ (own .before .before .before .u32-at .ensures .value) (own .before .before .u32-at2 .ensures .value)
+    (own .before .u32-at3 .ensures .value) (own .factor-at .ensures) (p .before .overhead-factor .ensures) (p .cable-factor .ensures)
 
 pub length-at-spec : {M : Type 1} → statement M
 length-at-spec =
@@ -53,6 +52,7 @@ length-at-spec =
     u32-at-requires-2
     add-u32-at-3
     u32-at-requires-3
+    factor-at-requires
     overhead-factor-requires
     cable-factor-requires
     expanded-requires

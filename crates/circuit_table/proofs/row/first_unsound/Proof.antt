@@ -15,15 +15,15 @@ use Rattle.circuit_table.proofs.row.first_unsound.Statement.{statement}
 use Rattle.circuit_table.proofs.row.first_unsound.Tie as tie
 
 abbrev Inv-loop : tie.InvT-loop
-Inv-loop file nodes rows columns count i₀ i = (i ≤ count) × Passed (unsoundCircuit file rows) i
+Inv-loop file nodes rows columns count size i₀ i = (i ≤ count) × Passed (unsoundCircuit file rows) i
 
 abbrev μ-loop : tie.MeasureT-loop
-μ-loop file nodes rows columns count i₀ i = count - i
+μ-loop file nodes rows columns count size i₀ i = count - i
 
 -- what the test tells of a row
 told : (c : tie.After-sound-row Inv-loop μ-loop)
     → let l = c .before .before .before .before .before in
-    let a = l .before .before .args in soundCircuitRow (readable (a .file .now) .nodes) (circuitAt (a .file .now) (rowAt (a .rows) (l .loop .i))) ≡ c .sound-row .result
+    let a = l .before .before .args in soundCircuitRow (readable (a .file .now) .nodes) (circuitAt (a .file .now) (a .rows .size) (rowAt (a .rows) (l .loop .i))) ≡ c .sound-row .result
 told c = sym (rw (c .before .row-at .ensures) at (c .sound-row .ensures))
 
 loop-holds : tie.Need-loop-holds Inv-loop μ-loop

@@ -5,14 +5,23 @@ use borrow.Author.Needs.{needs}
 use Rattle.circuit_table.proofs.row.sound_row.Statement.{statement}
 use Rattle.circuit_table.proofs.row.sound_row.Tie as tie
 
+add-u32-at : tie.Need-add-u32-at
+add-u32-at c = search needs
+
+u32-at-requires : tie.Need-u32-at-requires
+u32-at-requires c κs = search needs
+
+factor-at-requires : tie.Need-factor-at-requires
+factor-at-requires c κs = search needs
+
 sound-ends-requires : tie.Need-sound-ends-requires
 sound-ends-requires c κs = search needs
 
-add-known-voltage : tie.Need-add-known-voltage
-add-known-voltage c = search needs
+sound-voltage-requires : tie.Need-sound-voltage-requires
+sound-voltage-requires c κs = search needs
 
-known-voltage-requires : tie.Need-known-voltage-requires
-known-voltage-requires c κs = search needs
+sound-factor-requires : tie.Need-sound-factor-requires
+sound-factor-requires c κs = search needs
 
 add-between : tie.Need-add-between
 add-between c = search needs
@@ -41,16 +50,30 @@ at-most-requires-3 c κs = search needs
 returns : tie.Need-returns
 unfolding soundCircuitRow circuitAt
 returns c =
-    let v = c .before .before .before .before in
-    rw (c .at-most3 .ensures, c .before .at-most2 .ensures, c .before .before .at-most .ensures, c .before .before .before .between .ensures, v .known-voltage .ensures, v .before .sound-ends .ensures) refl
+    let f = c .before .before .before .before in
+    let own = f .before .before .before in
+    rw (
+      c .at-most3 .ensures,
+      c .before .at-most2 .ensures,
+      c .before .before .at-most .ensures,
+      c .before .before .before .between .ensures,
+      f .sound-factor .ensures,
+      f .before .sound-voltage .ensures,
+      f .before .before .sound-ends .ensures,
+      own .factor-at .ensures,
+      own .before .u32-at .ensures .value,
+    ) refl
 
 pub sound-row-spec : {M : Type 1} → statement M
 sound-row-spec =
     tie.close
     (tie.spec
+    add-u32-at
+    u32-at-requires
+    factor-at-requires
     sound-ends-requires
-    add-known-voltage
-    known-voltage-requires
+    sound-voltage-requires
+    sound-factor-requires
     add-between
     between-requires
     add-at-most

@@ -6,10 +6,13 @@ use Rattle.layout.proofs.trailer.chained.Statement.{statement}
 use Rattle.layout.proofs.trailer.chained.Tie as tie
 
 abbrev Inv-loop : tie.InvT-loop
-Inv-loop file follow₀ start₀ section₀ follow start section = ChainedTo file section follow start
+Inv-loop file version follow₀ start₀ section₀ follow start section = ChainedTo file section follow start
 
 abbrev μ-loop : tie.MeasureT-loop
-μ-loop file follow₀ start₀ section₀ follow start section = 7 - section
+μ-loop file version follow₀ start₀ section₀ follow start section = 7 - section
+
+version-requires : tie.Need-version-requires Inv-loop μ-loop
+version-requires c κs = search needs
 
 loop-holds : tie.Need-loop-holds Inv-loop μ-loop
 loop-holds c = chained-none
@@ -24,12 +27,12 @@ count-requires : tie.Need-count-requires Inv-loop μ-loop
 count-requires c κs = search needs
 
 mul-start : tie.Need-mul-start Inv-loop μ-loop
-mul-start c = omega (arith, size-low (c .before .before .before .before .loop .section) (c .before .record-size .ensures) (c .count .ensures .1))
+mul-start c = omega (arith, size-low _ (c .before .before .before .before .loop .section) (c .before .record-size .ensures) (c .count .ensures .1))
 
 add-start : tie.Need-add-start Inv-loop μ-loop
 add-start c =
     let l = c .before .before .before .before in
-    omega (arith, l .loop .inv .within, l .loop .inv .low, size-low (l .loop .section) (c .before .record-size .ensures) (c .count .ensures .1))
+    omega (arith, l .loop .inv .within, l .loop .inv .low, size-low _ (l .loop .section) (c .before .record-size .ensures) (c .count .ensures .1))
 
 add-section : tie.Need-add-section Inv-loop μ-loop
 add-section c = search needs
@@ -40,7 +43,7 @@ loop-less c = search needs
 loop-again : tie.Need-loop-again Inv-loop μ-loop
 loop-again c =
     let l = c .before .before .before .before in
-    chained-on (l .loop .inv) (omega arith) (c .before .before .offset .ensures .0) (c .before .record-size .ensures) (c .count .ensures .0) (c .count .ensures .1)
+    chained-on (l .loop .inv) (omega arith) (c .before .before .offset .ensures .0) (rw (l .before .version .ensures) at (c .before .record-size .ensures)) (c .count .ensures .0) (c .count .ensures .1)
 
 add-result : tie.Need-add-result Inv-loop μ-loop
 add-result c = omega (arith, c .before .loop .inv .within, c .before .loop .inv .low)
@@ -54,6 +57,7 @@ chained-spec =
     (tie.spec
     Inv-loop
     μ-loop
+    version-requires
     loop-holds
     offset-requires
     record-size-requires

@@ -1,0 +1,103 @@
+-- 02, request 3: whole files that say the same are one case, whatever their versions; what version 1 can say; and the length of a circuit with a factor of its own.
+use mathlib.Core.Path.{_≡_, refl, sym, _∙_, ap, ap₂}
+use mathlib.Core.Logic.{_⊎_, inl, inr}
+use mathlib.Core.List.{List}
+use Prim.Native.Nat.{ℕ, _+_, _<_}
+use native.Mathlib.Decide.{decLt}
+use native.Mathlib.Omega.{arith}
+use borrow.Author.Tests.{ne-eqb}
+use lib.ListN.{length}
+use Rattle.meaning.specs.declared.Judgement.{Judgement}
+use Rattle.meaning.specs.declared.Judgement.the-variants.{Passes}
+use Rattle.meaning.specs.Study.{Circuit, Study, Runs, circuit, noCircuit}
+use Rattle.meaning.specs.File.{circuitSize, recordSize, versionOf, section, sectionCount, rowAt, factorAt, circuitAt, runsWhole, studyOf, runsIn}
+use Rattle.meaning.specs.Answers.{_orElse_}
+use Rattle.meaning.specs.Grid.{gridOf}
+use Rattle.meaning.specs.Direction.{ownOr, expandedLength}
+use Rattle.meaning.specs.Systems.{proposalsStage}
+use Rattle.meaning.specs.Sheet.{sheet}
+use Rattle.meaning.specs.Outcome.{fileStage, runsStage, rowsStage, gridStage, tablesStage, judged, sheetOf, Settled, bufferStage, answeredBy, answerOf, settledBy, settle, printedBy, prints}
+use Rattle.meaning.specs.Conditions.{InRange, WholeFile}
+use Rattle.meaning.specs.Versions.{SayTheSame, OneCase, OneSheetInEitherVersion, VersionOneByVoltage, NewVoltagesInVersionTwo, OwnFactorForBothLengths, NoFactorNoChange}
+use Rattle.meaning.proofs.Rows.{rows-at, rows-past}
+use Rattle.meaning.proofs.Answers.{passes-orElse, orElse-passes}
+use Rattle.meaning.proofs.Whole.{judge-file}
+use Rattle.meaning.proofs.Frame.{counts}
+
+-- ---- a whole file is judged by what it says, and by the lengths of the runs
+
+module _ (file file′ : List ℕ) (same : SayTheSame file file′) where
+  same-study : studyOf file ≡ studyOf file′
+  same-study = λ i. record { settings = same .settings i; nodes = same .nodes i; circuits = same .circuits i; stations = same .stations i }
+
+  passes : (f : List ℕ) → WholeFile f (runsIn f) → fileStage f ≡ Passes
+  passes f w = passes-orElse _ _ .0 (judge-file f (runsIn f) .passes .1 (w, tt)) .0
+
+  -- "count is nodes plus circuits": each solution of both files has as many numbers
+  numbers : (f : List ℕ) → WholeFile f (runsIn f) → (s : ℕ) → InRange s 4 6 → sectionCount f s ≡ length (studyOf f .nodes) + length (studyOf f .circuits)
+  numbers f w s r = let c = counts f (runsIn f) w in omega (arith, w .solutions s r, c .0, c .1)
+
+  same-count : (s : ℕ) → InRange s 4 6 → sectionCount file s ≡ sectionCount file′ s
+  same-count s r = numbers file (same .whole) s r ∙ ap (λ (S : Study). length (S .nodes) + length (S .circuits)) same-study ∙ sym (numbers file′ (same .otherWhole) s r)
+
+  same-runs : (b w l : ℕ) → runsStage file b w l ≡ runsStage file′ b w l
+  unfolding runsStage runsWhole
+  same-runs b w l =
+      rw (same-count 4 (record { least = omega arith; most = omega arith }), same-count 5 (record { least = omega arith; most = omega arith }), same-count 6 (record { least = omega arith; most = omega arith })) refl
+
+  abbrev judgedBy : (stage : Judgement) → Study → Runs → Judgement
+  judgedBy stage S runs = (stage orElse rowsStage S orElse gridStage (gridOf S)) orElse proposalsStage (gridOf S) runs
+
+  -- what the file itself asks has passed
+  judged-whole : (f : List ℕ) (runs : Runs) → WholeFile f (runsIn f)
+      → judged f runs ≡ judgedBy (runsStage f (length (runs .base)) (length (runs .wider)) (length (runs .local))) (studyOf f) runs
+  unfolding judged tablesStage
+  judged-whole f runs w = ap (λ (a : Judgement). a orElse proposalsStage (gridOf (studyOf f)) runs) (orElse-passes _ (passes f w))
+
+  judged-alike : (runs : Runs) → judged file runs ≡ judged file′ runs
+  judged-alike runs =
+      judged-whole file runs (same .whole)
+      ∙ ap₂ (λ (a : Judgement) (S : Study). judgedBy a S runs) (same-runs (length (runs .base)) (length (runs .wider)) (length (runs .local))) same-study
+      ∙ sym (judged-whole file′ runs (same .otherWhole))
+
+  same-sheet : (runs : Runs) → sheetOf file runs ≡ sheetOf file′ runs
+  same-sheet runs = ap (λ (S : Study). sheet (gridOf S) runs) same-study
+
+  one-case : OneCase file file′
+  unfolding settle answerOf prints
+  one-case = record {
+    settled = λ runs buffer. ap₂ (λ (j : Judgement) (s : List ℕ). settledBy (j orElse bufferStage s buffer) s buffer) (judged-alike runs) (same-sheet runs);
+    judged = λ runs. ap₂ answeredBy (judged-alike runs) (same-sheet runs);
+    printed = λ e. ap₂ printedBy (judged-alike (runsIn file) ∙ ap (judged file′) e) (same-sheet (runsIn file) ∙ ap (sheetOf file′) e);
+  }
+
+pub one-sheet-in-either-version : OneSheetInEitherVersion
+one-sheet-in-either-version = one-case
+
+-- ---- version 1
+pub version-one-by-voltage : VersionOneByVoltage
+unfolding studyOf section recordSize circuitSize circuitAt factorAt
+version-one-by-voltage file e c = go (decLt c (sectionCount file 2))
+  where
+    row : ℕ → Circuit
+    row i = circuitAt file (circuitSize (versionOf file)) (rowAt (section file 2) i)
+
+    go : Dec (c < sectionCount file 2) → circuit (studyOf file .circuits) c .factor ≡ 0
+    go (yes h) = ap (λ (r : Circuit). r .factor) (rows-at noCircuit (sectionCount file 2) row c h) ∙ rw e refl
+    go (no h) = ap (λ (r : Circuit). r .factor) (rows-past noCircuit (sectionCount file 2) row c (omega arith))
+
+pub new-voltages-in-version-two : NewVoltagesInVersionTwo
+new-voltages-in-version-two file runs a c h n = go (a .whole .version)
+  where
+    go : (versionOf file ≡ 1) ⊎ (versionOf file ≡ 2) → versionOf file ≡ 2
+    go (inl e) = absurd (a .study .tables .circuits c h .ownFactor n (version-one-by-voltage file e c))
+    go (inr e) = e
+
+-- ---- lengths
+pub own-factor-for-both-lengths : OwnFactorForBothLengths
+unfolding expandedLength ownOr
+own-factor-for-both-lengths s c n = rw (ne-eqb (c .factor) 0 n) (omega arith)
+
+pub no-factor-no-change : NoFactorNoChange
+unfolding expandedLength ownOr
+no-factor-no-change s c e = rw e refl
