@@ -1,7 +1,7 @@
 //! Cases of chosen counts, accepted and refused, through the reference's maker and solver.
 
 use reference::file::{padded, Case, CircuitRow, NodeRow, StationRow};
-use reference::largest::largest;
+use reference::largest::{largest, largest_of_version_2};
 use reference::solver::solved;
 
 /// A case as an entry takes it: the file's bytes, and the three runs beside them.
@@ -20,6 +20,11 @@ impl Input {
 /// The largest case: 256 nodes, 512 circuits, 512 stations, 32 and 32 zones.
 pub fn greatest() -> Case {
     largest()
+}
+
+/// The largest case of version 2: 480 circuits, most of them with factors.
+pub fn greatest_of_version_2() -> Case {
+    largest_of_version_2()
 }
 
 /// The name of a node: twelve letters that differ late.
@@ -42,6 +47,7 @@ pub fn sized(nodes: usize, circuits: usize, stations: usize) -> Case {
                 ..pattern.stations[k].clone()
             })
             .collect(),
+        version: pattern.version,
         settings: reference::file::Settings { reference: 1, ..pattern.settings },
         runs: Default::default(),
     };

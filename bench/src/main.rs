@@ -144,6 +144,8 @@ fn growth() {
     }
     heading("a chain, its table reversed");
     line("256 nodes, 255 circuits", &Input::of(&cases::chain()));
+    heading("version 2, with factors");
+    line("256 nodes, 480 c., 512 st.", &Input::of(&cases::greatest_of_version_2()));
 }
 
 fn main() {

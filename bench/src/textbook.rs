@@ -70,17 +70,29 @@ fn well_formed(name: &Name) -> bool {
     letters > 0 && name[letters..].iter().all(|b| *b == b' ')
 }
 
-/// The sections of a whole file: settings, nodes, circuits, stations.
-fn sections(file: &[u8]) -> Option<[&[u8]; 4]> {
+/// A whole file's settings, nodes, circuits and stations, and the bytes of a circuit row, by its version.
+struct Sections<'a> {
+    settings: &'a [u8],
+    nodes: &'a [u8],
+    circuits: &'a [u8],
+    stations: &'a [u8],
+    circuit_size: usize,
+}
+
+fn sections(file: &[u8]) -> Option<Sections<'_>> {
     let start = file.len().checked_sub(64)?;
     let trailer: Vec<u32> = file[start..].chunks(4).map(|word| u32_at(word, 0)).collect();
     let counts: Vec<usize> = trailer[..14].chunks(2).map(|pair| pair[1] as usize).collect();
     let numbers = counts[1] + counts[2];
-    if trailer[14] != 1
-        || trailer[15] as usize != file.len()
+    let (circuit_size, most_circuits) = match trailer[14] {
+        1 => (44, 512),
+        2 => (48, 480),
+        _ => return None,
+    };
+    if trailer[15] as usize != file.len()
         || counts[0] != 1
         || !(1..=256).contains(&counts[1])
-        || counts[2] > 512
+        || counts[2] > most_circuits
         || counts[3] > 512
         || counts[4..].iter().any(|count| *count != numbers)
     {
@@ -88,7 +100,7 @@ fn sections(file: &[u8]) -> Option<[&[u8]; 4]> {
     }
     let mut end = 0;
     let mut found = Vec::new();
-    for (k, size) in [64, 24, 44, 32, 8, 8, 8].iter().enumerate() {
+    for (k, size) in [64, 24, circuit_size, 32, 8, 8, 8].iter().enumerate() {
         if trailer[2 * k] as usize != end {
             return None;
         }
@@ -99,7 +111,7 @@ fn sections(file: &[u8]) -> Option<[&[u8]; 4]> {
     if end != start || u32_at(file, 52) != 0 {
         return None;
     }
-    Some([found[0], found[1], found[2], found[3]])
+    Some(Sections { settings: found[0], nodes: found[1], circuits: found[2], stations: found[3], circuit_size })
 }
 
 fn settings(bytes: &[u8], nodes: usize) -> Option<Settings> {
@@ -146,10 +158,13 @@ fn circuit(row: &[u8], settings: &Settings, places: &HashMap<Name, usize>) -> Op
     let first = *places.get(&name_at(row, 0))?;
     let second = *places.get(&name_at(row, 12))?;
     let factors = &settings.factors;
-    let (over, under) = match u32_at(row, 24) {
-        400 => (factors[0], factors[1]),
-        275 => (factors[2], factors[3]),
-        132 => (factors[4], factors[5]),
+    // version 1 has no factor in its row
+    let own = row.get(44..48).map_or(0, |bytes| u32_at(bytes, 0));
+    let (over, under) = match (u32_at(row, 24), own) {
+        (400, 0) => (factors[0], factors[1]),
+        (275, 0) => (factors[2], factors[3]),
+        (132, 0) => (factors[4], factors[5]),
+        (132 | 275 | 400 | 320 | 525, 1000..=30_000) => (own, own),
         _ => return None,
     };
     let (x, overhead, cable, mark) = (u32_at(row, 28), u32_at(row, 32), u32_at(row, 36), u32_at(row, 40));
@@ -172,15 +187,16 @@ fn station(row: &[u8], places: &HashMap<Name, usize>) -> Option<Station> {
 
 /// Refusals 1 to 5.
 fn study(file: &[u8], runs: [&[i64]; 3]) -> Result<Study, Answer> {
-    let [first, second, third, fourth] = sections(file).ok_or(refused(1, 0, 0))?;
-    let numbers = second.len() / 24 + third.len() / 44;
+    let found = sections(file).ok_or(refused(1, 0, 0))?;
+    let node_count = found.nodes.len() / 24;
+    let numbers = node_count + found.circuits.len() / found.circuit_size;
     if runs.iter().any(|run| run.len() != numbers) {
         return Err(refused(1, 0, 0));
     }
-    let settings = settings(first, second.len() / 24).ok_or(refused(2, 0, 0))?;
+    let settings = settings(found.settings, node_count).ok_or(refused(2, 0, 0))?;
     let mut places = HashMap::new();
     let mut nodes = Vec::new();
-    for (k, row) in second.chunks(24).enumerate() {
+    for (k, row) in found.nodes.chunks(24).enumerate() {
         let node = node(row, &settings).ok_or(refused(3, 0, k + 1))?;
         if places.insert(node.name, k).is_some() {
             return Err(refused(3, 0, k + 1));
@@ -188,12 +204,12 @@ fn study(file: &[u8], runs: [&[i64]; 3]) -> Result<Study, Answer> {
         nodes.push(node);
     }
     let mut circuits = Vec::new();
-    for (k, row) in third.chunks(44).enumerate() {
+    for (k, row) in found.circuits.chunks(found.circuit_size).enumerate() {
         circuits.push(circuit(row, &settings, &places).ok_or(refused(4, 0, k + 1))?);
     }
     let mut identifiers = HashSet::new();
     let mut stations = Vec::new();
-    for (k, row) in fourth.chunks(32).enumerate() {
+    for (k, row) in found.stations.chunks(32).enumerate() {
         let station = station(row, &places).ok_or(refused(5, 0, k + 1))?;
         if !identifiers.insert(name_at(row, 0)) {
             return Err(refused(5, 0, k + 1));

@@ -1,8 +1,9 @@
 /* Fuzz target of wirepulley_write and wirepulley_judge, for libFuzzer.
  *
  * An input is eight bytes that choose buffers and run lengths, then a case file. Every lent block is a heap block of exactly its
- * length. Both entries' answers and the whole buffer are held to the reference. The mutator mends the trailer half of the time, and puts
- * solutions of the changed tables into the file a quarter of the time. */
+ * length. Both entries' answers and the whole buffer are held to the reference. The mutator mends the trailer half of the time, of version
+ * 1 or 2, turns a mended file into one of the other version now and then, and puts solutions of the changed tables into the file a
+ * quarter of the time. */
 #include <stdint.h>
 #include <stdio.h>
 #include <stdlib.h>
@@ -16,6 +17,7 @@ void reference_write(const uint8_t *file, size_t file_len, const int64_t *const 
                      size_t sheet_len, uint64_t *answer);
 void reference_judge(const uint8_t *file, size_t file_len, const int64_t *const *runs, const size_t *run_lens, uint64_t *answer);
 void reference_solve(uint8_t *file, size_t file_len);
+size_t reference_rewrite(uint8_t *file, size_t file_len, size_t most);
 size_t LLVMFuzzerMutate(uint8_t *data, size_t size, size_t max_size);
 
 static uint32_t u32_at(const uint8_t *bytes) { return bytes[0] | bytes[1] << 8 | bytes[2] << 16 | (uint32_t)bytes[3] << 24; }
@@ -103,16 +105,18 @@ static size_t count_at(const uint8_t *trailer, unsigned section, size_t least, s
     return count < least || count > most ? least + count % 7 : count;
 }
 
-/* Makes a whole file of a file: rows as its trailer counts them, zeros for what is missing, a trailer that fits. Gives its length. */
+/* Makes a whole file of a file: rows as its trailer counts them, of version 2 where it says so and else of version 1, zeros for what is
+ * missing, a trailer that fits. Gives its length. */
 static size_t mend(uint8_t *file, size_t length, size_t most) {
-    static const size_t SIZES[7] = {64, 24, 44, 32, 8, 8, 8};
     uint8_t old[TRAILER] = {0};
     if (length >= TRAILER)
         memcpy(old, file + length - TRAILER, TRAILER);
-    size_t counts[7] = {1, count_at(old, 1, 1, 256), count_at(old, 2, 0, 512), count_at(old, 3, 0, 512)}, end = 0;
+    int two = u32_at(old + 56) == 2;
+    const size_t sizes[7] = {64, 24, two ? 48 : 44, 32, 8, 8, 8};
+    size_t counts[7] = {1, count_at(old, 1, 1, 256), count_at(old, 2, 0, two ? 480 : 512), count_at(old, 3, 0, 512)}, end = 0;
     counts[4] = counts[5] = counts[6] = counts[1] + counts[2];
     for (int k = 0; k < 7; k++)
-        end += counts[k] * SIZES[k];
+        end += counts[k] * sizes[k];
     if (end + TRAILER > most)
         return length;
     size_t kept = length < TRAILER ? length : length - TRAILER;
@@ -123,9 +127,9 @@ static size_t mend(uint8_t *file, size_t length, size_t most) {
     for (int k = 0; k < 7; k++) {
         put_u32(trailer + 8 * k, offset);
         put_u32(trailer + 8 * k + 4, counts[k]);
-        offset += counts[k] * SIZES[k];
+        offset += counts[k] * sizes[k];
     }
-    put_u32(trailer + 56, 1);
+    put_u32(trailer + 56, two ? 2 : 1);
     put_u32(trailer + 60, end + TRAILER);
     put_u32(file + 52, 0);
     return end + TRAILER;
@@ -136,6 +140,8 @@ size_t LLVMFuzzerCustomMutator(uint8_t *data, size_t size, size_t max_size, unsi
     if (size < CONTROL + SETTINGS || max_size < CONTROL + SETTINGS + TRAILER || seed % 2 == 0)
         return size;
     size_t length = mend(data + CONTROL, size - CONTROL, max_size - CONTROL);
+    if (seed % 32 < 4)
+        length = reference_rewrite(data + CONTROL, length, max_size - CONTROL);
     if (seed % 4 == 1)
         reference_solve(data + CONTROL, length);
     return CONTROL + length;

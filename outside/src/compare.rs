@@ -6,7 +6,7 @@ use crate::library::Library;
 use crate::networks::{network, SHAPES, TASTES};
 use crate::program::{run, Archive};
 use crate::tally::Tally;
-use reference::file::Case;
+use reference::file::{whole_case, Case, Version};
 use reference::random::{spoiled, Chance};
 use reference::replay::{self, Told as Said};
 use reference::{program_output, text};
@@ -30,7 +30,7 @@ pub struct Plan {
 
 impl Plan {
     pub const SHORT: Plan = Plan {
-        sizes: [(12, 330, 8), (60, 30, 8), (255, 4, 4), (256, 12, 2)],
+        sizes: [(12, 330, 8), (60, 30, 8), (255, 4, 4), (256, 30, 2)],
         random_bytes: 1_000,
         replay: true,
         tariff: 200,
@@ -39,7 +39,7 @@ impl Plan {
         least_cause: 5,
     };
     pub const LONG: Plan = Plan {
-        sizes: [(12, 8_600, 8), (60, 800, 8), (255, 120, 4), (256, 250, 2)],
+        sizes: [(12, 8_600, 8), (60, 800, 8), (255, 120, 4), (256, 420, 2)],
         random_bytes: 12_000,
         replay: true,
         tariff: 500,
@@ -50,8 +50,9 @@ impl Plan {
 }
 
 /// Pairs whose order 01 and 02 are asked about most: number and system of each.
-const ORDERS: [((u64, u64), (u64, u64)); 8] = [
+const ORDERS: [((u64, u64), (u64, u64)); 9] = [
     ((3, 0), (4, 0)),
+    ((4, 0), (5, 0)),
     ((6, 0), (7, 0)),
     ((3, 0), (3, 0)),
     ((7, 0), (13, 0)),
@@ -60,6 +61,10 @@ const ORDERS: [((u64, u64), (u64, u64)); 8] = [
     ((11, 1), (8, 2)),
     ((9, 3), (12, 0)),
 ];
+
+/// 02, CR 3: what is put through the library once more in the other version.
+const LISTED_IN_VERSION_2: &str = "a case of the replay's list, in version 2";
+const NETWORK_IN_VERSION_2: &str = "a network by chance, in version 2";
 
 /// Of two faulty node rows, one that repeats a name.
 const REPEATED_FIRST: &str = "a name seen earlier before another faulty node row";
@@ -86,6 +91,7 @@ impl Compare {
         let faults = faults::all();
         faults.iter().for_each(|fault| tally.expect(&name(fault)));
         tally.expect_accepted();
+        [LISTED_IN_VERSION_2, NETWORK_IN_VERSION_2].iter().for_each(|cause| tally.expect(cause));
         asked_orders().iter().for_each(|order| tally.expect(order));
         Ok(Compare {
             plan,
@@ -137,16 +143,34 @@ impl Compare {
         Ok(self.library.end()? && self.differences == 0 && rare.is_empty())
     }
 
-    /// The cases of the replay, with what they tell.
+    /// The cases of the replay, with what they tell, and those of version 1 in version 2 as well.
     fn listed(&mut self) -> Result<()> {
         for case in replay::cases() {
-            let runs = reference::file::whole_case(&case.file).map(|case| case.runs).unwrap_or_default();
+            let runs = whole_case(&case.file).map(|case| case.runs).unwrap_or_default();
             let told = match case.told {
                 Said::Sheet => Some((0, 0, 0)),
                 Said::Refused(number, system, row) => Some((number as u64, system as u64, row as u64)),
                 Said::Open => None,
             };
-            self.check(Input::new(case.file, runs), told, "a case of the replay's list")?;
+            let input = Input::new(case.file, runs);
+            self.check_in_both(input, told, "a case of the replay's list", LISTED_IN_VERSION_2)?;
+        }
+        Ok(())
+    }
+
+    /// 02, CR 3, "one case in either version gives one sheet": an input, and where its file is of version 1 and has a place in
+    /// version 2, the same case so: the library leaves the same behind.
+    fn check_in_both(&mut self, input: Input, told: Option<Told>, cause: &str, again: &str) -> Result<()> {
+        let input = self.anywhere(input);
+        let first = self.checked(&input, told, cause)?;
+        let case = whole_case(&input.file).filter(|case| case.version == Version::One);
+        let Some(case) = case.and_then(|case| case.in_version(Version::Two).ok()) else { return Ok(()) };
+        let rewritten = Input { file: case.bytes(), ..input };
+        let second = self.checked(&rewritten, told, again)?;
+        if let (Some(first), Some(second)) = (first, second) {
+            if first != second {
+                self.differs(again, &rewritten.text(), &outcome_said(&second), &outcome_said(&first));
+            }
         }
         Ok(())
     }
@@ -155,14 +179,16 @@ impl Compare {
     fn network(&mut self, most: usize, number: usize, each: usize) -> Result<()> {
         let chance = &mut self.chance;
         let nodes = if most == 256 { 256 } else { chance.within(1, most as u64) as usize };
-        let (shape, taste) = (
-            if nodes == 256 && number % 4 != 0 { SHAPES[5] } else { chance.of(&SHAPES) },
-            TASTES[number % TASTES.len()],
-        );
-        let case = network(chance, shape, taste, nodes);
+        let taste = TASTES[number % TASTES.len()];
+        let (shape, version) = match (nodes, (number + number / TASTES.len()) % 5) {
+            (256, 1 | 2) => (SHAPES[5], Version::One),
+            (256, 3 | 4) => (SHAPES[5], Version::Two),
+            _ => (chance.of(&SHAPES), chance.of(&[Version::One, Version::Two])),
+        };
+        let case = network(chance, shape, taste, nodes, version);
         let input = Input::of(&case);
         let (outcome, answer) = input.expected();
-        self.check(input, None, "a network by chance")?;
+        self.check_in_both(input, None, "a network by chance", NETWORK_IN_VERSION_2)?;
         if answer[0] != 0 {
             return self.spoiled(&case, each);
         }
@@ -286,9 +312,11 @@ impl Compare {
                     self.chance.within(0, 20) as usize,
                 ];
                 let rows = counts[1] + counts[2];
-                let bytes = self.bytes(64 + 24 * counts[1] + 44 * counts[2] + 32 * counts[3] + 24 * rows);
-                let mut case = Case::read(&bytes, [counts[0], counts[1], counts[2], counts[3], rows, rows, rows])
-                    .expect("bytes for all rows");
+                let version = self.chance.of(&[Version::One, Version::Two]);
+                let circuits = version.circuit_size() * counts[2];
+                let bytes = self.bytes(64 + 24 * counts[1] + circuits + 32 * counts[3] + 24 * rows);
+                let counts = [counts[0], counts[1], counts[2], counts[3], rows, rows, rows];
+                let mut case = Case::read(&bytes, version, counts).expect("bytes for all rows");
                 case.settings.zero = 0;
                 self.check(Input::of(&case), None, "tables of bytes by chance")?;
             }
@@ -308,24 +336,36 @@ impl Compare {
         input
     }
 
-    /// One input through the library, and for some through the programs: a difference is told.
-    fn check(&mut self, mut input: Input, told: Option<Told>, cause: &str) -> Result<()> {
+    /// An input lent in any place, over any fill.
+    fn anywhere(&mut self, mut input: Input) -> Input {
         input.place = self.chance.within(0, 1) as u32;
         input.fill = self.chance.bits() as u32;
+        input
+    }
+
+    /// One input, lent anywhere, through the library, and for some through the programs: a difference is told.
+    fn check(&mut self, input: Input, told: Option<Told>, cause: &str) -> Result<()> {
+        let input = self.anywhere(input);
+        self.checked(&input, told, cause).map(|_| ())
+    }
+
+    /// The same for an input as it is: what the library left behind; nothing where it did not come back.
+    fn checked(&mut self, input: &Input, told: Option<Told>, cause: &str) -> Result<Option<Outcome>> {
         let (expected, answer) = input.expected();
-        match self.library.call(&input) {
-            Ok(outcome) if outcome == expected => (),
-            Ok(outcome) => self.differs(cause, &input.text(), &outcome_said(&outcome), &outcome_said(&expected)),
+        let outcome = match self.library.call(input) {
+            Ok(outcome) => {
+                if outcome != expected {
+                    self.differs(cause, &input.text(), &outcome_said(&outcome), &outcome_said(&expected));
+                }
+                Some(outcome)
+            }
             Err(error) => {
                 let ended = self.library.again()?;
-                self.differs(
-                    cause,
-                    &input.text(),
-                    &format!("no answer ({error}); the caller ended: {ended}"),
-                    &outcome_said(&expected),
-                );
+                let said = format!("no answer ({error}); the caller ended: {ended}");
+                self.differs(cause, &input.text(), &said, &outcome_said(&expected));
+                None
             }
-        }
+        };
         if told.is_some_and(|(number, system, row)| [number, system, row] != answer[..3]) {
             self.differs(cause, &input.text(), &format!("{told:?} is told of this cause"), &outcome_said(&expected));
         }
@@ -340,7 +380,8 @@ impl Compare {
         }
         self.tally.answers[answer[0] as usize] += 1;
         self.tally.met(cause);
-        self.programs(&input.file)
+        self.programs(&input.file)?;
+        Ok(outcome)
     }
 
     /// A share of the files through the programs.
@@ -400,7 +441,7 @@ fn said(number: u64, system: u64) -> String {
 
 /// Of a name seen earlier and another fault of a node row, the one in the lower row.
 fn which_row(input: &Input, (_, _, row): Told) -> &'static str {
-    let case = reference::file::whole_case(&input.file).expect("the file is whole");
+    let case = whole_case(&input.file).expect("the file is whole");
     let place = row as usize - 1;
     let repeated = case.nodes[..place].iter().any(|node| node.name == case.nodes[place].name);
     if repeated {

@@ -1,7 +1,7 @@
 //! Networks by chance, of every size and shape, solved: what the other inputs are made from.
 
 use crate::halves::negative_halves;
-use reference::file::{padded, Case, CircuitRow, Name, NodeRow, Settings, StationRow};
+use reference::file::{padded, Case, CircuitRow, Name, NodeRow, Settings, StationRow, Version};
 use reference::judge_case;
 use reference::random::Chance;
 use reference::solver::solved;
@@ -76,6 +76,8 @@ fn mesh(chance: &mut Chance, nodes: usize) -> Vec<(usize, usize)> {
 struct Figures<'a> {
     chance: &'a mut Chance,
     taste: &'static str,
+    /// 02, CR 3: circuits may have factors of their own.
+    factors: bool,
 }
 
 impl Figures<'_> {
@@ -148,10 +150,29 @@ impl Figures<'_> {
             overhead: self.within(0, 500_000),
             cable,
             mark: mark as u32,
+            factor: 0,
         };
-        match self.taste == HALVES {
+        let row = match self.taste == HALVES {
             true => self.halving_circuit(row),
             false => row,
+        };
+        match self.factors {
+            true => self.circuit_with_factor(row),
+            false => row,
+        }
+    }
+
+    /// 02, CR 3: two circuits in three have a factor of their own, half of those at 320 or 525.
+    fn circuit_with_factor(&mut self, row: CircuitRow) -> CircuitRow {
+        let factor = match self.taste == HALVES {
+            true => 500 * self.chance.within(2, 5) as u32,
+            false => self.within(1_000, 30_000),
+        };
+        match self.chance.within(0, 5) {
+            0 | 1 => row,
+            2 => CircuitRow { voltage: 320, factor, ..row },
+            3 => CircuitRow { voltage: 525, factor, ..row },
+            _ => CircuitRow { factor, ..row },
         }
     }
 
@@ -184,37 +205,41 @@ fn name(number: usize) -> Name {
 }
 
 /// A network of a shape and a taste with so many nodes, circuits in any order, solved.
-pub fn network(chance: &mut Chance, shape: Shape, taste: &'static str, nodes: usize) -> Case {
+pub fn network(chance: &mut Chance, shape: Shape, taste: &'static str, nodes: usize, version: Version) -> Case {
     if taste == HALVES && nodes <= 60 {
-        network_of_halves(chance, shape, nodes)
+        network_of_halves(chance, shape, nodes, version)
     } else {
-        drawn(chance, shape, taste, nodes)
+        drawn(chance, shape, taste, nodes, version)
     }
 }
 
 /// 02, CR 2: of four hundred networks the one with negative halves in the most places, before all in two of the rare ones.
-fn network_of_halves(chance: &mut Chance, shape: Shape, nodes: usize) -> Case {
+fn network_of_halves(chance: &mut Chance, shape: Shape, nodes: usize, version: Version) -> Case {
     let wanted = [chance.of(&RARE_HALVES), chance.of(&RARE_HALVES)];
     let met = |case: &Case| {
         let halves = negative_halves(case);
         let count = |places: &[usize]| places.iter().filter(|place| halves[**place].1).count();
         (count(&wanted), count(&RARE_HALVES) + halves.iter().filter(|(_, met)| *met).count())
     };
-    let networks = (0..400).map(|_| drawn(chance, shape, HALVES, nodes.max(6)));
+    let networks = (0..400).map(|_| drawn(chance, shape, HALVES, nodes.max(6), version));
     networks.max_by_key(met).expect("four hundred networks")
 }
 
-/// One network by chance.
-fn drawn(chance: &mut Chance, (_, shape): Shape, taste: &'static str, nodes: usize) -> Case {
+/// One network by chance. In version 2 three in four have circuits with factors.
+fn drawn(chance: &mut Chance, (_, shape): Shape, taste: &'static str, nodes: usize, version: Version) -> Case {
     let mut ends = shape(chance, nodes);
+    // what reaches each node stands first
+    ends.truncate(version.circuits().1 as usize);
     for place in (1..ends.len()).rev() {
         ends.swap(place, chance.within(0, place as u64) as usize);
     }
     let fewest = if taste == HALVES { nodes as u64 } else { 1 };
     let stations = if nodes == 256 { 512 } else { chance.within(fewest, 2 * nodes as u64) as usize };
-    let mut figures = Figures { chance, taste };
+    let factors = version == Version::Two && chance.within(0, 3) > 0;
+    let mut figures = Figures { chance, taste, factors };
     let settings = figures.settings(nodes);
     let mut case = Case {
+        version,
         nodes: (0..nodes).map(|number| figures.node(name(number), &settings)).collect(),
         circuits: ends.into_iter().map(|(first, second)| figures.circuit(name(first), name(second))).collect(),
         stations: Vec::new(),
@@ -359,8 +384,9 @@ pub fn spread_tec(case: &mut Case, total: u64) -> bool {
 /// circuit has no length, and with one its direction would be in doubt.
 fn add_spur(chance: &mut Chance, case: &mut Case) {
     let demand = chance.of(&[200, 401, 201, 400, chance.0 % 200 + 201]) as u32;
-    let room =
-        case.nodes.len() < 255 && case.circuits.len() < 512 && total_tec(case) >= total_demand(case) + demand as u64;
+    let room = case.nodes.len() < 255
+        && case.circuits.len() < case.version.circuits().1 as usize
+        && total_tec(case) >= total_demand(case) + demand as u64;
     if !room || chance.within(0, 1) == 0 {
         return;
     }
@@ -376,6 +402,7 @@ fn add_spur(chance: &mut Chance, case: &mut Case) {
         overhead,
         cable: 0,
         mark: chance.within(0, 1) as u32,
+        factor: 0,
     };
     let place = chance.within(0, case.circuits.len() as u64) as usize;
     case.circuits.insert(place, circuit);

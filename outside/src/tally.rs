@@ -1,7 +1,7 @@
 //! How often each answer and each cause was met.
 
 use crate::halves::negative_halves;
-use reference::file::{Case, Name, StationRow};
+use reference::file::{Case, CircuitRow, Name, StationRow, Version};
 use reference::tables::INTERCONNECTOR;
 use std::collections::{BTreeMap, BTreeSet};
 
@@ -75,6 +75,7 @@ fn features(case: &Case, sheet: &[u8]) -> Vec<(String, bool)> {
     let idle = |flow: i64| flow.abs() <= 200_000_000;
     let mut add = |name: &str, met| list.push((format!("accepted with {name}"), met));
     add("a 275 kV circuit", circuits.iter().any(|(row, _)| row.voltage == 275));
+    add("a 400 kV circuit", circuits.iter().any(|(row, _)| row.voltage == 400));
     add("an idle circuit", circuits.iter().any(|(_, flow)| idle(**flow)));
     add("an idle circuit of 200,000,000 mW", circuits.iter().any(|(_, flow)| flow.abs() == 200_000_000));
     add("a circuit backward", circuits.iter().any(|(_, flow)| !idle(**flow) && **flow < 0));
@@ -85,7 +86,7 @@ fn features(case: &Case, sheet: &[u8]) -> Vec<(String, bool)> {
         case.stations.iter().map(|row| row.tec as u64).sum::<u64>()
             == case.nodes.iter().map(|row| row.demand as u64).sum(),
     );
-    let requests = interconnectors(case).into_iter().chain(negative_halves(case));
+    let requests = interconnectors(case).into_iter().chain(negative_halves(case)).chain(factors(case));
     list.extend(requests.map(|(name, met)| (format!("accepted with {name}"), met)));
     list
 }
@@ -108,6 +109,28 @@ fn interconnectors(case: &Case) -> [(&'static str, bool); 6] {
         ("a node of type 3 and another type", !links.is_disjoint(&paying)),
         ("a station of type 3 with 0 kW", case.stations.iter().any(zero)),
         ("one chargeable kilowatt beside type 3", chargeable == 1 && !links.is_empty()),
+    ]
+}
+
+/// 02, CR 3: what a case may have of version 2, by name, and whether it has it.
+fn factors(case: &Case) -> [(&'static str, bool); 13] {
+    let two = case.version == Version::Two;
+    let own = |of: fn(&CircuitRow) -> bool| case.circuits.iter().any(|row| row.factor > 0 && of(row));
+    let by_voltage = case.circuits.iter().any(|row| row.factor == 0);
+    [
+        ("version 2", two),
+        ("version 2 and no circuits", two && case.circuits.is_empty()),
+        ("version 2 and 480 circuits", two && case.circuits.len() == 480),
+        ("version 2, circuits with and without a factor", two && by_voltage && own(|_| true)),
+        ("a circuit's own factor", own(|_| true)),
+        ("a circuit's own factor at 320", own(|row| row.voltage == 320)),
+        ("a circuit's own factor at 525", own(|row| row.voltage == 525)),
+        ("a circuit's own factor at 400 overhead", own(|row| row.voltage == 400 && row.overhead > 0)),
+        ("a circuit's own factor for both lengths", own(|row| row.overhead > 0 && row.cable > 0)),
+        ("a circuit's own factor on a marked one", own(|row| row.mark == 1 && row.overhead + row.cable > 0)),
+        ("a circuit's own factor and no length", own(|row| row.overhead + row.cable == 0)),
+        ("the least factor of a circuit, 1000", own(|row| row.factor == 1_000)),
+        ("the greatest factor of a circuit, 30000", own(|row| row.factor == 30_000)),
     ]
 }
 
@@ -142,6 +165,6 @@ fn ends(case: &Case) -> Vec<(&'static str, u64, u64, Vec<u64>)> {
         ("overhead", 0, 500_000, circuits(|row| row.overhead)),
         ("cable", 0, 500_000, circuits(|row| row.cable)),
         ("mark", 0, 1, circuits(|row| row.mark)),
-        ("voltage", 132, 400, circuits(|row| row.voltage)),
+        ("voltage", 132, 525, circuits(|row| row.voltage)),
     ]
 }

@@ -1,19 +1,65 @@
-//! 01 "The case file": records, sections and trailer as bytes, and refusal 1.
+//! 01 "The case file": records, sections and trailer as bytes, and refusal 1. 02, CR 3: a second version, whose circuits
+//! have a factor.
 
-use crate::quantities::{within, CIRCUITS, NODES, STATIONS};
+use crate::quantities::{within, CIRCUITS, CIRCUITS_VERSION_2, NODES, STATIONS};
 
 /// 01 "The case file": twelve bytes of a name or an identifier, as they stand in the file.
 pub type Name = [u8; 12];
 
-/// 01 "The case file": the sections in their order, with the bytes of one record.
-pub const SECTIONS: [(&str, usize); 7] =
-    [("settings", 64), ("nodes", 24), ("circuits", 44), ("stations", 32), ("base", 8), ("wider", 8), ("local", 8)];
+/// 01 "The case file": the sections in their order.
+pub const SECTIONS: [&str; 7] = ["settings", "nodes", "circuits", "stations", "base", "wider", "local"];
 
 /// 01 "The case file": "then a 64-byte trailer".
 pub const TRAILER: usize = 64;
 
-/// 01 "The case file": "then the version 1".
-pub const VERSION: u32 = 1;
+/// 01 "The case file": "then the version 1". 02, CR 3: "Case version 2".
+#[derive(Clone, Copy, Debug, Default, PartialEq, Eq)]
+pub enum Version {
+    #[default]
+    One,
+    Two,
+}
+
+impl Version {
+    /// 01 "What stops a case", 1: the version that a trailer names; `None` for another number.
+    pub fn of(number: u32) -> Option<Version> {
+        match number {
+            1 => Some(Version::One),
+            2 => Some(Version::Two),
+            _ => None,
+        }
+    }
+
+    /// The number that a trailer names it by.
+    pub fn number(self) -> u32 {
+        match self {
+            Version::One => 1,
+            Version::Two => 2,
+        }
+    }
+
+    /// 01 "The case file": the bytes of one record, section by section. 02, CR 3: "Case version 2 has circuit rows of 48
+    /// bytes".
+    pub fn sizes(self) -> [usize; 7] {
+        [64, 24, self.circuit_size(), 32, 8, 8, 8]
+    }
+
+    /// 01 "The case file", circuit: 44 bytes. 02, CR 3: 48, "with the new factor last".
+    pub fn circuit_size(self) -> usize {
+        match self {
+            Version::One => 44,
+            Version::Two => 48,
+        }
+    }
+
+    /// 01 "Quantities": at most 512 circuits. 02, CR 3: "Version 2 holds at most 480 circuits".
+    pub fn circuits(self) -> (u32, u32) {
+        match self {
+            Version::One => CIRCUITS,
+            Version::Two => CIRCUITS_VERSION_2,
+        }
+    }
+}
 
 /// 01 "The case file", settings: the 64 bytes of the one record.
 #[derive(Clone, Debug, Default, PartialEq, Eq)]
@@ -40,7 +86,7 @@ pub struct NodeRow {
     pub demand: u32,
 }
 
-/// 01 "The case file", circuit: 44 bytes.
+/// 01 "The case file", circuit: 44 bytes. 02, CR 3: 48 in version 2.
 #[derive(Clone, Debug, PartialEq, Eq)]
 pub struct CircuitRow {
     pub first: Name,
@@ -50,6 +96,8 @@ pub struct CircuitRow {
     pub overhead: u32,
     pub cable: u32,
     pub mark: u32,
+    /// 02, CR 3: "Version 1 files read as if the factor were 0".
+    pub factor: u32,
 }
 
 /// 01 "The case file", station: 32 bytes.
@@ -64,6 +112,7 @@ pub struct StationRow {
 /// 01 "The case file": all sections, not yet judged by anything but their places.
 #[derive(Clone, Debug, Default, PartialEq, Eq)]
 pub struct Case {
+    pub version: Version,
     pub settings: Settings,
     pub nodes: Vec<NodeRow>,
     pub circuits: Vec<CircuitRow>,
@@ -148,8 +197,8 @@ impl NodeRow {
 }
 
 impl CircuitRow {
-    /// 01 "The case file": a circuit from its 44 bytes.
-    pub fn read(bytes: &[u8]) -> CircuitRow {
+    /// 01 "The case file": a circuit from its 44 bytes, or 48 in version 2. 02, CR 3: "the new factor last".
+    pub fn read(bytes: &[u8], version: Version) -> CircuitRow {
         CircuitRow {
             first: name_at(bytes, 0),
             second: name_at(bytes, 12),
@@ -158,14 +207,20 @@ impl CircuitRow {
             overhead: u32_at(bytes, 32),
             cable: u32_at(bytes, 36),
             mark: u32_at(bytes, 40),
+            factor: match version {
+                Version::One => 0,
+                Version::Two => u32_at(bytes, 44),
+            },
         }
     }
 
-    /// 01 "The case file": the 44 bytes of a circuit.
-    pub fn bytes(&self) -> Vec<u8> {
-        let numbers = [self.voltage, self.x, self.overhead, self.cable, self.mark];
+    /// 01 "The case file": the 44 bytes of a circuit. 02, CR 3: 48 in version 2, "with the new factor last"; version 1
+    /// has no place for one.
+    pub fn bytes(&self, version: Version) -> Vec<u8> {
+        assert!(version == Version::Two || self.factor == 0, "a factor in a row of version 1");
+        let numbers = [self.voltage, self.x, self.overhead, self.cable, self.mark, self.factor];
         let names = self.first.into_iter().chain(self.second);
-        names.chain(numbers.into_iter().flat_map(u32::to_le_bytes)).collect()
+        names.chain(numbers.into_iter().flat_map(u32::to_le_bytes)).take(version.circuit_size()).collect()
     }
 }
 
@@ -219,7 +274,7 @@ impl Case {
     pub fn section_bytes(&self) -> Vec<u8> {
         let mut bytes = self.settings.bytes();
         bytes.extend(self.nodes.iter().flat_map(NodeRow::bytes));
-        bytes.extend(self.circuits.iter().flat_map(CircuitRow::bytes));
+        bytes.extend(self.circuits.iter().flat_map(|row| row.bytes(self.version)));
         bytes.extend(self.stations.iter().flat_map(StationRow::bytes));
         bytes.extend(self.runs.iter().flatten().flat_map(|number| number.to_le_bytes()));
         bytes
@@ -230,11 +285,16 @@ impl Case {
         let counts = self.counts();
         let mut offsets = [0; 7];
         let mut end = 0;
-        for (k, (_, size)) in SECTIONS.iter().enumerate() {
+        for (k, size) in self.version.sizes().into_iter().enumerate() {
             offsets[k] = end as u32;
             end += counts[k] * size;
         }
-        Trailer { offsets, counts: counts.map(|count| count as u32), version: VERSION, length: (end + TRAILER) as u32 }
+        Trailer {
+            offsets,
+            counts: counts.map(|count| count as u32),
+            version: self.version.number(),
+            length: (end + TRAILER) as u32,
+        }
     }
 
     /// 01 "The case file": the whole file.
@@ -246,44 +306,61 @@ impl Case {
 
     /// 01 "The case file": the sections of given counts, read one after another from offset 0.
     /// `None` where the bytes end too early or the settings' count isn't 1.
-    pub fn read(bytes: &[u8], counts: [usize; 7]) -> Option<Case> {
+    pub fn read(bytes: &[u8], version: Version, counts: [usize; 7]) -> Option<Case> {
+        let sizes = version.sizes();
         let needed = counts
             .iter()
-            .zip(SECTIONS)
-            .try_fold(0usize, |sum, (count, (_, size))| sum.checked_add(count.checked_mul(size)?))?;
+            .zip(sizes)
+            .try_fold(0usize, |sum, (count, size)| sum.checked_add(count.checked_mul(size)?))?;
         if counts[0] != 1 || needed > bytes.len() {
             return None;
         }
         let mut end = 0;
         let mut records = |section: usize| -> Vec<&[u8]> {
             let start = end;
-            end += counts[section] * SECTIONS[section].1;
-            bytes[start..end].chunks_exact(SECTIONS[section].1).collect()
+            end += counts[section] * sizes[section];
+            bytes[start..end].chunks_exact(sizes[section]).collect()
         };
         Some(Case {
+            version,
             settings: Settings::read(records(0)[0]),
             nodes: records(1).into_iter().map(NodeRow::read).collect(),
-            circuits: records(2).into_iter().map(CircuitRow::read).collect(),
+            circuits: records(2).into_iter().map(|record| CircuitRow::read(record, version)).collect(),
             stations: records(3).into_iter().map(StationRow::read).collect(),
             runs: [4, 5, 6].map(|section| records(section).into_iter().map(|record| i64_at(record, 0)).collect()),
         })
     }
+
+    /// 02, CR 3: "one case in either version": the same tables and solutions in another version, or why it has no place for
+    /// them.
+    pub fn in_version(&self, version: Version) -> Result<Case, String> {
+        let most = version.circuits().1 as usize;
+        if self.circuits.len() > most {
+            return Err(format!("{} circuits: version {} holds at most {most}", self.circuits.len(), version.number()));
+        }
+        if let Some(place) = self.circuits.iter().position(|row| version == Version::One && row.factor != 0) {
+            let factor = self.circuits[place].factor;
+            return Err(format!("circuit {} has the factor {factor}: version 1 has no place for one", place + 1));
+        }
+        Ok(Case { version, ..self.clone() })
+    }
 }
 
-/// 01 "What stops a case", 1, "counts": settings 1, tables within their ranges, each solution nodes plus circuits.
-fn counts_are_right(counts: &[u32; 7]) -> bool {
+/// 01 "What stops a case", 1, "counts": settings 1, tables within their ranges, each solution nodes plus circuits. 02,
+/// CR 3: "Refusals: .. 1 the count" of version 2's circuits.
+fn counts_are_right(version: Version, counts: &[u32; 7]) -> bool {
     let [settings, nodes, circuits, stations, solutions @ ..] = *counts;
     settings == 1
         && within(nodes, NODES)
-        && within(circuits, CIRCUITS)
+        && within(circuits, version.circuits())
         && within(stations, STATIONS)
         && solutions.iter().all(|solution| *solution == nodes + circuits)
 }
 
 /// 01 "What stops a case", 1, "chain": "Sections must follow one another exactly and end at the trailer".
-fn chain_is_right(trailer: &Trailer, file_length: usize) -> bool {
+fn chain_is_right(version: Version, trailer: &Trailer, file_length: usize) -> bool {
     let mut end = 0;
-    for (k, (_, size)) in SECTIONS.iter().enumerate() {
+    for (k, size) in version.sizes().into_iter().enumerate() {
         if trailer.offsets[k] as usize != end {
             return false;
         }
@@ -293,17 +370,17 @@ fn chain_is_right(trailer: &Trailer, file_length: usize) -> bool {
 }
 
 /// 01 "What stops a case", 1: the case of a whole file. `None` where "length, trailer, version, counts, chain or
-/// the settings' zero" is wrong; which of them is found first makes no difference.
+/// the settings' zero" is wrong; which of them is found first makes no difference. 02, CR 3: version 1 or 2.
 pub fn whole_case(file: &[u8]) -> Option<Case> {
     let trailer = Trailer::read(file)?;
-    let whole = trailer.version == VERSION
-        && trailer.length as usize == file.len()
-        && counts_are_right(&trailer.counts)
-        && chain_is_right(&trailer, file.len());
+    let version = Version::of(trailer.version)?;
+    let whole = trailer.length as usize == file.len()
+        && counts_are_right(version, &trailer.counts)
+        && chain_is_right(version, &trailer, file.len());
     if !whole {
         return None;
     }
-    Case::read(file, trailer.counts.map(|count| count as usize)).filter(|case| case.settings.zero == 0)
+    Case::read(file, version, trailer.counts.map(|count| count as usize)).filter(|case| case.settings.zero == 0)
 }
 
 /// 01 "The case file": "A name or identifier is 1 to 12 of A-Z, 0-9 and underscore, then spaces to 12".

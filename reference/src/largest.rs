@@ -1,6 +1,7 @@
-//! The case of the greatest counts: 256 nodes, 512 circuits, 512 stations, 32 and 32 zones, by a fixed rule.
+//! The cases of the greatest counts: 256 nodes, 512 circuits or 480 in version 2, 512 stations, 32 and 32 zones, by a
+//! fixed rule.
 
-use crate::file::{padded, Case, CircuitRow, NodeRow, Settings, StationRow};
+use crate::file::{padded, Case, CircuitRow, NodeRow, Settings, StationRow, Version};
 use crate::solver::solved;
 
 /// Rows and columns of the ring of rings.
@@ -9,8 +10,8 @@ const SIDE: u32 = 16;
 /// LARGEST: a grid of 16 by 16 nodes whose rows and columns close into rings, so that each node has one circuit to
 /// the east and one to the south: 512. Two stations a node. Total TEC is 100,000,000 kW, the greatest allowed.
 pub fn largest() -> Case {
-    let places = || (0..SIDE).flat_map(|row| (0..SIDE).map(move |column| (row, column)));
     let case = Case {
+        version: Version::One,
         settings: settings(),
         nodes: places().map(|(row, column)| node(row, column)).collect(),
         circuits: places().flat_map(|(row, column)| [east(row, column), south(row, column)]).collect(),
@@ -18,6 +19,33 @@ pub fn largest() -> Case {
         runs: Default::default(),
     };
     solved(&case).0
+}
+
+/// LARGEST_2, of version 2 (02, CR 3): LARGEST without the circuits that close its rings, which are 32, and with factors
+/// on most of the 480 others. 63,360 bytes.
+pub fn largest_of_version_2() -> Case {
+    let last = SIDE - 1;
+    let east = |(row, column)| (column < last).then(|| east(row, column));
+    let south = |(row, column)| (row < last).then(|| south(row, column));
+    let circuits = places().flat_map(|place| [east(place), south(place)]).flatten();
+    let circuits = circuits.zip(0..).map(|(row, turn)| with_factor(row, turn)).collect();
+    solved(&Case { version: Version::Two, circuits, ..largest() }).0
+}
+
+/// A circuit with a factor by its turn: by voltage, its own, its own at 320 or at 525.
+fn with_factor(row: CircuitRow, turn: u32) -> CircuitRow {
+    let own = 1_000 + 97 * turn % 29_001;
+    match turn % 5 {
+        0 => row,
+        1 => CircuitRow { voltage: 320, factor: own, ..row },
+        2 => CircuitRow { voltage: 525, factor: own, ..row },
+        _ => CircuitRow { factor: own, ..row },
+    }
+}
+
+/// Rows and columns in table order.
+fn places() -> impl Iterator<Item = (u32, u32)> {
+    (0..SIDE).flat_map(|row| (0..SIDE).map(move |column| (row, column)))
 }
 
 /// Settings with every factor another, and the reference in the middle.
@@ -70,6 +98,7 @@ fn circuit(row: u32, column: u32, to: [u8; 12], kind: u32) -> CircuitRow {
         overhead: length(3_000 + 771 * (turn % 37)),
         cable: length(if turn % 9 == 2 { 450 + 31 * (turn % 5) } else { 0 }),
         mark: (turn % 10 == 7) as u32,
+        factor: 0,
     }
 }
 

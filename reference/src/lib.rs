@@ -1,4 +1,4 @@
-//! Independent reference for document 01 and change requests 1 and 2 of 02: one study case in, a tariff sheet or a
+//! Independent reference for document 01 and change requests 1 to 3 of 02: one study case in, a tariff sheet or a
 //! refusal out.
 //!
 //! Written from their words for clarity, not for speed: `i128` for every sum, one function for each

@@ -1,6 +1,6 @@
 //! The longest file, with a sheet nearly as long as one can be: what a program's buffers have to hold.
 
-use crate::file::{padded, Case, CircuitRow, NodeRow, Settings, StationRow};
+use crate::file::{padded, Case, CircuitRow, NodeRow, Settings, StationRow, Version};
 use crate::solver::solved;
 
 /// Nodes at the end of a circuit each.
@@ -20,7 +20,8 @@ pub fn longest() -> Case {
     circuits.extend(leaves().flat_map(|leaf| vec![circuit(middle, leaf, 1); 2]));
     let tec = |turn: u32| [300_000, 0][turn.min(1) as usize] + turn % 2;
     let stations = (0..512).map(|turn| station(turn, nodes[turn as usize / 2].name, tec(turn))).collect();
-    solved(&Case { settings: settings(), nodes, circuits, stations, runs: Default::default() }).0
+    let version = Version::One;
+    solved(&Case { version, settings: settings(), nodes, circuits, stations, runs: Default::default() }).0
 }
 
 /// The greatest constant, security factors and revenue, and a factor that takes 500 km to 10^7 m.
@@ -46,7 +47,7 @@ fn node(name: [u8; 12], zone: u32, demand: u32) -> NodeRow {
 
 /// A circuit of 10^7 expanded metres.
 fn circuit(first: [u8; 12], second: [u8; 12], mark: u32) -> CircuitRow {
-    CircuitRow { first, second, voltage: 275, x: 1, overhead: 500_000, cable: 0, mark }
+    CircuitRow { first, second, voltage: 275, x: 1, overhead: 500_000, cable: 0, mark, factor: 0 }
 }
 
 /// Two stations a node, the second of them with a kilowatt.

@@ -18,6 +18,8 @@ pub const NODES: (u32, u32) = (1, 256);
 /// 01 "Quantities", table: rows of circuits and rows of stations.
 pub const CIRCUITS: (u32, u32) = (0, 512);
 pub const STATIONS: (u32, u32) = (0, 512);
+/// 02, CR 3: "Version 2 holds at most 480 circuits".
+pub const CIRCUITS_VERSION_2: (u32, u32) = (0, 480);
 /// 01 "Quantities", table: generation and demand zones, each.
 pub const ZONES: (u32, u32) = (1, 32);
 /// 01 "Quantities", table: demand of a node and TEC of a station, kW.
@@ -28,7 +30,7 @@ pub const TOTAL_KW: (i128, i128) = (1, 100_000_000);
 pub const REACTANCE: (u32, u32) = (1, 10_000);
 /// 01 "Quantities", table: overhead and cable length, m, each.
 pub const LENGTH: (u32, u32) = (0, 500_000);
-/// 01 "Quantities", table: expansion factor in thousandths, but 400 kV overhead.
+/// 01 "Quantities", table: expansion factor in thousandths, but 400 kV overhead. 02, CR 3: a circuit's own factor.
 pub const EXPANSION: (u32, u32) = (1_000, 30_000);
 /// 01 "Quantities", table: "400 kV overhead is 1,000 only".
 pub const EXPANSION_400_OVERHEAD: (u32, u32) = (1_000, 1_000);

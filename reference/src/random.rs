@@ -1,6 +1,6 @@
 //! Cases by chance, for comparisons: the same number gives the same case.
 
-use crate::file::{padded, Case, CircuitRow, NodeRow, Settings, StationRow};
+use crate::file::{padded, Case, CircuitRow, NodeRow, Settings, StationRow, Version};
 use crate::solver::solved;
 
 /// A plain generator of numbers by chance (splitmix64).
@@ -46,6 +46,7 @@ pub fn random(seed: u64, most_nodes: u64) -> Case {
     let stations = chance.within(1, (2 * nodes).min(512));
     let settings = settings(chance, nodes);
     let mut case = Case {
+        version: Version::One,
         nodes: (0..nodes).map(|number| node(chance, number, &settings)).collect(),
         circuits: (1..nodes + more).map(|number| circuit(chance, number, nodes)).collect(),
         stations: (0..stations).map(|number| station(chance, number, nodes)).collect(),
@@ -53,6 +54,23 @@ pub fn random(seed: u64, most_nodes: u64) -> Case {
         settings,
     };
     fit_totals(&mut case);
+    solved(&case).0
+}
+
+/// 02, CR 3: such a case in version 2, where three circuits in four have a factor of their own, some of them at 320 or 525.
+pub fn random_of_version_2(seed: u64, most_nodes: u64) -> Case {
+    let chance = &mut Chance(!seed);
+    let mut case = Case { version: Version::Two, ..random(seed, most_nodes) };
+    // What reaches each node stands first.
+    case.circuits.truncate(480);
+    for row in &mut case.circuits {
+        let own = chance.spread(1_000, 30_000);
+        match chance.within(0, 3) {
+            0 => (),
+            1 => (row.voltage, row.factor) = (chance.of(&[320, 525]), own),
+            _ => row.factor = own,
+        }
+    }
     solved(&case).0
 }
 
@@ -102,6 +120,7 @@ fn circuit(chance: &mut Chance, number: u64, nodes: u64) -> CircuitRow {
         overhead: chance.spread(0, 100_000),
         cable: if chance.within(0, 3) == 0 { chance.spread(0, 5_000) } else { 0 },
         mark: (chance.within(0, 4) == 0) as u32,
+        factor: 0,
     }
 }
 
@@ -163,6 +182,9 @@ const EDGES_32: [u32; 32] = [
     u32::MAX,
 ];
 
+/// 02, CR 3: numbers of its rules, for fields of 32 bits in files of version 2.
+const EDGES_VERSION_2: [u32; 6] = [319, 320, 321, 524, 525, 526];
+
 /// Numbers at the ends of 01's ranges for proposed numbers, and one beyond.
 const EDGES_64: [i64; 16] = [
     0,
@@ -189,17 +211,17 @@ pub fn spoiled(case: &Case, seed: u64) -> Case {
     let chance = &mut Chance(seed);
     let counts = case.counts();
     let mut sections = case.section_bytes();
-    let tables = 64 + 24 * counts[1] + 44 * counts[2] + 32 * counts[3];
+    let offsets = case.trailer().offsets.map(|offset| offset as usize);
+    let tables = offsets[4];
     match chance.within(0, 3) {
         0 => {
             let place = 4 * chance.within(0, tables as u64 / 4 - 1) as usize;
-            sections[place..place + 4].copy_from_slice(&chance.of(&EDGES_32).to_le_bytes());
+            sections[place..place + 4].copy_from_slice(&edge_32(case.version, chance).to_le_bytes());
         }
         1 => {
             // One table's row over another row of its kind: names repeat, ends change.
             let section = chance.within(1, 3) as usize;
-            let size = [24, 44, 32][section - 1];
-            let start = 64 + [0, 24 * counts[1], 24 * counts[1] + 44 * counts[2]][section - 1];
+            let (start, size) = (offsets[section], case.version.sizes()[section]);
             if counts[section] > 1 {
                 let row = |chance: &mut Chance| start + size * chance.within(0, counts[section] as u64 - 1) as usize;
                 let (from, to, length) = (row(chance), row(chance), chance.of(&[12, 24, size]));
@@ -219,5 +241,13 @@ pub fn spoiled(case: &Case, seed: u64) -> Case {
             sections[place..place + 8].copy_from_slice(&new.to_le_bytes());
         }
     }
-    Case::read(&sections, counts).expect("the counts stay")
+    Case::read(&sections, case.version, counts).expect("the counts stay")
+}
+
+/// A number at the end of a range for fields of 32 bits.
+fn edge_32(version: Version, chance: &mut Chance) -> u32 {
+    match version {
+        Version::One => chance.of(&EDGES_32),
+        Version::Two => chance.of(&[&EDGES_32[..], &EDGES_VERSION_2].concat()),
+    }
 }

@@ -172,11 +172,12 @@ fn circuit_table(case: &Case) -> Result<Vec<Circuit>, usize> {
     case.circuits.iter().enumerate().map(|(place, row)| circuit(row, case).ok_or(place + 1)).collect()
 }
 
-/// 01 "What stops a case", 4: one circuit row. A malformed end is unknown, since no node in the table bears it.
+/// 01 "What stops a case", 4: one circuit row. A malformed end is unknown, since no node in the table bears it. 02, CR 3:
+/// "4 also covers the new rules".
 fn circuit(row: &CircuitRow, case: &Case) -> Option<Circuit> {
     let first = node_named(&row.first, &case.nodes)?;
     let second = node_named(&row.second, &case.nodes)?;
-    let (overhead_factor, cable_factor) = expansion_factors(row.voltage, &case.settings)?;
+    let (overhead_factor, cable_factor) = expansion_factors(row, &case.settings)?;
     let lawful = first != second
         && within(row.x, REACTANCE)
         && within(row.overhead, LENGTH)
@@ -196,8 +197,18 @@ fn node_named(name: &Name, nodes: &[NodeRow]) -> Option<usize> {
     nodes.iter().position(|node| node.name == *name)
 }
 
+/// 02, CR 3: overhead and cable factor of a row: "0 means by voltage, otherwise 1,000 to 30,000 for both lengths of the
+/// row. At 320 or 525, new voltages, it may not be 0". `None` where that is broken, and for any other voltage.
+fn expansion_factors(row: &CircuitRow, settings: &Settings) -> Option<(u32, u32)> {
+    match (row.voltage, row.factor) {
+        (voltage, 0) => factors_by_voltage(voltage, settings),
+        (132 | 275 | 400 | 320 | 525, own) if within(own, EXPANSION) => Some((own, own)),
+        _ => None,
+    }
+}
+
 /// 01 step 4: overhead and cable factor "by voltage"; `None` for a voltage other than 132, 275 and 400.
-fn expansion_factors(voltage: u32, settings: &Settings) -> Option<(u32, u32)> {
+fn factors_by_voltage(voltage: u32, settings: &Settings) -> Option<(u32, u32)> {
     let factors = &settings.factors;
     match voltage {
         400 => Some((factors[0], factors[1])),

@@ -3,10 +3,11 @@
 mod common;
 
 use common::*;
+use reference::file::Version;
 use reference::tables::INTERCONNECTOR;
 use reference::{judge_case, program_output, solver, text};
 
-const NAMES: [&str; 12] = [
+const NAMES: [&str; 14] = [
     "KILN",
     "CUSC1421",
     "TUT1",
@@ -19,6 +20,8 @@ const NAMES: [&str; 12] = [
     "ALONE",
     "TUT1_IC",
     "LINKS",
+    "SUBSEA",
+    "KILN_2",
 ];
 
 #[test]
@@ -202,6 +205,42 @@ fn links_by_hand() {
 }
 
 #[test]
+fn subsea_by_hand() {
+    is(
+        "SUBSEA",
+        "\
+C -169622
+G 1 396300 226678 4080204 1156989 5237193
+G 2 153900 -15722 -282996 1156989 873993
+D 1 -110700 58922 1060596 1611620 2672216
+D 2 0 169622 3053196 1611620 4664816
+L SKERRY 18900 189000
+L NESS 18900 189000
+L HOLM -9450 -94500
+R 50000 80000
+",
+    );
+    let case = named_case("SUBSEA");
+    assert_eq!(case.version, Version::Two);
+    let rows: Vec<(u32, u32)> = case.circuits.iter().map(|row| (row.voltage, row.factor)).collect();
+    assert_eq!(rows, [(320, 3_500), (525, 2_250), (400, 1_800), (400, 0)]);
+}
+
+#[test]
+fn subsea_is_stored_as_a_file() {
+    let file = named_case("SUBSEA").bytes();
+    assert_eq!(file.len(), 704);
+    assert_eq!(file, folder_file("SUBSEA.case"));
+}
+
+#[test]
+fn kiln_2_is_kiln_in_version_2() {
+    assert_eq!(named_case("KILN_2"), kiln().in_version(Version::Two).unwrap());
+    assert_eq!(named_case("KILN_2").bytes().len(), 552);
+    assert_eq!(printed(&named_case("KILN_2")), printed(&kiln()));
+}
+
+#[test]
 fn tutorial_exercises_as_the_sources_have_them() {
     // Distances A 0, B, D; demand B, C; local D 30 km; and C.
     begins(
@@ -281,6 +320,16 @@ fn largest_is_accepted() {
     assert_eq!(sheet.lines().filter(|line| line.starts_with("G ") && !line.ends_with('-')).count(), 32);
     assert_eq!(sheet.lines().filter(|line| line.starts_with("D ") && !line.ends_with('-')).count(), 32);
     assert!(judged(&case).is_ok());
+}
+
+#[test]
+fn largest_of_version_2_is_accepted() {
+    let case = reference::largest::largest_of_version_2();
+    assert_eq!((case.nodes.len(), case.circuits.len(), case.stations.len()), (256, 480, 512));
+    assert_eq!(case.bytes().len(), 63_360);
+    let with = |voltage: u32| case.circuits.iter().any(|row| row.voltage == voltage && row.factor > 0);
+    assert!([132, 275, 400, 320, 525].into_iter().all(with));
+    assert!(judged(&case).is_ok(), "{}", printed(&case));
 }
 
 #[test]

@@ -3,8 +3,8 @@
 mod common;
 
 use common::*;
-use reference::file::Case;
-use reference::random::{random, spoiled, Chance};
+use reference::file::{Case, Version};
+use reference::random::{random, random_of_version_2, spoiled, Chance};
 use reference::text::{make, show};
 
 /// Showing and making again gives the same bytes.
@@ -23,8 +23,8 @@ fn lines(text: &str) -> Vec<&str> {
 
 #[test]
 fn whole_files_of_any_content_come_back() {
-    for seed in 0..40 {
-        let case = random(seed, 9);
+    for seed in 0..80 {
+        let case = if seed < 40 { random(seed, 9) } else { random_of_version_2(seed, 9) };
         let file = case.bytes();
         comes_back(&file);
         // Any bytes in the tables and solutions: still a whole file, whatever 2 to 11 say.
@@ -47,8 +47,8 @@ fn whole_files_of_any_content_come_back() {
 
 #[test]
 fn spoiled_cases_come_back_and_are_judged() {
-    for seed in 0..20 {
-        let case = random(seed, 8);
+    for seed in 0..40 {
+        let case = if seed < 20 { random(seed, 8) } else { random_of_version_2(seed, 8) };
         for spoil in 0..40 {
             let spoiled = spoiled(&case, 100 * seed + spoil);
             comes_back(&spoiled.bytes());
@@ -60,24 +60,34 @@ fn spoiled_cases_come_back_and_are_judged() {
 
 #[test]
 fn damaged_files_come_back() {
-    let file = kiln().bytes();
-    for length in 0..file.len() {
-        comes_back(&file[..length]);
+    for name in ["KILN", "ALONE", "KILN_2", "SUBSEA"] {
+        let file = named_case(name).bytes();
+        for length in 0..file.len() {
+            comes_back(&file[..length]);
+        }
+        for place in file.len() - 64..file.len() {
+            for change in [1, 2, 3, 12] {
+                let mut damaged = file.clone();
+                damaged[place] ^= change;
+                comes_back(&damaged);
+            }
+        }
+        comes_back(&[&file[..], b"more"].concat());
+        comes_back(&[&file[..], &file[..]].concat());
     }
-    for place in file.len() - 64..file.len() {
-        let mut damaged = file.clone();
-        damaged[place] ^= 1;
-        comes_back(&damaged);
-    }
-    comes_back(&[&file[..], b"more"].concat());
-    comes_back(&[&file[..], &file[..]].concat());
     let chance = &mut Chance(7);
     for length in 0..200 {
         comes_back(&(0..length).map(|_| chance.bits() as u8).collect::<Vec<u8>>());
     }
-    let largest = reference::largest::largest().bytes();
-    comes_back(&largest);
-    comes_back(&[&largest[..], &[0]].concat());
+    for largest in [reference::largest::largest(), reference::largest::largest_of_version_2()] {
+        comes_back(&largest.bytes());
+        comes_back(&[&largest.bytes()[..], &[0]].concat());
+    }
+}
+
+#[test]
+fn every_stored_case_comes_back() {
+    reference::replay::cases().iter().for_each(|case| comes_back(&case.file));
 }
 
 #[test]
@@ -96,7 +106,8 @@ fn damage_is_told_by_its_own_words() {
         changed
     };
     assert_eq!(difference(&file), Vec::<String>::new());
-    assert_eq!(difference(&changed(trailer + 56, 2)), ["version 2"]);
+    assert_eq!(difference(&changed(trailer + 56, 3)), ["version 3"]);
+    assert_eq!(difference(&changed(trailer + 56, 2)), ["version 2", "circuit_bytes 44"]);
     assert_eq!(difference(&changed(trailer + 60, 0)), ["length 512"]);
     assert_eq!(difference(&changed(trailer, 9)), ["offset settings 9"]);
     assert_eq!(difference(&changed(trailer + 12, 4)), ["count nodes 4"]);
@@ -107,6 +118,33 @@ fn damage_is_told_by_its_own_words() {
     assert!(cut.contains("\n# node NODC 1 1 120000\n"), "{cut}");
     assert!(cut.contains("\n# circuit NODA NODC 400 200 34000 0 0\n"), "{cut}");
     assert!(cut.contains("\n# station GEN_1 NODA 7 200000\n"), "{cut}");
+}
+
+#[test]
+fn damage_of_version_2_is_told_by_its_own_words() {
+    let file = named_case("KILN_2").bytes();
+    let trailer = file.len() - 64;
+    let difference = |place: usize, to: u8| -> (Vec<String>, Vec<String>) {
+        let mut changed = file.clone();
+        changed[place] = to;
+        let texts = [show(&file), show(&changed)];
+        let [whole, other] = [lines(&texts[0]), lines(&texts[1])];
+        let only = |these: &[&str], those: &[&str]| -> Vec<String> {
+            these.iter().filter(|line| !those.contains(line)).map(|line| line.to_string()).collect()
+        };
+        (only(&whole, &other), only(&other, &whole))
+    };
+    let said = |before: &[&str], after: &[&str]| {
+        [before, after].map(|lines| lines.iter().map(|line| line.to_string()).collect::<Vec<_>>()).into()
+    };
+    assert_eq!(difference(trailer + 56, 1), said(&["version 2"], &["version 1", "circuit_bytes 48"]));
+    assert_eq!(difference(trailer + 56, 7), said(&["version 2"], &["version 7"]));
+    assert_eq!(difference(trailer + 20, 4), said(&[], &["count circuits 4"]));
+    assert_eq!(difference(trailer + 24, 9), said(&[], &["offset stations 265"]));
+    let text = show(&file[..350]);
+    assert!(text.contains("\n# version 2\n"), "{text}");
+    assert!(text.contains("\n# circuit NODA NODC 400 200 34000 0 0 0\n"), "{text}");
+    assert!(text.contains("\n# station GEN_2 NODB 7 100000\n"), "{text}");
 }
 
 #[test]
@@ -152,6 +190,64 @@ fn faults_name_their_lines() {
     assert_eq!(faults(last, "as_is"), Vec::<String>::new());
     assert_eq!(faults("p 500", ""), ["line 51: settings left out: p"]);
     assert_eq!(faults(node, "bytes 00"), ["line 51: bytes stand alone: no other lines beside them"]);
+}
+
+/// KILN's text with these lines behind it, and its circuits' lines ended so.
+fn kiln_text(ends: [&str; 3], more: &str) -> String {
+    let mut text = String::from_utf8(folder_file("KILN.txt")).unwrap();
+    for (row, end) in ["400 100 10000 0 0\n", "400 100 20000 0 0\n", "400 200 34000 0 0\n"].into_iter().zip(ends) {
+        assert!(text.contains(row));
+        text = text.replace(row, &format!("{}{end}\n", row.trim_end()));
+    }
+    text + more
+}
+
+#[test]
+fn the_version_is_said_by_a_factor_or_by_its_word() {
+    let made = |ends, more| make(kiln_text(ends, more).as_bytes()).unwrap();
+    let version_2 = named_case("KILN_2").bytes();
+    assert_eq!(made(["", "", ""], ""), kiln().bytes());
+    assert_eq!(made(["", "", ""], "version 1\n"), kiln().bytes());
+    assert_eq!(made([" 0", " 0", " 0"], ""), version_2);
+    assert_eq!(made(["", " 0", ""], ""), version_2);
+    assert_eq!(made(["", "", ""], "version 2\n"), version_2);
+    assert_eq!(made([" 0", "", ""], "version 2\n"), version_2);
+    assert_eq!(made(["", "", ""], "version 2\ncircuit_bytes 48\n"), version_2);
+    let own = made(["", " 1_500", " 30e3"], "");
+    let case = reference::file::whole_case(&own).unwrap();
+    assert_eq!(case.version, Version::Two);
+    assert_eq!(case.circuits.iter().map(|row| row.factor).collect::<Vec<_>>(), [0, 1_500, 30_000]);
+    // Nothing but the trailer's number: rows by their factors.
+    let other = |file: Vec<u8>, number: u8| {
+        let mut file = file;
+        let place = file.len() - 8;
+        file[place] = number;
+        file
+    };
+    assert_eq!(made(["", "", ""], "version 9\n"), other(kiln().bytes(), 9));
+    assert_eq!(made([" 0", "", ""], "version 9\n"), other(version_2.clone(), 9));
+    assert_eq!(made(["", "", ""], "version 2\ncircuit_bytes 44\n"), other(kiln().bytes(), 2));
+    assert_eq!(made([" 0", "", ""], "version 1\ncircuit_bytes 48\n"), other(version_2, 1));
+}
+
+#[test]
+fn faults_of_factors_name_their_lines() {
+    let said = |ends, more| {
+        let faults = make(kiln_text(ends, more).as_bytes()).unwrap_err();
+        faults.iter().map(|fault| fault.to_string()).collect::<Vec<_>>()
+    };
+    let no_place = |line: u32| vec![format!("line {line}: a factor, and rows of version 1 have no place for one")];
+    assert_eq!(said(["", " 2000", " 0"], "version 1\n"), no_place(25));
+    assert_eq!(said(["", "", " 0"], "version 1\n"), no_place(26));
+    assert_eq!(said(["", "", " 0"], "version 2\ncircuit_bytes 44\n"), no_place(26));
+    assert_eq!(said(["", " x", ""], ""), ["line 25: x isn't a whole number"]);
+    assert_eq!(said(["", " -1", ""], ""), ["line 25: -1 doesn't fit u32"]);
+    assert_eq!(
+        said(["", " 0 0", ""], ""),
+        ["line 25: 9 fields where 7 are wanted: first node, second node, voltage, x, overhead, cable, mark, and maybe a factor"]
+    );
+    assert_eq!(said(["", "", ""], "circuit_bytes 46\n"), ["line 52: a circuit row has 44 bytes, or 48 in version 2"]);
+    assert_eq!(said(["", "", ""], "version 2\nversion 2\n"), ["line 53: version a second time"]);
 }
 
 #[test]

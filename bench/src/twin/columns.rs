@@ -17,6 +17,8 @@ pub struct Settings {
 
 pub struct Columns {
     pub whole: bool,
+    /// Bytes of a circuit row: 44, or 48 in version 2, with a factor last.
+    pub circuit_size: usize,
     pub nodes: usize,
     pub circuits: usize,
     pub stations: usize,
@@ -44,21 +46,37 @@ fn word(file: &[u8], field: usize) -> usize {
     u32_at(file, file.len() - 64 + 4 * field)
 }
 
-fn counted(file: &[u8]) -> bool {
+fn circuit_size(version: usize) -> usize {
+    if version == 2 {
+        48
+    } else {
+        44
+    }
+}
+
+fn most_circuits(version: usize) -> usize {
+    if version == 2 {
+        480
+    } else {
+        512
+    }
+}
+
+fn counted(file: &[u8], version: usize) -> bool {
     let nodes = word(file, 3);
     let circuits = word(file, 5);
     let numbers = nodes + circuits;
     word(file, 1) == 1
         && (1..=256).contains(&nodes)
-        && circuits <= 512
+        && circuits <= most_circuits(version)
         && word(file, 7) <= 512
         && word(file, 9) == numbers
         && word(file, 11) == numbers
         && word(file, 13) == numbers
 }
 
-fn chained(file: &[u8]) -> bool {
-    let sizes = [64, 24, 44, 32, 8, 8, 8];
+fn chained(file: &[u8], version: usize) -> bool {
+    let sizes = [64, 24, circuit_size(version), 32, 8, 8, 8];
     let mut start = 0;
     for (section, size) in sizes.iter().enumerate() {
         if word(file, 2 * section) != start {
@@ -69,12 +87,12 @@ fn chained(file: &[u8]) -> bool {
     start + 64 == file.len()
 }
 
-fn whole(file: &[u8]) -> bool {
+fn whole(file: &[u8], version: usize) -> bool {
     file.len() >= 128
-        && word(file, 14) == 1
+        && (version == 1 || version == 2)
         && word(file, 15) == file.len()
-        && counted(file)
-        && chained(file)
+        && counted(file, version)
+        && chained(file, version)
         && u32_at(file, 52) == 0
 }
 
@@ -93,11 +111,21 @@ fn settings(file: &[u8]) -> Settings {
     }
 }
 
-fn expanded_length(file: &[u8], at: usize, factors: &[usize; 6]) -> u64 {
-    let (over, under) = match u32_at(file, at + 24) {
-        400 => (factors[0], factors[1]),
-        275 => (factors[2], factors[3]),
-        _ => (factors[4], factors[5]),
+/// A circuit's own factor; 0, which means by voltage, in version 1.
+pub fn own_factor(file: &[u8], at: usize, circuit_size: usize) -> usize {
+    if circuit_size == 48 {
+        u32_at(file, at + 44)
+    } else {
+        0
+    }
+}
+
+fn expanded_length(file: &[u8], at: usize, own: usize, factors: &[usize; 6]) -> u64 {
+    let (over, under) = match (own, u32_at(file, at + 24)) {
+        (0, 400) => (factors[0], factors[1]),
+        (0, 275) => (factors[2], factors[3]),
+        (0, _) => (factors[4], factors[5]),
+        (own, _) => (own, own),
     };
     let (overhead, cable) = (u32_at(file, at + 32), u32_at(file, at + 36));
     if overhead > 500_000 || cable > 500_000 || over > 30_000 || under > 30_000 {
@@ -108,8 +136,10 @@ fn expanded_length(file: &[u8], at: usize, factors: &[usize; 6]) -> u64 {
 
 pub fn read(file: &[u8]) -> (Columns, Stations) {
     let mut s = Stations { node: [0; 512], plant: [0; 512], tec: [0; 512] };
+    let version = if file.len() < 64 { 0 } else { word(file, 14) };
     let mut c = Columns {
-        whole: whole(file),
+        whole: whole(file, version),
+        circuit_size: circuit_size(version),
         nodes: 0,
         circuits: 0,
         stations: 0,
@@ -146,18 +176,18 @@ fn read_nodes(c: &mut Columns, file: &[u8]) {
 
 fn read_circuits(c: &mut Columns, file: &[u8]) {
     for i in 0..c.circuits {
-        let at = 64 + 24 * c.nodes + 44 * i;
+        let at = 64 + 24 * c.nodes + c.circuit_size * i;
         c.first[i] = place(file, 64, 24, c.nodes, key_at(file, at));
         c.second[i] = place(file, 64, 24, c.nodes, key_at(file, at + 12));
         c.x[i] = u32_at(file, at + 28) as u64;
-        c.length[i] = expanded_length(file, at, &c.settings.factors);
+        c.length[i] = expanded_length(file, at, own_factor(file, at, c.circuit_size), &c.settings.factors);
         c.mark[i] = u32_at(file, at + 40) as u64;
     }
 }
 
 fn read_stations(c: &Columns, s: &mut Stations, file: &[u8]) {
     for k in 0..c.stations {
-        let at = 64 + 24 * c.nodes + 44 * c.circuits + 32 * k;
+        let at = 64 + 24 * c.nodes + c.circuit_size * c.circuits + 32 * k;
         s.node[k] = place(file, 64, 24, c.nodes, key_at(file, at + 12));
         s.plant[k] = u32_at(file, at + 24);
         s.tec[k] = u32_at(file, at + 28) as u64;

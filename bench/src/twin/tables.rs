@@ -1,6 +1,6 @@
 //! The case file judged: refusals 1 to 7 and 13.
 
-use super::columns::{Columns, Settings, Stations};
+use super::columns::{own_factor, Columns, Settings, Stations};
 use super::fields::{key_at, name_at, name_formed, repeated, u32_at};
 use crate::answer::{refused, Answer};
 
@@ -56,13 +56,22 @@ fn nodes(file: &[u8], c: &Columns) -> Judged {
     Ok(())
 }
 
-fn sound_circuit(file: &[u8], at: usize, nodes: usize, first: usize, second: usize) -> bool {
+/// 0 means by voltage, and 320 and 525 have no factor there.
+fn sound_factor(voltage: usize, own: usize) -> bool {
+    match voltage {
+        132 | 275 | 400 => own == 0 || (1000..=30_000).contains(&own),
+        320 | 525 => (1000..=30_000).contains(&own),
+        _ => false,
+    }
+}
+
+fn sound_circuit(file: &[u8], at: usize, c: &Columns, first: usize, second: usize) -> bool {
     name_formed(name_at(file, at))
         && name_formed(name_at(file, at + 12))
-        && first < nodes
-        && second < nodes
+        && first < c.nodes
+        && second < c.nodes
         && key_at(file, at) != key_at(file, at + 12)
-        && matches!(u32_at(file, at + 24), 132 | 275 | 400)
+        && sound_factor(u32_at(file, at + 24), own_factor(file, at, c.circuit_size))
         && (1..=10_000).contains(&u32_at(file, at + 28))
         && u32_at(file, at + 32) <= 500_000
         && u32_at(file, at + 36) <= 500_000
@@ -71,7 +80,7 @@ fn sound_circuit(file: &[u8], at: usize, nodes: usize, first: usize, second: usi
 
 fn circuits(file: &[u8], c: &Columns) -> Judged {
     for i in 0..c.circuits {
-        if !sound_circuit(file, 64 + 24 * c.nodes + 44 * i, c.nodes, c.first[i], c.second[i]) {
+        if !sound_circuit(file, 64 + 24 * c.nodes + c.circuit_size * i, c, c.first[i], c.second[i]) {
             return refuse(4, i + 1);
         }
     }
@@ -87,7 +96,7 @@ fn sound_station(file: &[u8], at: usize, nodes: usize, node: usize) -> bool {
 }
 
 fn stations(file: &[u8], c: &Columns, s: &Stations) -> Judged {
-    let start = 64 + 24 * c.nodes + 44 * c.circuits;
+    let start = 64 + 24 * c.nodes + c.circuit_size * c.circuits;
     let sound = |k: usize| sound_station(file, start + 32 * k, c.nodes, s.node[k]);
     let unsound = (0..c.stations).find(|k| !sound(*k)).unwrap_or(c.stations);
     let row = unsound.min(repeated(file, start, 32, c.stations));

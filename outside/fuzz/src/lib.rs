@@ -1,6 +1,6 @@
 //! The reference as C calls it: the entry with a lent buffer, and the solver for the mutator.
 
-use reference::file::whole_case;
+use reference::file::{whole_case, Version};
 use reference::solver::solved;
 use reference::{judge_case, judge_into, Answer};
 use std::slice::{from_raw_parts, from_raw_parts_mut};
@@ -54,6 +54,24 @@ unsafe fn tell(told: Answer, answer: *mut u64) {
         Answer::Refused(refusal) => [refusal.number as u64, refusal.system as u64, refusal.row as u64, 0],
     };
     from_raw_parts_mut(answer, 4).copy_from_slice(&numbers);
+}
+
+/// Rewrites a whole file as one of the other version, where that has a place for it and `most` bytes are enough. Gives its length.
+///
+/// # Safety
+/// The pointer leads to `most` bytes, of which the file is the first ones.
+#[no_mangle]
+pub unsafe extern "C" fn reference_rewrite(file: *mut u8, file_len: usize, most: usize) -> usize {
+    let case = whole_case(from_raw_parts(file, file_len));
+    let other = |version| if version == Version::One { Version::Two } else { Version::One };
+    let rewritten = case.and_then(|case| case.in_version(other(case.version)).ok()).map(|case| case.bytes());
+    match rewritten.filter(|bytes| bytes.len() <= most) {
+        Some(bytes) => {
+            from_raw_parts_mut(file, bytes.len()).copy_from_slice(&bytes);
+            bytes.len()
+        }
+        None => file_len,
+    }
 }
 
 /// Puts solutions of a whole file's tables in place of its own. Another file stays as it is.

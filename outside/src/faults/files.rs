@@ -1,15 +1,18 @@
-//! 01, 1: "length, trailer, version, counts, chain or the settings' zero wrong", and runs of another length; 12, at the other end.
+//! 01, 1: "length, trailer, version, counts, chain or the settings' zero wrong", and runs of another length; 12, at the other end. 02,
+//! CR 3: versions 1 and 2, and the count of circuits that 2 holds.
 
 use super::{any, Faults};
 use crate::input::Input;
-use reference::file::{padded, Case, CircuitRow, NodeRow, StationRow, Trailer, SECTIONS, TRAILER};
+use reference::file::{padded, Case, CircuitRow, NodeRow, StationRow, Trailer, Version, SECTIONS, TRAILER};
 use reference::random::Chance;
 
 pub fn add(list: &mut Faults) {
     add_lengths(list);
+    add_versions(list);
     add_trailer(list);
     add_chains(list);
     add_counts(list);
+    add_solutions(list);
     list.case(1, 0, "the settings' zero not 0", |case, chance| {
         case.settings.zero = chance.of(&[1, 256, 1 << 31]);
         Some(0)
@@ -66,21 +69,42 @@ fn other(chance: &mut Chance, old: u32) -> u32 {
     chance.of(&[old.wrapping_add(1), old.wrapping_sub(1), old ^ 1 << 31, 0, u32::MAX])
 }
 
-fn add_trailer(list: &mut Faults) {
-    list.input(1, "version not 1", |input, chance| {
-        trailer(input, |trailer| trailer.version = chance.of(&[0, 2, 256, 1 << 24, u32::MAX]))
+fn add_versions(list: &mut Faults) {
+    list.input(1, "version neither 1 nor 2", |input, chance| {
+        let versions = [0, 3, 256, 256 + 1, 256 + 2, 2 * 256, 1 << 24, 2 << 24, u32::MAX];
+        trailer(input, |trailer| trailer.version = chance.of(&versions))
     });
+    // Without circuits a file is one of the other version.
+    for (cause, told) in [("the other version", false), ("the other version with its offsets", true)] {
+        list.input(1, cause, move |input, _| {
+            let case = case_of(input).filter(|case| !case.circuits.is_empty())?;
+            let other = if case.version == Version::One { Version::Two } else { Version::One };
+            let offsets = Case { version: other, circuits: without_factors(&case), ..case }.trailer().offsets;
+            trailer(input, |trailer| {
+                trailer.version = other.number();
+                trailer.offsets = if told { offsets } else { trailer.offsets };
+            })
+        });
+    }
+}
+
+/// Circuits that either version has a place for.
+fn without_factors(case: &Case) -> Vec<CircuitRow> {
+    case.circuits.iter().map(|row| CircuitRow { factor: 0, ..row.clone() }).collect()
+}
+
+fn add_trailer(list: &mut Faults) {
     list.input(1, "the trailer's length", |input, chance| {
         trailer(input, |trailer| trailer.length = other(chance, trailer.length))
     });
-    for (section, (name, size)) in SECTIONS.into_iter().enumerate() {
+    for (section, (name, size)) in SECTIONS.into_iter().zip(Version::One.sizes()).enumerate() {
         list.input(1, format!("the offset of {name}"), move |input, chance| {
             trailer(input, |trailer| trailer.offsets[section] = other(chance, trailer.offsets[section]))
         });
         list.input(1, format!("the count of {name}"), move |input, chance| {
             trailer(input, |trailer| trailer.counts[section] = other(chance, trailer.counts[section]))
         });
-        // As many rows more as give the same place in 32 bits: 2^32 bytes, or 2^34 for 44 bytes a row.
+        // As many rows more as give the same place in 32 bits: 2^32 bytes, or 2^30 rows of 44 or 48 bytes.
         let wrapped = (1u64 << 32) / (size as u64 & size.wrapping_neg() as u64);
         list.input(1, format!("a count of {name} that wraps 32 bits"), move |input, _| {
             trailer(input, |trailer| trailer.counts[section] = trailer.counts[section].wrapping_add(wrapped as u32))
@@ -97,7 +121,7 @@ fn laid_out(case: &Case, order: [usize; 7], gaps: [usize; 8]) -> Vec<u8> {
         file.resize(file.len() + gaps[place], 0);
         trailer.offsets[section] = file.len() as u32;
         let start = old.offsets[section] as usize;
-        file.extend(&bytes[start..start + old.counts[section] as usize * SECTIONS[section].1]);
+        file.extend(&bytes[start..start + old.counts[section] as usize * case.version.sizes()[section]]);
     }
     file.resize(file.len() + gaps[7], 0);
     trailer.length = (file.len() + TRAILER) as u32;
@@ -107,8 +131,8 @@ fn laid_out(case: &Case, order: [usize; 7], gaps: [usize; 8]) -> Vec<u8> {
 
 /// The case of a whole file.
 fn case_of(input: &Input) -> Option<Case> {
-    let counts = Trailer::read(&input.file)?.counts.map(|count| count as usize);
-    Case::read(&input.file, counts)
+    let trailer = Trailer::read(&input.file)?;
+    Case::read(&input.file, Version::of(trailer.version)?, trailer.counts.map(|count| count as usize))
 }
 
 fn add_chains(list: &mut Faults) {
@@ -148,19 +172,10 @@ fn add_counts(list: &mut Faults) {
         case.runs.iter_mut().for_each(|run| run.resize(257 + case.circuits.len(), 0));
         Some(0)
     });
-    list.case(1, 0, "513 circuits", |case, _| {
-        let row = CircuitRow {
-            first: case.nodes.first()?.name,
-            second: case.nodes.get(1)?.name,
-            voltage: 400,
-            x: 1,
-            overhead: 0,
-            cable: 0,
-            mark: 0,
-        };
-        case.circuits.resize(513, row);
-        case.runs.iter_mut().for_each(|run| run.resize(case.nodes.len() + 513, 0));
-        Some(0)
+    list.case(1, 0, "513 circuits", |case, _| grow_circuits(case, 513));
+    list.case(1, 0, "481 to 512 circuits in version 2", |case, chance| {
+        let count = chance.of(&[481, 481, 482, 511, 512]);
+        (case.version == Version::Two).then(|| grow_circuits(case, count))?
     });
     list.case(1, 0, "513 stations", |case, _| {
         let node = case.nodes.first()?.name;
@@ -173,6 +188,10 @@ fn add_counts(list: &mut Faults) {
         case.stations = std::mem::take(&mut case.stations).into_iter().chain(more).collect();
         Some(0)
     });
+}
+
+/// Solutions of one row more in the file.
+fn add_solutions(list: &mut Faults) {
     for (system, name) in ["base", "wider", "local"].into_iter().enumerate() {
         list.input(1, format!("one row more of {name} in the file, trailer mended"), move |input, _| {
             let mut case = case_of(input)?;
@@ -181,6 +200,15 @@ fn add_counts(list: &mut Faults) {
             Some(0)
         });
     }
+}
+
+/// Circuits without length to so many, all of them in order.
+fn grow_circuits(case: &mut Case, count: usize) -> Option<u64> {
+    let (first, second) = (case.nodes.first()?.name, case.nodes.get(1)?.name);
+    let row = CircuitRow { first, second, voltage: 400, x: 1, overhead: 0, cable: 0, mark: 0, factor: 0 };
+    case.circuits.resize(count, row);
+    case.runs.iter_mut().for_each(|run| run.resize(case.nodes.len() + count, 0));
+    Some(0)
 }
 
 fn add_runs(list: &mut Faults) {

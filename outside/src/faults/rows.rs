@@ -1,7 +1,7 @@
-//! 01, 3 to 5: rows malformed, out of range, unknown, repeated.
+//! 01, 3 to 5: rows malformed, out of range, unknown, repeated. 02, CR 3: circuits' factors and new voltages.
 
 use super::{any, Faults};
-use reference::file::{padded, Case, CircuitRow, Name, NodeRow, StationRow};
+use reference::file::{padded, Case, CircuitRow, Name, NodeRow, StationRow, Version};
 use reference::random::Chance;
 
 /// A byte that no name has before its spaces.
@@ -48,6 +48,7 @@ fn unknown(case: &Case, chance: &mut Chance) -> Name {
 pub fn add(list: &mut Faults) {
     add_nodes(list);
     add_circuits(list);
+    add_factors(list);
     add_stations(list);
 }
 
@@ -89,6 +90,10 @@ fn add_nodes(list: &mut Faults) {
     });
 }
 
+/// Voltages that no version has.
+const OTHER_VOLTAGES: [u32; 15] =
+    [0, 33, 131, 133, 274, 276, 319, 321, 399, 401, 524, 526, 320 << 8, 400_000, u32::MAX];
+
 fn add_circuits(list: &mut Faults) {
     let mut row = |cause: String, change: Box<dyn Fn(&mut CircuitRow, &Case, &mut Chance)>| {
         list.case(4, 0, cause, move |case, chance| {
@@ -115,10 +120,7 @@ fn add_circuits(list: &mut Faults) {
             |row, _, chance| if chance.within(0, 1) == 0 { row.first = row.second } else { row.second = row.first },
         ),
     );
-    row(
-        "circuit: another voltage".into(),
-        Box::new(|row, _, chance| row.voltage = chance.of(&[0, 33, 131, 133, 274, 276, 399, 401, 400_000, u32::MAX])),
-    );
+    row("circuit: another voltage".into(), Box::new(|row, _, chance| row.voltage = chance.of(&OTHER_VOLTAGES)));
     row("circuit: x 0".into(), Box::new(|row, _, _| row.x = 0));
     row("circuit: x above 10,000".into(), Box::new(|row, _, chance| row.x = chance.of(&[10_001, u32::MAX])));
     row(
@@ -127,6 +129,42 @@ fn add_circuits(list: &mut Faults) {
     );
     row("circuit: cable above 500,000".into(), Box::new(|row, _, chance| row.cable = chance.of(&[500_001, u32::MAX])));
     row("circuit: mark above 1".into(), Box::new(|row, _, chance| row.mark = chance.of(&[2, 256, u32::MAX])));
+}
+
+/// What is done to a circuit row.
+type RowChange = fn(&mut CircuitRow, &mut Chance);
+
+/// 02, CR 3: what stops a circuit row of version 2.
+const OF_VERSION_2: [(&str, RowChange); 6] = [
+    ("a factor of 1 to 999", |row, chance| row.factor = chance.of(&[1, 2, 500, 999, 999])),
+    ("a factor above 30,000", |row, chance| row.factor = chance.of(&[30_001, 30_001, 1 << 16, 1 << 31, u32::MAX])),
+    ("320 without a factor", |row, _| (row.voltage, row.factor) = (320, 0)),
+    ("525 without a factor", |row, _| (row.voltage, row.factor) = (525, 0)),
+    ("another voltage with a factor", |row, chance| {
+        (row.voltage, row.factor) = (chance.of(&OTHER_VOLTAGES), chance.of(&[1_000, 30_000]));
+    }),
+    ("a factor out of range and no length", |row, chance| {
+        (row.overhead, row.cable, row.factor) = (0, 0, chance.of(&[1, 999, 30_001]));
+    }),
+];
+
+/// 02, CR 3: 4 "also covers the new rules"; version 1 is read as if the factor were 0.
+fn add_factors(list: &mut Faults) {
+    for (cause, change) in OF_VERSION_2 {
+        list.case(4, 0, format!("circuit: {cause}"), move |case, chance| {
+            change_circuit(case, Version::Two, chance, change)
+        });
+    }
+    list.case(4, 0, "circuit: 320 or 525 in version 1", |case, chance| {
+        change_circuit(case, Version::One, chance, |row, chance| row.voltage = chance.of(&[320, 525]))
+    });
+}
+
+/// Changes a circuit of a case of a version: its row.
+fn change_circuit(case: &mut Case, version: Version, chance: &mut Chance, change: RowChange) -> Option<u64> {
+    let place = any(chance, case.circuits.len()).filter(|_| case.version == version)?;
+    change(&mut case.circuits[place], chance);
+    Some(place as u64 + 1)
 }
 
 fn add_stations(list: &mut Faults) {

@@ -1,6 +1,6 @@
 //! Makes, shows and solves case files. Standard input to standard output; faults to standard error.
 
-use reference::file::{whole_case, Case};
+use reference::file::{whole_case, Case, Version};
 use reference::{largest, longest, random, solver, standard, text};
 use std::process::ExitCode;
 
@@ -9,9 +9,12 @@ case make     < text > file   the file a text describes
 case show     < file > text   a text that describes a file, damaged ones too
 case solve    < text > text   the same text with solutions in place of its own
 case solve    < file > file   the same for a file
+case version N < file > file  the same case in a file of version 1 or 2
 case largest         > file   256 nodes, 512 circuits, 512 stations
-case longest         > file   the same counts, and a sheet nearly as long as one can be
+case largest_2       > file   the largest of version 2: 256 nodes, 480 circuits, 512 stations
+case longest         > file   the counts of the largest, and a sheet nearly as long as one can be
 case random SEED [MOST_NODES] > file   a case by chance, solved
+case random_2 SEED [MOST_NODES] > file   the same in version 2, with factors
 case spoil SEED < file > file   a whole file with one thing changed by chance";
 
 fn main() -> ExitCode {
@@ -21,10 +24,14 @@ fn main() -> ExitCode {
         ["make"] => standard::input().and_then(|text| text::make(&text).map_err(|faults| joined(&faults))),
         ["show"] => standard::input().map(|file| text::show(&file).into_bytes()),
         ["solve"] => standard::input().and_then(|input| solve(&input)),
+        ["version", number] => standard::input().and_then(|file| in_version(&file, number)),
         ["largest"] => Ok(largest::largest().bytes()),
+        ["largest_2"] => Ok(largest::largest_of_version_2().bytes()),
         ["longest"] => Ok(longest::longest().bytes()),
-        ["random", seed] => by_chance(seed, "12"),
-        ["random", seed, nodes] => by_chance(seed, nodes),
+        ["random", seed] => by_chance(random::random, seed, "12"),
+        ["random", seed, nodes] => by_chance(random::random, seed, nodes),
+        ["random_2", seed] => by_chance(random::random_of_version_2, seed, "12"),
+        ["random_2", seed, nodes] => by_chance(random::random_of_version_2, seed, nodes),
         ["spoil", seed] => standard::input().and_then(|file| spoil(&file, seed)),
         _ => Err(USE.to_string()),
     };
@@ -65,9 +72,16 @@ fn told(case: &Case) -> Case {
     solved
 }
 
+/// 02, CR 3: "one case in either version": a whole file of one version as a file of the other.
+fn in_version(file: &[u8], word: &str) -> Result<Vec<u8>, String> {
+    let version = word.parse().ok().and_then(Version::of).ok_or("a version is 1 or 2")?;
+    let case = whole_case(file).ok_or("not a whole file")?;
+    Ok(case.in_version(version)?.bytes())
+}
+
 /// A case by chance.
-fn by_chance(seed: &str, nodes: &str) -> Result<Vec<u8>, String> {
-    Ok(random::random(number(seed)?, number(nodes)?).bytes())
+fn by_chance(case: fn(u64, u64) -> Case, seed: &str, nodes: &str) -> Result<Vec<u8>, String> {
+    Ok(case(number(seed)?, number(nodes)?).bytes())
 }
 
 /// A whole file with one thing changed by chance.

@@ -1,7 +1,7 @@
 //! Cases that others are made from by a change, and short ways to write rows.
 
 use super::{changed, solved};
-use crate::file::{padded, Case, CircuitRow, Name, NodeRow, Settings, StationRow};
+use crate::file::{padded, Case, CircuitRow, Name, NodeRow, Settings, StationRow, Version};
 use crate::text;
 
 /// A text of the folder of texts, by its name.
@@ -11,7 +11,7 @@ macro_rules! text_named {
     };
 }
 
-/// The folder of texts, without those of `LINK_TEXTS`.
+/// The folder of texts, without those named below.
 pub const TEXTS: [(&str, &str); 10] = [
     text_named!("KILN"),
     text_named!("CUSC1421"),
@@ -28,11 +28,27 @@ pub const TEXTS: [(&str, &str); 10] = [
 /// The texts of the folder with interconnectors (02, CR 1).
 pub const LINK_TEXTS: [(&str, &str); 2] = [text_named!("TUT1_IC"), text_named!("LINKS")];
 
+/// The texts of the folder of version 2 (02, CR 3).
+pub const VERSION_TEXTS: [(&str, &str); 2] = [text_named!("SUBSEA"), text_named!("KILN_2")];
+
+/// Texts of the folder whose solutions aren't this solver's.
+const CHOSEN_TEXTS: [(&str, &str); 2] = [text_named!("DALE"), text_named!("TARN")];
+
 /// The case of a text of the folder.
 pub fn named_case(name: &str) -> Case {
-    let (_, text) =
-        TEXTS.into_iter().chain(LINK_TEXTS).find(|(known, _)| *known == name).expect("a text of the folder");
+    let mut texts = TEXTS.into_iter().chain(LINK_TEXTS).chain(VERSION_TEXTS).chain(CHOSEN_TEXTS);
+    let (_, text) = texts.find(|(known, _)| *known == name).expect("a text of the folder");
     text::parse(text.as_bytes()).expect("a text without faults").case
+}
+
+/// KILN in version 2.
+pub fn kiln_2() -> Case {
+    named_case("KILN_2")
+}
+
+/// 02, CR 3: a case in version 2, every factor 0.
+pub fn in_version_2(case: &Case) -> Case {
+    case.in_version(Version::Two).expect("at most 480 circuits")
 }
 
 /// 01's own case.
@@ -85,6 +101,7 @@ pub fn all_kinds() -> Case {
     nodes.push(zoned_node("FAR_EAST", 4, 1, 1_000));
     let marked = CircuitRow { mark: 1, ..circuit("FAR_EAST", "EAST", 30, 0) };
     solved(&Case {
+        version: Version::One,
         settings: Settings {
             generation_zones: 4,
             demand_zones: 2,
@@ -128,6 +145,7 @@ pub fn line() -> Case {
 pub fn pair(kw: u32, circuits: Vec<CircuitRow>) -> Case {
     let rows = 2 + circuits.len();
     Case {
+        version: Version::One,
         settings: Settings { reference: 1, ..kiln().settings },
         nodes: vec![node("GENR", 0), node("LOAD", kw)],
         circuits,
@@ -166,6 +184,7 @@ pub fn mirrored(case: &Case) -> Case {
     };
     let station = |row: &NodeRow| StationRow { identifier: row.name, node: row.name, plant: 7, tec: row.demand };
     Case {
+        version: case.version,
         settings: Settings {
             generation_zones: case.settings.demand_zones,
             demand_zones: case.settings.generation_zones,
@@ -196,7 +215,8 @@ pub fn zoned_node(text: &str, generation_zone: u32, demand_zone: u32, demand: u3
 
 /// An unmarked 400 kV overhead circuit.
 pub fn circuit(first: &str, second: &str, x: u32, overhead: u32) -> CircuitRow {
-    CircuitRow { first: name(first), second: name(second), voltage: 400, x, overhead, cable: 0, mark: 0 }
+    let (first, second) = (name(first), name(second));
+    CircuitRow { first, second, voltage: 400, x, overhead, cable: 0, mark: 0, factor: 0 }
 }
 
 /// A station of type 7.

@@ -2,7 +2,7 @@
 
 use super::bases::{circuit, kiln, named_case, node, station, zeros, TEXTS};
 use super::{List, Told, LONGEST, ONE};
-use crate::file::{Case, Trailer, SECTIONS, TRAILER};
+use crate::file::{Case, Trailer, Version, SECTIONS, TRAILER};
 use crate::{largest, text};
 
 /// Texts, lengths, trailers, chains, counts, the settings' zero.
@@ -58,7 +58,7 @@ fn with_trailer(change: impl Fn(&mut Trailer)) -> Vec<u8> {
 
 /// Each of the 16 fields of KILN's trailer one lower and one higher.
 fn add_trailer_fields(list: &mut List) {
-    for (section, (name, _)) in SECTIONS.into_iter().enumerate() {
+    for (section, name) in SECTIONS.into_iter().enumerate() {
         for (by, way) in [(u32::MAX, "lower"), (1, "higher")] {
             let add = |field: &mut u32| *field = field.wrapping_add(by);
             list.file(format!("offset of {name} one {way}"), with_trailer(|t| add(&mut t.offsets[section])), ONE);
@@ -73,7 +73,7 @@ fn add_trailer_fields(list: &mut List) {
 
 /// Counts so great that in 32 bits their sections end where they should, and the greatest numbers everywhere.
 fn add_wrapped_counts(list: &mut List) {
-    for (section, (name, size)) in SECTIONS.into_iter().enumerate() {
+    for (section, (name, size)) in SECTIONS.into_iter().zip(Version::One.sizes()).enumerate() {
         let more = 1 << (32 - size.trailing_zeros());
         list.file(format!("count of {name} {more} higher"), with_trailer(|t| t.counts[section] += more), ONE);
         list.file(format!("count of {name} greatest"), with_trailer(|t| t.counts[section] = u32::MAX), ONE);
@@ -100,7 +100,7 @@ fn with_gap(before: usize, bytes: u32) -> Vec<u8> {
 
 /// Sections that don't follow one another exactly, though every offset is true.
 fn add_chains(list: &mut List) {
-    for (section, (name, _)) in SECTIONS.into_iter().enumerate() {
+    for (section, name) in SECTIONS.into_iter().enumerate() {
         list.file(format!("one byte before {name}, told"), with_gap(section, 1), ONE);
         list.file(format!("64 bytes before {name}, told"), with_gap(section, 64), ONE);
     }

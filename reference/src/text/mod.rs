@@ -6,14 +6,20 @@
 //! generation_zones 1            # and the other settings, in any order
 //! node NODA 1 1 0               # name, generation zone, demand zone, demand kW
 //! circuit NODA NODB 400 100 10000 0 0   # ends, voltage, x, overhead m, cable m, local mark
+//! circuit NODA NODB 320 100 0 60000 0 3500   # and in version 2 the circuit's own factor, 0 or none for by voltage
 //! station GEN_1 NODA 7 200000   # identifier, node, plant type, TEC kW
 //! base 11000000000000           # potentials of the nodes, then flows of the circuits; `wider`, `local` alike
 //! ```
 //!
 //! Numbers may be parted by `_` and end in an exponent (`45e9`). A name that isn't well-formed stands in quotes with
-//! `\xNN` for odd bytes, and spaces to twelve are added. Further words make files that aren't whole:
-//! `zero N`, `version N`, `length N`, `offset SECTION N`, `count SECTION N`, `as_is` (solutions of any number of
-//! rows), `cut N` (that many last bytes away), `tail HEX` (bytes behind the trailer), or `bytes HEX` lines alone.
+//! `\xNN` for odd bytes, and spaces to twelve are added.
+//!
+//! `version 1` and `version 2` say the file's version. Without that word it is 2 where some circuit has a factor, else 1.
+//!
+//! Further words make files that aren't whole: `zero N`, `version N` (any other number, in the trailer alone),
+//! `circuit_bytes 44` and `circuit_bytes 48` (circuit rows as version 1 or 2 has them, whatever the trailer's version),
+//! `length N`, `offset SECTION N`, `count SECTION N`, `as_is` (solutions of any number of rows), `cut N` (that many last
+//! bytes away), `tail HEX` (bytes behind the trailer), or `bytes HEX` lines alone.
 
 mod read;
 mod show;

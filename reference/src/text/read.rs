@@ -2,13 +2,14 @@
 
 use super::words::{fitting, from_hex, name, split, Word};
 use super::{TextError, SETTINGS, SOLUTIONS};
-use crate::file::{Case, CircuitRow, NodeRow, StationRow, SECTIONS};
+use crate::file::{Case, CircuitRow, NodeRow, StationRow, Version, SECTIONS};
 
 /// What a text says beside the case itself, to make files that aren't whole.
 #[derive(Clone, Debug, Default, PartialEq, Eq)]
 pub struct Damage {
     /// Solutions may have any number of rows.
     pub as_is: bool,
+    /// The version in the trailer, where it isn't that of the rows.
     pub version: Option<u32>,
     pub length: Option<u32>,
     pub offsets: [Option<u32>; 7],
@@ -52,15 +53,15 @@ fn solutions_that_do_not_fit(described: &Described) -> Vec<String> {
 pub fn parse(text: &[u8]) -> Result<Described, Vec<TextError>> {
     let mut reader = Reader::default();
     let mut faults = Vec::new();
-    let mut last = 0;
     for (place, line) in text.split(|byte| *byte == b'\n').enumerate() {
-        last = place + 1;
+        reader.number = place + 1;
         let read =
             std::str::from_utf8(line).map_err(|_| "not plain text".to_string()).and_then(|line| reader.line(line));
-        faults.extend(read.err().map(|message| TextError { line: last, message }));
+        faults.extend(read.err().map(|message| TextError { line: reader.number, message }));
     }
     if faults.is_empty() {
-        faults.extend(reader.left_out().map(|message| TextError { line: last, message }));
+        faults.extend(reader.settle_version().err());
+        faults.extend(reader.left_out().map(|message| TextError { line: reader.number, message }));
     }
     if faults.is_empty() {
         Ok(reader.described)
@@ -73,6 +74,12 @@ pub fn parse(text: &[u8]) -> Result<Described, Vec<TextError>> {
 #[derive(Default)]
 struct Reader {
     described: Described,
+    /// The line, counted from 1.
+    number: usize,
+    /// The first line with a factor.
+    factor: Option<usize>,
+    /// The version whose circuit rows are asked for by their bytes.
+    rows: Option<Version>,
     /// Words that may stand once, and stood.
     said: Vec<String>,
     /// Some line other than `bytes` was read.
@@ -91,6 +98,7 @@ impl Reader {
             "circuit" => self.circuit(fields),
             "station" => self.station(fields),
             "revenue" => self.revenue(fields),
+            "circuit_bytes" => self.circuit_bytes(fields),
             _ => self.other(kind, fields),
         }
     }
@@ -108,10 +116,15 @@ impl Reader {
         Ok(())
     }
 
-    /// 01 "The case file", circuit: both ends, voltage, x, lengths, mark.
+    /// 01 "The case file", circuit: both ends, voltage, x, lengths, mark. 02, CR 3: the factor last, where there is one.
     fn circuit(&mut self, fields: &[Word]) -> Result<(), String> {
+        let (fields, factor) = match fields {
+            [row @ .., factor] if row.len() == 7 => (row, Some(factor)),
+            row => (row, None),
+        };
         let [first, second, voltage, x, overhead, cable, mark] =
-            exactly(fields, "first node, second node, voltage, x, overhead, cable, mark")?;
+            exactly(fields, "first node, second node, voltage, x, overhead, cable, mark, and maybe a factor")?;
+        self.factor = self.factor.or(factor.map(|_| self.number));
         self.described.case.circuits.push(CircuitRow {
             first: name(first)?,
             second: name(second)?,
@@ -120,6 +133,7 @@ impl Reader {
             overhead: fitting(overhead)?,
             cable: fitting(cable)?,
             mark: fitting(mark)?,
+            factor: factor.map_or(Ok(0), fitting)?,
         });
         Ok(())
     }
@@ -141,6 +155,15 @@ impl Reader {
         let [number] = exactly(fields, "one number")?;
         self.described.case.settings.revenue = fitting(number)?;
         self.once("revenue".to_string())
+    }
+
+    /// The bytes of a circuit row, 44 or 48, whatever the trailer's version.
+    fn circuit_bytes(&mut self, fields: &[Word]) -> Result<(), String> {
+        let [number] = exactly(fields, "one number")?;
+        let bytes: usize = fitting(number)?;
+        let version = [Version::One, Version::Two].into_iter().find(|version| version.circuit_size() == bytes);
+        self.rows = Some(version.ok_or("a circuit row has 44 bytes, or 48 in version 2")?);
+        self.once("circuit_bytes".to_string())
     }
 
     /// A setting of 32 bits, a solution row, or a word of damage.
@@ -192,6 +215,21 @@ impl Reader {
         Ok(())
     }
 
+    /// 02, CR 3: the version by the bytes of rows or by the word `version`, else 2 where a circuit has a factor, else 1.
+    fn settle_version(&mut self) -> Result<(), TextError> {
+        let said = self.described.damage.version;
+        let by_factors = if self.factor.is_some() { Version::Two } else { Version::One };
+        let version = self.rows.or(said.and_then(Version::of)).unwrap_or(by_factors);
+        self.described.case.version = version;
+        self.described.damage.version = said.filter(|number| *number != version.number());
+        match (version, self.factor) {
+            (Version::One, Some(line)) => {
+                Err(TextError { line, message: "a factor, and rows of version 1 have no place for one".to_string() })
+            }
+            _ => Ok(()),
+        }
+    }
+
     /// What a text must still say at its end.
     fn left_out(&self) -> Option<String> {
         if self.described.damage.bytes.is_some() {
@@ -210,7 +248,7 @@ fn exactly<'a, const N: usize>(fields: &'a [Word], wanted: &str) -> Result<&'a [
 
 /// A section's place by its name.
 fn section_place(word: &Word) -> Result<usize, String> {
-    let place = SECTIONS.iter().position(|(section, _)| *word == Word::Bare(section.to_string()));
+    let place = SECTIONS.iter().position(|section| *word == Word::Bare(section.to_string()));
     place.ok_or_else(|| "a section is settings, nodes, circuits, stations, base, wider or local".to_string())
 }
 

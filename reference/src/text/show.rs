@@ -7,8 +7,7 @@ use crate::file::*;
 /// A text whose file is exactly these bytes. What isn't whole is told by words of damage; where no case fits the
 /// bytes, they stand as `bytes` lines behind what their shapes suggest, given as comments.
 pub fn show(file: &[u8]) -> String {
-    let ways = [by_counts(file), by_offsets(file), with_tail(file)];
-    let found = ways.into_iter().flatten().find(|described| described.bytes() == file);
+    let found = ways(file).into_iter().flatten().find(|described| described.bytes() == file);
     match (found, whole_case(file)) {
         (Some(described), Some(_)) => shown(&described),
         (Some(described), None) => format!("# not whole: refused 1 0 0\n{}", shown(&described)),
@@ -16,24 +15,33 @@ pub fn show(file: &[u8]) -> String {
     }
 }
 
+/// Ways to read a file, the likeliest first: by the rows of the trailer's version, with a tail, by the other rows.
+fn ways(file: &[u8]) -> [Option<Described>; 5] {
+    let [rows, other] = match Trailer::read(file).and_then(|trailer| Version::of(trailer.version)) {
+        Some(Version::Two) => [Version::Two, Version::One],
+        Some(Version::One) | None => [Version::One, Version::Two],
+    };
+    [by_counts(file, rows), by_offsets(file, rows), with_tail(file), by_counts(file, other), by_offsets(file, other)]
+}
+
 /// The case by the trailer's counts, one section after another.
-fn by_counts(file: &[u8]) -> Option<Described> {
+fn by_counts(file: &[u8], version: Version) -> Option<Described> {
     let trailer = Trailer::read(file)?;
     let sections = &file[..file.len() - TRAILER];
-    let case = Case::read(sections, trailer.counts.map(|count| count as usize))?;
+    let case = Case::read(sections, version, trailer.counts.map(|count| count as usize))?;
     Some(with_damage(case, &trailer))
 }
 
 /// The case by the trailer's offsets: a section ends where the next begins.
-fn by_offsets(file: &[u8]) -> Option<Described> {
+fn by_offsets(file: &[u8], version: Version) -> Option<Described> {
     let trailer = Trailer::read(file)?;
     let end = file.len() - TRAILER;
     let ends = trailer.offsets.iter().skip(1).map(|offset| *offset as usize).chain([end]);
     let mut counts = [0; 7];
-    for (place, end) in ends.enumerate() {
-        counts[place] = end.checked_sub(trailer.offsets[place] as usize)? / SECTIONS[place].1;
+    for (place, (end, size)) in ends.zip(version.sizes()).enumerate() {
+        counts[place] = end.checked_sub(trailer.offsets[place] as usize)? / size;
     }
-    Case::read(&file[..end], counts).map(|case| with_damage(case, &trailer))
+    Case::read(&file[..end], version, counts).map(|case| with_damage(case, &trailer))
 }
 
 /// A whole file with further bytes behind it.
@@ -63,10 +71,22 @@ fn with_damage(case: Case, found: &Trailer) -> Described {
 /// The text of a case and its damage.
 fn shown(described: &Described) -> String {
     let case = &described.case;
-    let mut text = settings_lines(&case.settings);
-    text += &table_lines(&case.nodes, &case.circuits, &case.stations);
+    let mut text = version_lines(described);
+    text += &settings_lines(&case.settings);
+    text += &table_lines(case);
     text += &solution_lines(case);
     text + &damage_lines(&described.damage)
+}
+
+/// 02, CR 3: the version where it isn't 1, and the bytes of a circuit row where they aren't that version's.
+fn version_lines(described: &Described) -> String {
+    let rows = described.case.version;
+    let number = described.damage.version.unwrap_or(rows.number());
+    match Version::of(number) {
+        Some(version) if version != rows => format!("version {number}\ncircuit_bytes {}\n", rows.circuit_size()),
+        Some(Version::One) => String::new(),
+        Some(Version::Two) | None => format!("version {number}\n"),
+    }
 }
 
 /// 01 "The case file", settings: one line each, `zero` only where it isn't 0.
@@ -82,19 +102,22 @@ fn settings_lines(settings: &Settings) -> String {
     text + &format!("revenue {}\n", settings.revenue)
 }
 
-/// 01 "The case file": one line a node, a circuit, a station.
-fn table_lines(nodes: &[NodeRow], circuits: &[CircuitRow], stations: &[StationRow]) -> String {
+/// 01 "The case file": one line a node, a circuit, a station. 02, CR 3: in version 2 every circuit with its factor.
+fn table_lines(case: &Case) -> String {
     let mut text = "\n# name, generation zone, demand zone, demand kW\n".to_string();
-    for row in nodes {
+    for row in &case.nodes {
         text += &format!("node {} {} {} {}\n", shown_name(&row.name), row.generation_zone, row.demand_zone, row.demand);
     }
-    text += "\n# ends, voltage, x, overhead m, cable m, local mark\n";
-    for row in circuits {
+    let two = case.version == Version::Two;
+    text += &format!("\n# ends, voltage, x, overhead m, cable m, local mark{}\n", if two { ", factor" } else { "" });
+    for row in &case.circuits {
         let ends = format!("{} {}", shown_name(&row.first), shown_name(&row.second));
-        text += &format!("circuit {ends} {} {} {} {} {}\n", row.voltage, row.x, row.overhead, row.cable, row.mark);
+        let factor = if two { format!(" {}", row.factor) } else { String::new() };
+        let (lengths, mark) = (format!("{} {}", row.overhead, row.cable), row.mark);
+        text += &format!("circuit {ends} {} {} {lengths} {mark}{factor}\n", row.voltage, row.x);
     }
     text += "\n# identifier, node, plant type, TEC kW\n";
-    for row in stations {
+    for row in &case.stations {
         text +=
             &format!("station {} {} {} {}\n", shown_name(&row.identifier), shown_name(&row.node), row.plant, row.tec);
     }
@@ -125,9 +148,8 @@ fn damage_lines(damage: &Damage) -> String {
             text += &format!("{word} {number}\n");
         }
     };
-    say("version".to_string(), damage.version);
     say("length".to_string(), damage.length);
-    for (place, (section, _)) in SECTIONS.iter().enumerate() {
+    for (place, section) in SECTIONS.iter().enumerate() {
         say(format!("offset {section}"), damage.offsets[place]);
         say(format!("count {section}"), damage.counts[place]);
     }
@@ -150,17 +172,26 @@ fn shown_by_shape(file: &[u8]) -> String {
     text
 }
 
-/// Settings from the first 64 bytes, then rows as long as they have the shape of a node, a circuit, a station, then
-/// numbers of 64 bits as long as the three solutions have rows.
+/// The lines of the version that finds more rows in the file.
 fn suggested_lines(file: &[u8]) -> String {
     if file.len() < 64 {
         return String::new();
     }
-    let mut case = Case { settings: Settings::read(file), ..Case::default() };
+    let [one, two] = [Version::One, Version::Two].map(|version| suggested_case(file, version));
+    let rows = |case: &Case| case.circuits.len() + case.stations.len();
+    let case = if rows(&two) > rows(&one) { two } else { one };
+    shown(&Described { case, damage: Damage::default() })
+}
+
+/// Settings from the first 64 bytes, then rows as long as they have the shape of a node, a circuit, a station, then
+/// numbers of 64 bits as long as the three solutions have rows.
+fn suggested_case(file: &[u8], version: Version) -> Case {
+    let mut case = Case { version, settings: Settings::read(file), ..Case::default() };
     let mut rest = &file[64..];
     case.nodes = rows_of_shape(&mut rest, 24, |row| !name_shaped(row, 12)).into_iter().map(NodeRow::read).collect();
-    let circuit = |row: &[u8]| name_shaped(row, 12) && [132, 275, 400].contains(&u32_at(row, 24));
-    case.circuits = rows_of_shape(&mut rest, 44, circuit).into_iter().map(CircuitRow::read).collect();
+    let circuit = |row: &[u8]| name_shaped(row, 12) && [132, 275, 320, 400, 525].contains(&u32_at(row, 24));
+    let circuits = rows_of_shape(&mut rest, version.circuit_size(), circuit);
+    case.circuits = circuits.into_iter().map(|row| CircuitRow::read(row, version)).collect();
     let station = |row: &[u8]| name_shaped(row, 12) && (1..=7).contains(&u32_at(row, 24));
     case.stations = rows_of_shape(&mut rest, 32, station).into_iter().map(StationRow::read).collect();
     let rows = case.nodes.len() + case.circuits.len();
@@ -168,7 +199,7 @@ fn suggested_lines(file: &[u8]) -> String {
         *run = rest.chunks_exact(8).take(rows).map(|number| i64_at(number, 0)).collect();
         rest = &rest[8 * run.len()..];
     }
-    shown(&Described { case, damage: Damage::default() })
+    case
 }
 
 /// A well-formed name stands at an offset of a row.
