@@ -9,6 +9,7 @@ pub mod bases;
 mod bands;
 mod chance;
 mod circuits;
+mod factors;
 mod figures;
 mod files;
 mod halves;
@@ -20,6 +21,7 @@ mod orders;
 mod proposals;
 mod settings;
 mod stations;
+mod versions;
 
 use crate::file::Case;
 use crate::{program_output, solver};
@@ -73,6 +75,8 @@ pub fn cases() -> Vec<Labelled> {
         chance::add,
         interconnectors::add,
         halves::add,
+        factors::add,
+        versions::add,
     ];
     let mut list = List::default();
     groups.iter().for_each(|add| add(&mut list));
