@@ -8,6 +8,7 @@
 
 #include "wirepulley.h"
 
+/* The longest file and run are of version 1, which holds more circuits. */
 enum { TRAILER = 64, LONGEST_FILE = 63616, LONGEST_RUN = 256 + 512 };
 
 /* A solution copied out of the file. */
@@ -23,7 +24,7 @@ static inline const char *reason(uint64_t number) {
         "the file is not whole",
         "a setting is out of its range",
         "a node row is malformed, out of range, or its name was seen earlier",
-        "a circuit row is malformed, out of range, or an end of it is unknown, or its ends are equal",
+        "a circuit row is malformed, out of range, without the factor that it needs, or an end of it is unknown, or its ends are equal",
         "a station row is malformed, out of range, its node unknown, or its identifier was seen earlier",
         "a node cannot be reached from the reference",
         "a total is out of its range, or total TEC is below total demand",
@@ -50,7 +51,7 @@ static inline uint64_t little_endian(const uint8_t *bytes, size_t size) {
     return number;
 }
 
-/* Copies solution 0, 1 or 2 from where the trailer says that it stands. Where nothing can stand there the run is empty: the library
+/* Copies solution 0, 1 or 2 from where the trailer, the same in both versions, says that it stands. Where nothing can stand there the run is empty: the library
  * refuses such a file as 1, as it does every file whose trailer is wrong. */
 static inline void copy_run(const uint8_t *file, size_t length, unsigned solution, struct run *run) {
     run->count = 0;

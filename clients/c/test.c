@@ -1,4 +1,4 @@
-/* Tests what the header says of counts of 0 and of interconnectors, and the example's words. Case KILN is on standard input.
+/* Tests what the header says of counts of 0, of interconnectors and of versions, and the example's words. Case KILN is on standard input.
  *
  * Exit status: 0 all is as it should be, 1 something is not (printed). A library that used a pointer whose count is 0 would end this
  * program by a signal: no memory is at NULL. */
@@ -9,6 +9,9 @@ enum { KILN_SHEET = 117, ROOM = 200, UNTOUCHED = 7 };
 /* Where KILN's two station rows stand in the file, how long a row is, and where plant type and TEC stand in it. */
 enum { STATIONS = 268, STATION = 32, TYPE = 24, TEC = 28 };
 enum { NODA, NODB };
+/* Where KILN's three circuit rows stand, how long a row is in each version, and where voltage and factor stand in it. */
+enum { CIRCUITS = 136, CIRCUIT_1 = 44, CIRCUIT_2 = 48, VOLTAGE = 24, FACTOR = 44 };
+enum { A_B, B_C, A_C, CIRCUIT_ROWS, MORE = CIRCUIT_ROWS * (CIRCUIT_2 - CIRCUIT_1) };
 enum { INTERCONNECTOR = 3, OTHER = 7 };
 
 /* What a call is given, but for the answer. */
@@ -62,6 +65,36 @@ static void set_tec(unsigned station, uint8_t kw) {
     uint8_t *tec = changed_file + STATIONS + station * STATION + TEC;
     memset(tec, 0, 4);
     tec[0] = kw;
+}
+
+static void put_u32(uint8_t *bytes, uint32_t number) {
+    for (unsigned k = 0; k < 4; k++)
+        bytes[k] = (uint8_t)(number >> 8 * k);
+}
+
+/* KILN in version 2, every factor 0: four bytes more behind each circuit row, later sections farther back, another version and length. */
+static struct lent kiln_of_version_2(size_t length) {
+    struct lent lent = kiln(length);
+    memset(changed_file, 0, sizeof changed_file);
+    memcpy(changed_file, file, CIRCUITS);
+    for (unsigned row = 0; row < CIRCUIT_ROWS; row++)
+        memcpy(changed_file + CIRCUITS + row * CIRCUIT_2, file + CIRCUITS + row * CIRCUIT_1, CIRCUIT_1);
+    memcpy(changed_file + STATIONS + MORE, file + STATIONS, length - STATIONS);
+    lent.file = changed_file;
+    lent.length = length + MORE;
+    uint8_t *trailer = changed_file + lent.length - TRAILER;
+    for (unsigned section = 3; section < 7; section++)
+        put_u32(trailer + 8 * section, (uint32_t)little_endian(trailer + 8 * section, 4) + MORE);
+    put_u32(trailer + 56, 2);
+    put_u32(trailer + 60, (uint32_t)lent.length);
+    return lent;
+}
+
+/* Gives a circuit of the changed file another voltage and factor. */
+static void set_circuit(unsigned row, uint32_t voltage, uint32_t factor) {
+    uint8_t *circuit = changed_file + CIRCUITS + row * CIRCUIT_2;
+    put_u32(circuit + VOLTAGE, voltage);
+    put_u32(circuit + FACTOR, factor);
 }
 
 static void no_file(struct lent *lent) {
@@ -197,6 +230,35 @@ static void test_one_interconnector(size_t length) {
     check(untouched(sheet + LENGTH, ROOM - LENGTH), "the bytes behind its sheet are as they were");
 }
 
+/* One case in either version has one sheet; version 2 also has factors, which KILN's solutions are not solved for. */
+static void test_version_2(size_t length) {
+    uint64_t answer[WIREPULLEY_ANSWER];
+    uint8_t of_version_1[KILN_SHEET];
+    struct lent lent = kiln(length);
+    call_write(&lent, answer);
+    memcpy(of_version_1, sheet, KILN_SHEET);
+    lent = kiln_of_version_2(length);
+    check(call_judge(&lent, answer) == 0 && is_answer(answer, 0, 0, 0, KILN_SHEET), "version 2 is judged");
+    check(call_write(&lent, answer) == 0 && is_answer(answer, 0, 0, 0, KILN_SHEET), "version 2 is accepted");
+    check(memcmp(sheet, of_version_1, KILN_SHEET) == 0, "version 2 has the sheet of version 1");
+    struct run run;
+    copy_run(lent.file, lent.length, WIDER, &run);
+    check(run.count == runs[WIDER].count && memcmp(run.numbers, runs[WIDER].numbers, 8 * run.count) == 0, "solutions stand in version 2 too");
+    lent = kiln_of_version_2(length);
+    set_circuit(A_B, 320, 1000);
+    set_circuit(A_C, 525, 1000);
+    check(call_write(&lent, answer) == 0 && memcmp(sheet, of_version_1, KILN_SHEET) == 0, "KILN's own factor at 320 and 525");
+    lent = kiln_of_version_2(length);
+    set_circuit(B_C, 400, 2000);
+    refused("twice the length that is solved for", &lent, 10, 2, 0);
+    set_circuit(B_C, 400, 999);
+    refused("a factor below its range", &lent, 4, 0, B_C + 1);
+    set_circuit(A_B, 320, 0);
+    refused("320 kV without a factor", &lent, 4, 0, A_B + 1);
+    changed_file[lent.length - 8] = 1;
+    refused("rows of version 2 in version 1", &lent, 1, 0, 0);
+}
+
 /* What the example prints for a refusal, both files in one. */
 static int prints(uint64_t number, const char *expected) {
     const uint64_t answer[WIREPULLEY_ANSWER] = {number, 2, 7, 0};
@@ -244,6 +306,7 @@ int main(void) {
     test_no_chargeable_tec(length);
     test_order_of_13(length);
     test_one_interconnector(length);
+    test_version_2(length);
     test_words();
     return failures == 0 ? 0 : 1;
 }

@@ -16,12 +16,13 @@
  *   number                          system     row                           length
  *   0  accepted                     0          0                             bytes of the sheet
  *   1  the file is not whole        0          0                             0
- *      (length, trailer, version, counts, chain of sections, the settings' zero), or a run has another length than nodes plus circuits
+ *      (length, trailer, version, counts, chain of sections, the settings' zero), or a run has another length than nodes plus circuits;
+ *      more than 512 circuits, or 480 in a file of version 2
  *   2  a setting out of its range   0          0                             0
  *   3  a node row malformed, out    0          the node                      0
  *      of range, or its name seen earlier
  *   4  a circuit row malformed,     0          the circuit                   0
- *      out of range, an end unknown, or both ends the same
+ *      out of range, an end unknown, or both ends the same; a factor that is neither 0 nor 1,000 to 30,000, or 0 at 320 or 525 kV
  *   5  a station row malformed,     0          the station                   0
  *      out of range, its node unknown, or its identifier seen earlier
  *   6  a node out of reach of the   0          the lowest such node          0
@@ -41,6 +42,11 @@
  *
  * Systems: 1 base, 2 wider, 3 local. The first that holds is answered, in this order: 1 to 7; 13; 8, 9, 10 of the base solution; 11;
  * 8, 9, 10 of the wider one, then of the local one; 12.
+ *
+ * A file is of version 1 or 2, as its last eight bytes say (version, length). In version 2 a circuit row has 48 bytes: behind the 44 of
+ * version 1 a factor in thousandths, for a subsea or HVDC circuit. It is used for both lengths of the row in place of the settings'
+ * factors; 0 means those. 320 and 525 kV have none there, so they need one, and are refused as 4 in version 1. A case of up to 480
+ * circuits without factors has the same answer in either version. The longest file is of version 1: 63,616 bytes.
  *
  * Interconnectors do not pay. Their TEC counts in scaling and in zonal averages, and not in C, generation's income and its residual.
  * So what the sheet charges on chargeable TEC and on demand, plus its two remainders, is the allowed revenue. A generation zone or a

@@ -16,6 +16,11 @@
 //! Interconnectors (plant type 3) do not: their TEC counts in scaling and in zonal averages, and not in C, generation's income and
 //! its residual. What the sheet charges on chargeable TEC and on demand, plus its two remainders, is the allowed revenue.
 //!
+//! # Versions
+//!
+//! A file is of version 1 or 2. In version 2 a circuit may have a factor of its own, in thousandths, for a subsea or HVDC circuit; at
+//! 320 and 525 kV it needs one. A case of up to 480 circuits without factors has the same answer in either version.
+//!
 //! # Stack
 //!
 //! A call takes at most [`STACK`] bytes of stack: leave a thread that calls the library so much beside its own.

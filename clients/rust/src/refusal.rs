@@ -41,13 +41,15 @@ impl System {
 #[derive(Clone, Copy, Debug, PartialEq, Eq)]
 #[non_exhaustive]
 pub enum Refusal {
-    /// 1: length, trailer, version, counts, chain or the settings' zero wrong, or a solution of another length.
+    /// 1: length, trailer, version, counts, chain or the settings' zero wrong, or a solution of another length. Version 1 holds at most
+    /// 512 circuits, version 2 at most 480.
     File,
     /// 2: a setting out of its range.
     Setting,
     /// 3: a node row malformed, out of range, or its name seen earlier.
     Node { row: u64 },
-    /// 4: a circuit row malformed, out of range, an end unknown, equal ends.
+    /// 4: a circuit row malformed, out of range, an end unknown, equal ends. A factor is 0 or 1,000 to 30,000, and not 0 at 320 and
+    /// 525 kV, which are refused in version 1.
     Circuit { row: u64 },
     /// 5: a station row malformed, out of range, its node unknown, its identifier seen earlier.
     Station { row: u64 },
@@ -163,7 +165,10 @@ impl fmt::Display for Refusal {
                 write!(to, "node {row} is malformed, out of range, or has the name of an earlier node")
             }
             Refusal::Circuit { row } => {
-                write!(to, "circuit {row} is malformed, out of range, or its ends are unknown or equal")
+                write!(
+                    to,
+                    "circuit {row} is malformed, out of range, without the factor it needs, or its ends are unknown or equal"
+                )
             }
             Refusal::Station { row } => {
                 write!(

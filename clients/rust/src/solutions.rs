@@ -2,10 +2,10 @@
 
 use crate::Case;
 
-/// The trailer: for each of seven sections its offset and its count, then version and length.
+/// The trailer, the same in versions 1 and 2: for each of seven sections its offset and its count, then version and length.
 const TRAILER: usize = 64;
 
-/// No solution is longer: 256 nodes and 512 circuits. A file that claims more gets no memory for it.
+/// No solution is longer: 256 nodes and 512 circuits, in version 1. A file that claims more gets no memory for it.
 const LONGEST: usize = 256 + 512;
 
 /// Three solutions: a potential for each node, then a flow for each circuit.

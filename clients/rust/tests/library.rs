@@ -154,6 +154,80 @@ fn an_interconnector_does_not_pay() {
     assert_eq!(sheet[113..], [7; 200 - 113]);
 }
 
+const SUBSEA: &[u8] = include_bytes!("../../../cases/SUBSEA.case");
+
+#[test]
+fn a_case_of_version_2_is_accepted() {
+    let expected = include_bytes!("../../../cases/SUBSEA.sheet");
+    let solutions = Solutions::of_file(SUBSEA);
+    assert_eq!(solutions.base.len(), 4 + 4);
+    assert_eq!(solutions.wider[..4], [396_300_000_000_000, 186_300_000_000_000, 110_700_000_000_000, 0]);
+    let mut sheet = [7; 400];
+    assert_eq!(solutions.with(SUBSEA).judge(), Ok(expected.len()));
+    assert_eq!(solutions.with(SUBSEA).write(&mut sheet), Ok(expected.len()));
+    assert_eq!(&sheet[..expected.len()], expected);
+    assert!(sheet[expected.len()..].iter().all(|byte| *byte == 7));
+}
+
+/// SUBSEA with another factor for a circuit: rows of 48 bytes stand from 160 on; a row has its factor at 44.
+fn subsea_with(factors: &[(usize, u32)]) -> Vec<u8> {
+    let mut file = SUBSEA.to_vec();
+    for (row, factor) in factors {
+        let place = 160 + 48 * (row - 1) + 44;
+        file[place..place + 4].copy_from_slice(&factor.to_le_bytes());
+    }
+    file
+}
+
+#[test]
+fn factors_are_judged() {
+    let solutions = Solutions::of_file(SUBSEA);
+    let judged = |factors: &[(usize, u32)]| solutions.with(&subsea_with(factors)).judge();
+    for (row, factor) in [(1, 0), (2, 0), (3, 1), (4, 999), (1, 30_001), (4, u32::MAX)] {
+        assert_eq!(judged(&[(row, factor)]), Err(Refusal::Circuit { row: row as u64 }));
+    }
+    assert_eq!(judged(&[(4, 1), (2, 0)]), Err(Refusal::Circuit { row: 2 }));
+    // another length than the solutions are of: circuit 3 is marked, circuit 4 is not
+    assert_eq!(judged(&[(3, 1_801)]), Err(Refusal::Misses { system: System::Local }));
+    assert_eq!(judged(&[(4, 1_000)]), Err(Refusal::Misses { system: System::Wider }));
+}
+
+#[test]
+fn other_versions_are_refused() {
+    for version in [0, 1, 3, 255] {
+        let mut file = SUBSEA.to_vec();
+        let place = file.len() - 8;
+        file[place] = version;
+        assert_eq!(Solutions::of_file(&file).with(&file).judge(), Err(Refusal::File));
+    }
+}
+
+/// A file of version 1 with three circuits of 44 bytes, from 136 on, as one of version 2: a zero behind each row.
+fn in_version_2(file: &[u8]) -> Vec<u8> {
+    let rows = file[136..268].chunks(44).flat_map(|row| [row, &[0; 4]].concat());
+    let mut made: Vec<u8> = file[..136].iter().copied().chain(rows).chain(file[268..].iter().copied()).collect();
+    let trailer = made.len() - 64;
+    for section in 3..7 {
+        let place = trailer + 8 * section;
+        let offset = u32::from_le_bytes(made[place..place + 4].try_into().unwrap());
+        made[place..place + 4].copy_from_slice(&(offset + 12).to_le_bytes());
+    }
+    made[trailer + 56] = 2;
+    let length = made.len() as u32;
+    made[trailer + 60..].copy_from_slice(&length.to_le_bytes());
+    made
+}
+
+#[test]
+fn one_case_in_either_version_has_one_sheet() {
+    let file = in_version_2(KILN);
+    let solutions = Solutions::of_file(&file);
+    assert_eq!(solutions, Solutions::of_file(KILN));
+    let mut sheet = [7; 200];
+    assert_eq!(solutions.with(&file).write(&mut sheet), Ok(SHEET.len()));
+    assert_eq!(&sheet[..SHEET.len()], SHEET);
+}
+
 /// A file of this many zeros before a trailer that says of each section: offset, count.
 fn claiming(zeros: usize, offset: u32, count: u32) -> Vec<u8> {
     let entry = [offset.to_le_bytes(), count.to_le_bytes()].concat();

@@ -22,7 +22,7 @@ const OF_A_ROW: [Known; 5] = [
     (
         (4, 0, 22),
         Refusal::Circuit { row: 22 },
-        "circuit 22 is malformed, out of range, or its ends are unknown or equal",
+        "circuit 22 is malformed, out of range, without the factor it needs, or its ends are unknown or equal",
     ),
     (
         (5, 0, 23),
