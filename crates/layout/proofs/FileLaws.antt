@@ -1,6 +1,5 @@
 -- A file's tests as propositions; a whole file is one as the conditions say it, with the runs that stand in it.
 use mathlib.Core.Path.{_≡_, refl, sym}
-use mathlib.Core.Logic.{_⊎_}
 use mathlib.Core.List.{List}
 use mathlib.Core.Bool.{Bool, true, false, cond, _&&_}
 use Prim.Native.Nat.{ℕ, zero, suc, _+_, _*_, _-_, _≤_, _<_, _^_}
@@ -13,7 +12,7 @@ use Rattle.meaning.specs.File.{u32, sections, trailerSize, circuitSize, recordS
 use Rattle.meaning.specs.Study.{Runs}
 use Rattle.meaning.specs.Conditions.{InRange, WholeFile}
 use Rattle.meaning.proofs.Rows.{length-rows}
-use Rattle.meaning.proofs.Says.{Says, says-as, _also_, says-le, says-eq, says-between, says-either, says-all}
+use Rattle.meaning.proofs.Says.{Says, says-as, _also_, says-le, says-eq, says-between, says-all}
 
 -- a test that is what it should be
 pub is-true : {b : Bool} {P : Type 0} → Says b P → P → true ≡ b
@@ -87,7 +86,7 @@ module _ (file : List ℕ) where
 
   pub record FileParts : Type 0 where
     pub long : 128 ≤ length file
-    pub version : (versionOf file ≡ 1) ⊎ (versionOf file ≡ 2)
+    pub version : InRange (versionOf file) 1 2
     pub fileLength : statedLength file ≡ length file
     pub counts : Counted
     pub sections : Chained
@@ -96,7 +95,7 @@ module _ (file : List ℕ) where
   pub says-file : Says (fileWhole file) FileParts
   unfolding fileWhole
   says-file =
-      says-as (says-le also says-either also says-eq also says-counted also says-chained also says-eq) (
+      says-as (says-le also says-between also says-eq also says-counted also says-chained also says-eq) (
         λ t. record {
           long = t .0 .0 .0 .0 .0;
           version = t .0 .0 .0 .0 .1;

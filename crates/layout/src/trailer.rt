@@ -4,14 +4,14 @@ ghost use mathlib.Core.Path.{_≡_};
 ghost use mathlib.Core.Bool.{true};
 ghost use Prim.Native.Nat.{_≤_, _<_, _^_};
 ghost use lib.ListN.{length};
-ghost use Rattle.meaning.specs.File.{circuitSize, recordSize, mostCircuits, versionOf, sectionOffset, sectionCount, section, counted, chained, fileWhole, studyOf};
+ghost use Rattle.meaning.specs.File.{sections, trailerSize, circuitSize, recordSize, mostCircuits, versionOf, sectionOffset, sectionCount, section, counted, chained, fileWhole, studyOf};
 ghost use Rattle.layout.specs.Frame.{countsOf};
 use meaning::Section;
 
 // Sections of a file, and the bytes of its trailer.
 pub const SECTIONS: usize = 7;
 
-const TRAILER: usize = 64;
+const TRAILER: usize = 8 * SECTIONS + 8;
 
 // The version, in the file's last 8 bytes.
 pub fn version(file: &[u8]) -> usize
@@ -43,7 +43,7 @@ fn most_circuits(version: usize) -> usize
 
 // The bytes of a section's record.
 pub fn record_size(version: usize, section: usize) -> usize
-    requires { ⌜ section < 7 ⌝ }
+    requires { ⌜ section < sections ⌝ }
     ensures { λ r. ⌜ r ≡ recordSize version section ⌝ }
 {
     match section {
@@ -57,7 +57,7 @@ pub fn record_size(version: usize, section: usize) -> usize
 
 // A section's offset.
 pub fn offset(file: &[u8], section: usize) -> usize
-    requires { ⌜ (64 ≤ length (now file)) × (section < 7) ⌝ }
+    requires { ⌜ (trailerSize ≤ length (now file)) × (section < sections) ⌝ }
     ensures { λ r. ⌜ (r ≡ sectionOffset (now (file .entry)) section) × (r < 2 ^ 32) ⌝ }
 {
     fields::u32_at(file, file.len() - TRAILER + 8 * section)
@@ -65,7 +65,7 @@ pub fn offset(file: &[u8], section: usize) -> usize
 
 // A section's count of records.
 pub fn count(file: &[u8], section: usize) -> usize
-    requires { ⌜ (64 ≤ length (now file)) × (section < 7) ⌝ }
+    requires { ⌜ (trailerSize ≤ length (now file)) × (section < sections) ⌝ }
     ensures { λ r. ⌜ (r ≡ sectionCount (now (file .entry)) section) × (r < 2 ^ 32) ⌝ }
 {
     fields::u32_at(file, file.len() - TRAILER + 8 * section + 4)
@@ -73,7 +73,7 @@ pub fn count(file: &[u8], section: usize) -> usize
 
 // Whether each table's count is in its range, and a solution has as many numbers as nodes and circuits.
 pub fn counted(file: &[u8]) -> bool
-    requires { ⌜ 64 ≤ length (now file) ⌝ }
+    requires { ⌜ trailerSize ≤ length (now file) ⌝ }
     ensures { λ r. ⌜ r ≡ counted (now (file .entry)) ⌝ }
 {
     let nodes = count(file, 1);
@@ -88,7 +88,7 @@ pub fn counted(file: &[u8]) -> bool
 
 // Whether the sections follow one another exactly and end at the trailer.
 pub fn chained(file: &[u8]) -> bool
-    requires { ⌜ 64 ≤ length (now file) ⌝ }
+    requires { ⌜ trailerSize ≤ length (now file) ⌝ }
     ensures { λ r. ⌜ r ≡ chained (now (file .entry)) ⌝ }
 {
     let version = version(file);
@@ -105,7 +105,7 @@ pub fn chained(file: &[u8]) -> bool
 
 // The rows of each table of a file that is whole.
 pub fn row_counts(file: &[u8]) -> RowCounts
-    requires { ⌜ 64 ≤ length (now file) ⌝ }
+    requires { ⌜ trailerSize ≤ length (now file) ⌝ }
     ensures { λ r. ⌜ r ≡ countsOf (studyOf (now (file .entry))) ⌝ }
 {
     RowCounts {
@@ -117,7 +117,7 @@ pub fn row_counts(file: &[u8]) -> RowCounts
 
 // A section of a file that is whole: it starts at its offset, since the sections follow one another.
 pub fn section(file: &[u8], number: usize) -> Section
-    requires { ⌜ (fileWhole (now file) ≡ true) × (number < 7) ⌝ }
+    requires { ⌜ (fileWhole (now file) ≡ true) × (number < sections) ⌝ }
     ensures { λ r. ⌜ r ≡ section (now (file .entry)) number ⌝ }
 {
     Section {

@@ -72,6 +72,15 @@ most-low version = go (eqb version 2)
     go true = omega arith
     go false = omega arith
 
+-- circuits and their flows take the most bytes in version 1: 34,816, and 34,560 in version 2
+circuits-short : (version n : ℕ) → n ≤ mostCircuits version → circuitSize version * n + 24 * n ≤ 34816
+unfolding circuitSize mostCircuits
+circuits-short version n = go (eqb version 2)
+  where
+    go : (b : Bool) → n ≤ cond b 480 512 → cond b 48 44 * n + 24 * n ≤ 34816
+    go true h = omega arith
+    go false h = omega arith
+
 -- ---- a whole file
 module _ (file : List ℕ) (runs : Runs) (whole : WholeFile file runs) where
   pub section-inside : (s : ℕ) → s < sections → rowAt (section file s) (section file s .count) ≤ length file
@@ -87,20 +96,13 @@ module _ (file : List ℕ) (runs : Runs) (whole : WholeFile file runs) where
   solution-count : (k : ℕ) → k < 3 → sectionCount file (4 + k) ≡ sectionCount file 1 + sectionCount file 2
   solution-count k h = whole .solutions (4 + k) (record { least = omega arith; most = omega arith })
 
-  -- 256 nodes, 512 circuits of version 1 and 512 stations make the longest file; version 2 has at most 63,360 bytes
+  -- 256 nodes, 512 circuits of version 1 and 512 stations make the longest file
   pub file-short : length file ≤ 63616
-  unfolding sectionStart recordSize circuitSize mostCircuits
-  file-short = go (whole .version)
+  unfolding sectionStart recordSize
+  file-short = go (circuits-short (versionOf file) (sectionCount file 2) (whole .circuits))
     where
-      go : (versionOf file ≡ 1) ⊎ (versionOf file ≡ 2) → length file ≤ 63616
-      go (inl e) =
-          let end = rw e at (whole .end) in
-          let circuits = rw e at (whole .circuits) in
-          omega (arith, end, whole .oneSettings, whole .nodes .most, circuits, whole .stations, solution-count 0 (omega arith), solution-count 1 (omega arith), solution-count 2 (omega arith))
-      go (inr e) =
-          let end = rw e at (whole .end) in
-          let circuits = rw e at (whole .circuits) in
-          omega (arith, end, whole .oneSettings, whole .nodes .most, circuits, whole .stations, solution-count 0 (omega arith), solution-count 1 (omega arith), solution-count 2 (omega arith))
+      go : circuitSize (versionOf file) * sectionCount file 2 + 24 * sectionCount file 2 ≤ 34816 → length file ≤ 63616
+      go h = omega (arith, whole .end, whole .oneSettings, whole .nodes .most, whole .stations, solution-count 0 (omega arith), solution-count 1 (omega arith), solution-count 2 (omega arith))
 
   pub counts : (length (studyOf file .nodes) ≡ sectionCount file 1) × (length (studyOf file .circuits) ≡ sectionCount file 2) × (length (studyOf file .stations) ≡ sectionCount file 3)
   unfolding studyOf section

@@ -1,6 +1,5 @@
 -- 02, request 3: whole files that say the same are one case, whatever their versions; what version 1 can say; and the length of a circuit with a factor of its own.
 use mathlib.Core.Path.{_≡_, refl, sym, _∙_, ap, ap₂}
-use mathlib.Core.Logic.{_⊎_, inl, inr}
 use mathlib.Core.List.{List}
 use Prim.Native.Nat.{ℕ, _+_, _<_}
 use native.Mathlib.Decide.{decLt}
@@ -87,11 +86,11 @@ version-one-by-voltage file e c = go (decLt c (sectionCount file 2))
     go (no h) = ap (λ (r : Circuit). r .factor) (rows-past noCircuit (sectionCount file 2) row c (omega arith))
 
 pub new-voltages-in-version-two : NewVoltagesInVersionTwo
-new-voltages-in-version-two file runs a c h n = go (a .whole .version)
+new-voltages-in-version-two file runs a c h n = go (decLt (versionOf file) 2)
   where
-    go : (versionOf file ≡ 1) ⊎ (versionOf file ≡ 2) → versionOf file ≡ 2
-    go (inl e) = absurd (a .study .tables .circuits c h .ownFactor n (version-one-by-voltage file e c))
-    go (inr e) = e
+    go : Dec (versionOf file < 2) → versionOf file ≡ 2
+    go (yes l) = absurd (a .study .tables .circuits c h .ownFactor n (version-one-by-voltage file (omega (arith, a .whole .version .least)) c))
+    go (no l) = omega (arith, a .whole .version .most)
 
 -- ---- lengths
 pub own-factor-for-both-lengths : OwnFactorForBothLengths

@@ -12,7 +12,7 @@ use Rattle.meaning.specs.Answers.{_orElse_}
 use Rattle.meaning.specs.Outcome.{fileStage, runsStage}
 use Rattle.meaning.specs.Conditions.{WholeFile}
 use Rattle.meaning.specs.Refusals.{whole}
-use Rattle.meaning.proofs.Says.{Says, says-as, _also_, says-le, says-eq, says-between, says-either, says-all}
+use Rattle.meaning.proofs.Says.{Says, says-as, _also_, says-le, says-eq, says-between, says-all}
 use Rattle.meaning.proofs.Answers.{unless-both}
 use Rattle.meaning.proofs.Order.{Judges, judges-whole}
 
@@ -24,7 +24,7 @@ says-whole : (file : List ℕ) (runs : Runs) → Says (wholeTest file runs) (Who
 unfolding fileWhole runsWhole counted chained
 says-whole file runs =
     says-as
-    (says-le also says-either also says-eq
+    (says-le also says-between also says-eq
     also (says-eq also says-between also says-le also says-le also says-all 3 (λ k. says-eq))
     also (says-all 7 (λ k. says-eq) also says-eq)
     also says-eq

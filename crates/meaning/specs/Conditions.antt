@@ -24,7 +24,7 @@ pub record InRange (x low high : ℕ) : Type 0 where
 -- not 1
 pub record WholeFile (file : List ℕ) (runs : Runs) : Type 0 where
   pub long : 128 ≤ length file
-  pub version : (versionOf file ≡ 1) ⊎ (versionOf file ≡ 2)
+  pub version : InRange (versionOf file) 1 2
   pub fileLength : statedLength file ≡ length file
   pub oneSettings : sectionCount file 0 ≡ 1
   pub nodes : InRange (sectionCount file 1) 1 256
