@@ -2,7 +2,7 @@
 use mathlib.Core.Path.{_≡_, refl}
 use mathlib.Core.List.{List}
 use mathlib.Core.Bool.{not}
-use Prim.Native.Nat.{ℕ, _+_, _≤_, _<_}
+use Prim.Native.Nat.{ℕ, _+_, _-_, _^_, _≤_, _<_}
 use native.Mathlib.Omega.{arith}
 use lib.ListN.{getD}
 use Rattle.meaning.specs.declared.Section.{Section}
@@ -38,7 +38,7 @@ module _ (file : List ℕ) {n : ℕ} {t : Section} {c : CircuitColumns} (told : 
   second-is i h = rw (told .columns) (rows-at 0 512 _ i (omega (arith, few)))
 
   -- the columns are the ends of the row at its place
-  pub ends-at : (i : ℕ) → i < t .count → rowAt t i ≤ 18446744069414584320 → ToldEnds file (rowAt t i) n (getD (c .first) i 0) (getD (c .second) i 0)
+  pub ends-at : (i : ℕ) → i < t .count → rowAt t i ≤ 2 ^ 64 - 2 ^ 32 → ToldEnds file (rowAt t i) n (getD (c .first) i 0) (getD (c .second) i 0)
   unfolding circuitAt
   ends-at i h near =
       record {

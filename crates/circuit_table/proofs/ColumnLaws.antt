@@ -14,7 +14,6 @@ use Rattle.layout.specs.Readable.{readable, sectionIn}
 use Rattle.layout.proofs.Rows.{nodes-from, node-inside, circuits-from}
 use Rattle.circuit_table.specs.Lengths.{lengthIfInRange}
 use Rattle.circuit_table.specs.Columns.{circuitsOf}
-use Rattle.circuit_table.specs.declared.CircuitColumns.{CircuitColumns}
 use Rattle.circuit_table.proofs.LengthLaws.{length-none}
 
 add-none : (n : ℕ) → n + 0 ≡ n

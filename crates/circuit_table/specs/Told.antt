@@ -2,7 +2,7 @@
 use mathlib.Core.Path.{_≡_}
 use mathlib.Core.Bool.{Bool, not, _&&_}
 use mathlib.Core.List.{List}
-use Prim.Native.Nat.{ℕ, _+_, _≤_}
+use Prim.Native.Nat.{ℕ, _+_, _-_, _^_, _≤_}
 use lib.ListN.{length}
 use Rattle.meaning.specs.declared.Section.{Section}
 use Rattle.meaning.specs.Name.{Name, wellFormed, sameName}
@@ -20,7 +20,7 @@ soundEnds nodes first second = wellFormed first && wellFormed second && known no
 
 -- the ends of a circuit's row at a place, as its names have them
 pub record ToldEnds (file : List ℕ) (at n a b : ℕ) : Type 0 where
-  pub near : at ≤ 18446744069414584320
+  pub near : at ≤ 2 ^ 64 - 2 ^ 32
   pub nodes : n ≡ length (readable file .nodes)
   pub first : a ≡ place (readable file .nodes) (nameAt file at)
   pub second : b ≡ place (readable file .nodes) (nameAt file (at + 12))

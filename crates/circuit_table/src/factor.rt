@@ -1,12 +1,12 @@
 // 02, request 3: a circuit's own factor, and the voltages at which it needs one.
 ghost use mathlib.Core.Path.{_≡_};
-ghost use Prim.Native.Nat.{_≤_};
+ghost use Prim.Native.Nat.{_-_, _^_, _≤_};
 ghost use Rattle.meaning.specs.File.{factorAt};
 ghost use Rattle.meaning.specs.Tables.{newVoltage, soundVoltage, soundFactor};
 
 // The factor of the row at a place. A row of version 1 ends before it: what stands behind it is not looked at, and the factor is 0.
 pub fn factor_at(file: &[u8], size: u32, at: usize) -> usize
-    requires { ⌜ at ≤ 18446744069414584320 ⌝ }
+    requires { ⌜ at ≤ 2 ^ 64 - 2 ^ 32 ⌝ }
     ensures { λ r. ⌜ r ≡ factorAt (now (file .entry)) size at ⌝ }
 {
     if size < 48 {

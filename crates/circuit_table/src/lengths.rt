@@ -3,7 +3,7 @@ use crate::factor::factor_at;
 use layout::StudySettings;
 use meaning::Section;
 ghost use mathlib.Core.Path.{_≡_};
-ghost use Prim.Native.Nat.{_≤_};
+ghost use Prim.Native.Nat.{_-_, _^_, _≤_};
 ghost use Rattle.meaning.specs.File.{rowAt, circuitAt};
 ghost use Rattle.meaning.specs.Columns.{column};
 ghost use Rattle.meaning.specs.Direction.{overheadFactor, cableFactor, ownOr};
@@ -50,7 +50,7 @@ pub fn expanded(overhead: usize, over: usize, cable: usize, under: usize) -> u64
 
 // The expanded length of the circuit at a place.
 pub fn length_at(file: &[u8], size: u32, at: usize, factors: StudySettings) -> u64
-    requires { ⌜ at ≤ 18446744069414584320 ⌝ }
+    requires { ⌜ at ≤ 2 ^ 64 - 2 ^ 32 ⌝ }
     ensures { λ r. ⌜ r ≡ lengthIfInRange (settingsIn factors) (circuitAt (now (file .entry)) size at) ⌝ }
 {
     let voltage = fields::u32_at(file, at + 24);

@@ -1,7 +1,7 @@
 -- The user's demands, proved: each statement is a type of meaning/specs/Demands.antt or, for requests 2 and 3, Mirror.antt and Versions.antt, and its proof is in the file named here.
 use Rattle.meaning.specs.Demands.{EveryInputSettled, AcceptedExactlyWhen, RefusedExactlyWhen, OneAnswer, JudgeIsWrite, RevenueRecovered, CentreBalances, SolversAgree, StationsHidden, CapacityKept, SheetsFit, AllButInterconnectorsPay, NoInterconnectorNoChange, TypesHidden}
 use Rattle.meaning.specs.Mirror.{NearestMirrors, OnlyNegativeHalvesMove, FiguresMove, AveragesMirror, ZonesMirror, PrintedMirror, SidesMirror, MoneyMirrors}
-use Rattle.meaning.specs.Versions.{OneSheetInEitherVersion, VersionOneByVoltage, NewVoltagesInVersionTwo, OwnFactorForBothLengths, NoFactorNoChange}
+use Rattle.meaning.specs.Versions.{OneSheetInEitherVersion, VersionOneByVoltage, FactorLast, NewVoltagesInVersionTwo, OwnFactorForBothLengths, NoFactorNoChange}
 use Rattle.meaning.proofs.Mirror as Mirror
 use Rattle.meaning.proofs.Versions as Versions
 use Rattle.sizes.proofs.Accepted as Sizes
@@ -110,7 +110,11 @@ one-sheet-in-either-version = Versions.one-sheet-in-either-version
 pub version-one-by-voltage : VersionOneByVoltage
 version-one-by-voltage = Versions.version-one-by-voltage
 
--- so circuits at 320 and 525 are accepted in version 2 alone
+-- and in version 2 a row's factor is its last four bytes
+pub factor-last : FactorLast
+factor-last = Versions.factor-last
+
+-- circuits at 320 and 525 are accepted in version 2 alone
 pub new-voltages-in-version-two : NewVoltagesInVersionTwo
 new-voltages-in-version-two = Versions.new-voltages-in-version-two
 

@@ -4,7 +4,7 @@ use mathlib.Core.List.{List, [], _∷_, _++_}
 use lib.IntN.{ℤ, pos, negℤ}
 use lib.ListN.{take, drop, set, replicate}
 use Rattle.meaning.specs.Text.{text}
-use Rattle.meaning.specs.Study.{Node, Circuit, Station, Study, Runs}
+use Rattle.meaning.specs.Study.{Node, Circuit, Station}
 use Rattle.meaning.specs.declared.System.the-variants.{Base, Local}
 use Rattle.meaning.specs.declared.Judgement.{Judgement}
 use Rattle.meaning.specs.declared.Judgement.the-variants.{Stops}

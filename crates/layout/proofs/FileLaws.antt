@@ -1,29 +1,17 @@
--- A file's tests as propositions; a whole file is one as the conditions say it, with the runs that stand in it.
+-- The tests of a file, from the numbers that code has read: counts, chain and what is left; and a section from its trailer.
 use mathlib.Core.Path.{_≡_, refl, sym}
 use mathlib.Core.List.{List}
 use mathlib.Core.Bool.{Bool, true, false, cond, _&&_}
 use Prim.Native.Nat.{ℕ, zero, suc, _+_, _*_, _-_, _≤_, _<_, _^_}
 use native.Mathlib.Nat.{mul-le-mul}
 use native.Mathlib.Omega.{arith}
+use borrow.Author.Tests.{lt-leb}
 use lib.Dec.{eqb, leb}
 use lib.ListN.{length}
 use Rattle.meaning.specs.Rows.{_between_and_, all}
-use Rattle.meaning.specs.File.{u32, sections, trailerSize, circuitSize, recordSize, mostCircuits, versionOf, statedLength, sectionCount, sectionOffset, sectionStart, section, counted, chained, fileWhole, runIn, runsIn}
-use Rattle.meaning.specs.Study.{Runs}
-use Rattle.meaning.specs.Conditions.{InRange, WholeFile}
-use Rattle.meaning.proofs.Rows.{length-rows}
-use Rattle.meaning.proofs.Says.{Says, says-as, _also_, says-le, says-eq, says-between, says-all}
-
--- a test that is what it should be
-pub is-true : {b : Bool} {P : Type 0} → Says b P → P → true ≡ b
-is-true s p = sym (s .1 p)
-
-pub is-false : {b : Bool} {P : Type 0} → Says b P → (P → ⊥) → false ≡ b
-is-false {b} {P} s n = go b refl
-  where
-    go : (t : Bool) → b ≡ t → false ≡ t
-    go true e = absurd (n (s .0 e))
-    go false e = refl
+use Rattle.meaning.specs.File.{u32, sections, circuitSize, recordSize, mostCircuits, versionOf, statedLength, sectionCount, sectionOffset, sectionStart, section, counted, chained, fileWhole}
+use Rattle.meaning.proofs.Says.{says-le}
+use Rattle.meaning.proofs.Whole.{whole-file}
 
 -- numbers below 3
 three : (P : ℕ → Type 0) → P 0 → P 1 → P 2 → (k : ℕ) → k < 3 → P k
@@ -36,41 +24,6 @@ four : (s : ℕ) → 4 ≤ s → 4 + (s - 4) ≡ s
 four s h = omega arith
 
 module _ (file : List ℕ) where
-  pub record Counted : Type 0 where
-    pub oneSettings : sectionCount file 0 ≡ 1
-    pub nodes : InRange (sectionCount file 1) 1 256
-    pub circuits : sectionCount file 2 ≤ mostCircuits (versionOf file)
-    pub stations : sectionCount file 3 ≤ 512
-    pub base : sectionCount file 4 ≡ sectionCount file 1 + sectionCount file 2
-    pub wider : sectionCount file 5 ≡ sectionCount file 1 + sectionCount file 2
-    pub local : sectionCount file 6 ≡ sectionCount file 1 + sectionCount file 2
-
-  pub record Chained : Type 0 where
-    pub chain : (section : ℕ) → section < sections → sectionOffset file section ≡ sectionStart file section
-    pub end : sectionStart file sections + trailerSize ≡ length file
-
-  abbrev Solution : ℕ → Type 0
-  Solution k = sectionCount file (4 + k) ≡ sectionCount file 1 + sectionCount file 2
-
-  solutions : Says (all (λ k. eqb (sectionCount file (4 + k)) (sectionCount file 1 + sectionCount file 2)) 3) ((k : ℕ) → k < 3 → Solution k)
-  solutions = says-all 3 (λ k. says-eq)
-
-  pub says-counted : Says (counted file) Counted
-  unfolding counted
-  says-counted =
-      says-as (says-eq also says-between also says-le also says-le also solutions) (
-        λ t. record {
-          oneSettings = t .0 .0 .0 .0;
-          nodes = t .0 .0 .0 .1;
-          circuits = t .0 .0 .1;
-          stations = t .0 .1;
-          base = t .1 0 (omega arith);
-          wider = t .1 1 (omega arith);
-          local = t .1 2 (omega arith);
-        },
-        λ r. ((((r .oneSettings, r .nodes), r .circuits), r .stations), three Solution (r .base) (r .wider) (r .local)),
-      )
-
   -- the numbers of the trailer, tested one by one
   pub counted-is : (one nodes circuits most stations base wider local : ℕ) → one ≡ sectionCount file 0 → nodes ≡ sectionCount file 1 → circuits ≡ sectionCount file 2
       → most ≡ mostCircuits (versionOf file) → stations ≡ sectionCount file 3 → base ≡ sectionCount file 4 → wider ≡ sectionCount file 5 → local ≡ sectionCount file 6
@@ -80,34 +33,11 @@ module _ (file : List ℕ) where
   unfolding counted _between_and_ all
   counted-is one nodes circuits most stations base wider local o n c m k b w l = rw (o, n, c, m, k, b, w, l) refl
 
-  pub says-chained : Says (chained file) Chained
-  unfolding chained
-  says-chained = says-as (says-all 7 (λ k. says-eq) also says-eq) (λ t. record { chain = t .0; end = t .1 }, λ r. (r .chain, r .end))
-
-  pub record FileParts : Type 0 where
-    pub long : 128 ≤ length file
-    pub version : InRange (versionOf file) 1 2
-    pub fileLength : statedLength file ≡ length file
-    pub counts : Counted
-    pub sections : Chained
-    pub settingsZero : u32 file 52 ≡ 0
-
-  pub says-file : Says (fileWhole file) FileParts
+  -- what a shorter file has, and what is left to test of one that is long enough
+  pub too-short : length file < 128 → false ≡ fileWhole file
   unfolding fileWhole
-  says-file =
-      says-as (says-le also says-between also says-eq also says-counted also says-chained also says-eq) (
-        λ t. record {
-          long = t .0 .0 .0 .0 .0;
-          version = t .0 .0 .0 .0 .1;
-          fileLength = t .0 .0 .0 .1;
-          counts = t .0 .0 .1;
-          sections = t .0 .1;
-          settingsZero = t .1;
-        },
-        λ r. (((((r .long, r .version), r .fileLength), r .counts), r .sections), r .settingsZero),
-      )
+  too-short h = rw (lt-leb 128 (length file) h) refl
 
-  -- of a file that is long enough, what is left to test
   pub whole-rest : (version end word : ℕ) (counts sections : Bool) → 128 ≤ length file → version ≡ versionOf file → end ≡ statedLength file
       → counts ≡ counted file → sections ≡ chained file → word ≡ u32 file 52
       → ((leb 1 version && leb version 2) && eqb end (length file) && counts && sections && eqb word 0) ≡ fileWhole file
@@ -115,51 +45,6 @@ module _ (file : List ℕ) where
   whole-rest version end word counts sections h v l c s z =
       let e : leb 128 (length file) ≡ true = says-le .1 h in
       rw (v, l, c, s, z, e) refl
-
-  -- the conditions ask for runs: those that stand in the file have its lengths
-  pub whole-file : fileWhole file ≡ true → WholeFile file (runsIn file)
-  unfolding runsIn runIn section
-  whole-file e =
-      let w = says-file .0 e in
-      record {
-        long = w .long;
-        version = w .version;
-        fileLength = w .fileLength;
-        oneSettings = w .counts .oneSettings;
-        nodes = w .counts .nodes;
-        circuits = w .counts .circuits;
-        stations = w .counts .stations;
-        solutions =
-            λ s r. rw (four s (r .least)) at (three Solution
-            (w .counts .base) (w .counts .wider) (w .counts .local) (s - 4) (omega (arith, r .least, r .most)));
-        chain = w .sections .chain;
-        end = w .sections .end;
-        settingsZero = w .settingsZero;
-        baseRun = length-rows (sectionCount file 4) _;
-        widerRun = length-rows (sectionCount file 5) _;
-        localRun = length-rows (sectionCount file 6) _;
-      }
-
-  pub whole-true : (runs : Runs) → WholeFile file runs → fileWhole file ≡ true
-  whole-true runs w =
-      says-file .1
-      (record {
-        long = w .long;
-        version = w .version;
-        fileLength = w .fileLength;
-        counts =
-            record {
-              oneSettings = w .oneSettings;
-              nodes = w .nodes;
-              circuits = w .circuits;
-              stations = w .stations;
-              base = w .solutions 4 (record { least = omega arith; most = omega arith });
-              wider = w .solutions 5 (record { least = omega arith; most = omega arith });
-              local = w .solutions 6 (record { least = omega arith; most = omega arith });
-            };
-        sections = record { chain = w .chain; end = w .end };
-        settingsZero = w .settingsZero;
-      })
 
   -- ---- the chain, section by section
   pub start-zero : sectionStart file 0 ≡ 0
@@ -193,7 +78,7 @@ record-small v (suc (suc (suc (suc (suc (suc (suc k))))))) = omega arith
 pub section-told : (file : List ℕ) (s offset size count : ℕ) → fileWhole file ≡ true → s < sections → offset ≡ sectionOffset file s → size ≡ recordSize (versionOf file) s → count ≡ sectionCount file s
     → record { start = offset; size = size; count = count } ≡ section file s
 unfolding section
-section-told file s offset size count e h o z n = rw (o, z, n, says-file file .0 e .sections .chain s h) refl
+section-told file s offset size count e h o z n = rw (o, z, n, whole-file file e .chain s h) refl
 
 pub solution-size : (v k : ℕ) → 3 < k → k < 7 → 8 ≡ recordSize v k
 unfolding recordSize

@@ -14,7 +14,8 @@ use Rattle.meaning.specs.File.{u32, u64, sections, recordSize, sectionCount, se
 use Rattle.meaning.proofs.Rows.{length-rows}
 use Rattle.meaning.proofs.Says.{_also_, says-lt, says-true}
 use Rattle.meaning.proofs.Frame.{ReadFrom, table-read, row-inside, circuits-most}
-use Rattle.layout.proofs.FileLaws.{whole-file, start-zero}
+use Rattle.meaning.proofs.Whole.{whole-file}
+use Rattle.layout.proofs.FileLaws.{start-zero}
 use Rattle.layout.specs.Readable.{noStudy, readable, noSection, sectionIn}
 use Rattle.layout.specs.Frame.{countsOf, settingsIn}
 use Rattle.layout.specs.declared.RowCounts.{RowCounts}

@@ -3,7 +3,7 @@ use mathlib.Core.Path.{_≡_, refl, sym, ap}
 use mathlib.Core.Logic.{_⊎_, inl, inr}
 use mathlib.Core.Bool.{Bool, true, false, cond}
 use mathlib.Core.List.{List}
-use Prim.Native.Nat.{ℕ, zero, suc, _+_, _*_, _≤_, _<_, _^_}
+use Prim.Native.Nat.{ℕ, zero, suc, _+_, _-_, _*_, _≤_, _<_, _^_}
 use native.Mathlib.Nat.{mul-le-mul}
 use native.Mathlib.Omega.{arith}
 use lib.Dec.{eqb}
@@ -13,7 +13,7 @@ use Rattle.meaning.specs.Rows.{rows}
 use Rattle.meaning.specs.Columns.{column}
 use Rattle.meaning.specs.Study.{Runs}
 use Rattle.meaning.specs.File.{sections, circuitSize, recordSize, mostCircuits, versionOf, sectionCount, sectionStart, section, rowAt, table, studyOf}
-use Rattle.meaning.specs.Conditions.{WholeFile, InRange}
+use Rattle.meaning.specs.Conditions.{WholeFile}
 use Rattle.meaning.proofs.Rows.{below-suc, rows-at, length-rows}
 use Rattle.meaning.proofs.Columns.{column-table}
 
@@ -29,7 +29,7 @@ module _ (s : Section) where
   row-ends i n h = let e : s .size * suc i ≡ s .size * i + s .size = omega arith in omega (arith, row-rise (suc i) n (omega arith))
 
   -- a row's place fits 64 bits, and so does that of any field a file has room for
-  pub row-low : {i : ℕ} → s .start < 2 ^ 32 → s .size < 2 ^ 32 → i < 2 ^ 32 → rowAt s i ≤ 18446744069414584320
+  pub row-low : {i : ℕ} → s .start < 2 ^ 32 → s .size < 2 ^ 32 → i < 2 ^ 32 → rowAt s i ≤ 2 ^ 64 - 2 ^ 32
   row-low {i} h k l = omega (arith, mul-le-mul {n₁ = s .size} {m₁ = i} {n₂ = 4294967295} {m₂ = 4294967295} (omega arith) (omega arith))
 
 -- ---- a table read from a section: as many rows as it has, each at its place

@@ -12,7 +12,7 @@ use Rattle.meaning.specs.declared.System.the-variants.{Wider}
 use Rattle.meaning.specs.declared.Refusal.the-variants.{BadNumber, ShortBuffer}
 use Rattle.meaning.specs.declared.Judgement.the-variants.{Passes, Stops}
 use Rattle.meaning.specs.declared.Answer.the-variants.{Accepted, Refused}
-use Rattle.meaning.specs.Outcome.{judged, prints, Settled, settle}
+use Rattle.meaning.specs.Outcome.{judged, prints, settle}
 use Rattle.meaning.specs.declared.Side.the-variants.{Generation, Demand}
 use Rattle.meaning.specs.Grid.{gridOf}
 use Rattle.meaning.specs.Read.{printedIncome, printedRemainder}

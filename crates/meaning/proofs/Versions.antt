@@ -1,7 +1,7 @@
 -- 02, request 3: whole files that say the same are one case, whatever their versions; what version 1 can say; and the length of a circuit with a factor of its own.
 use mathlib.Core.Path.{_≡_, refl, sym, _∙_, ap, ap₂}
 use mathlib.Core.List.{List}
-use Prim.Native.Nat.{ℕ, _+_, _<_}
+use Prim.Native.Nat.{ℕ, suc, _+_, _*_, _-_, _<_}
 use native.Mathlib.Decide.{decLt}
 use native.Mathlib.Omega.{arith}
 use borrow.Author.Tests.{ne-eqb}
@@ -9,16 +9,16 @@ use lib.ListN.{length}
 use Rattle.meaning.specs.declared.Judgement.{Judgement}
 use Rattle.meaning.specs.declared.Judgement.the-variants.{Passes}
 use Rattle.meaning.specs.Study.{Circuit, Study, Runs, circuit, noCircuit}
-use Rattle.meaning.specs.File.{circuitSize, recordSize, versionOf, section, sectionCount, rowAt, factorAt, circuitAt, runsWhole, studyOf, runsIn}
+use Rattle.meaning.specs.File.{u32, circuitSize, recordSize, versionOf, sectionStart, section, sectionCount, rowAt, factorAt, circuitAt, runsWhole, studyOf, runsIn}
 use Rattle.meaning.specs.Answers.{_orElse_}
 use Rattle.meaning.specs.Grid.{gridOf}
 use Rattle.meaning.specs.Direction.{ownOr, expandedLength}
 use Rattle.meaning.specs.Systems.{proposalsStage}
 use Rattle.meaning.specs.Sheet.{sheet}
-use Rattle.meaning.specs.Outcome.{fileStage, runsStage, rowsStage, gridStage, tablesStage, judged, sheetOf, Settled, bufferStage, answeredBy, answerOf, settledBy, settle, printedBy, prints}
+use Rattle.meaning.specs.Outcome.{fileStage, runsStage, rowsStage, gridStage, tablesStage, judged, sheetOf, bufferStage, answeredBy, answerOf, settledBy, settle, printedBy, prints}
 use Rattle.meaning.specs.Conditions.{InRange, WholeFile}
-use Rattle.meaning.specs.Versions.{SayTheSame, OneCase, OneSheetInEitherVersion, VersionOneByVoltage, NewVoltagesInVersionTwo, OwnFactorForBothLengths, NoFactorNoChange}
-use Rattle.meaning.proofs.Rows.{rows-at, rows-past}
+use Rattle.meaning.specs.Versions.{SayTheSame, OneCase, OneSheetInEitherVersion, VersionOneByVoltage, FactorLast, NewVoltagesInVersionTwo, OwnFactorForBothLengths, NoFactorNoChange}
+use Rattle.meaning.proofs.Rows.{length-rows, rows-at, rows-past}
 use Rattle.meaning.proofs.Answers.{passes-orElse, orElse-passes}
 use Rattle.meaning.proofs.Whole.{judge-file}
 use Rattle.meaning.proofs.Frame.{counts}
@@ -84,6 +84,13 @@ version-one-by-voltage file e c = go (decLt c (sectionCount file 2))
     go : Dec (c < sectionCount file 2) → circuit (studyOf file .circuits) c .factor ≡ 0
     go (yes h) = ap (λ (r : Circuit). r .factor) (rows-at noCircuit (sectionCount file 2) row c h) ∙ rw e refl
     go (no h) = ap (λ (r : Circuit). r .factor) (rows-past noCircuit (sectionCount file 2) row c (omega arith))
+
+pub factor-last : FactorLast
+unfolding studyOf section recordSize circuitSize circuitAt factorAt
+factor-last file e c h =
+    let k : c < sectionCount file 2 = rw (length-rows (sectionCount file 2) _) at h in
+    let last : sectionStart file 2 + 48 * c + 44 ≡ sectionStart file 2 + 48 * suc c - 4 = omega arith in
+    ap (λ (r : Circuit). r .factor) (rows-at noCircuit (sectionCount file 2) (λ i. circuitAt file (circuitSize (versionOf file)) (rowAt (section file 2) i)) c k) ∙ rw e (ap (u32 file) last)
 
 pub new-voltages-in-version-two : NewVoltagesInVersionTwo
 new-voltages-in-version-two file runs a c h n = go (decLt (versionOf file) 2)

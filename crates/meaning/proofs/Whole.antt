@@ -1,18 +1,19 @@
 -- The two stages of refusal 1 judge whether the file is whole.
 use mathlib.Core.Path.{_≡_}
 use mathlib.Core.List.{List, [], _∷_}
-use mathlib.Core.Bool.{Bool, _&&_}
+use mathlib.Core.Bool.{Bool, true, _&&_}
 use Prim.Native.Nat.{ℕ, _+_, _-_, _≤_}
 use native.Mathlib.Omega.{arith}
 use lib.ListN.{length}
 use Rattle.meaning.specs.Study.{Runs}
-use Rattle.meaning.specs.File.{counted, chained, fileWhole, runsWhole}
+use Rattle.meaning.specs.File.{sectionCount, section, counted, chained, fileWhole, runsWhole, runIn, runsIn}
 use Rattle.meaning.specs.declared.Refusal.the-variants.{BadFile}
 use Rattle.meaning.specs.Answers.{_orElse_}
 use Rattle.meaning.specs.Outcome.{fileStage, runsStage}
 use Rattle.meaning.specs.Conditions.{WholeFile}
 use Rattle.meaning.specs.Refusals.{whole}
-use Rattle.meaning.proofs.Says.{Says, says-as, _also_, says-le, says-eq, says-between, says-all}
+use Rattle.meaning.proofs.Says.{Says, says-as, _also_, says-true, says-le, says-eq, says-between, says-all}
+use Rattle.meaning.proofs.Rows.{length-rows}
 use Rattle.meaning.proofs.Answers.{unless-both}
 use Rattle.meaning.proofs.Order.{Judges, judges-whole}
 
@@ -62,6 +63,19 @@ says-whole file runs =
   where
     four : (s : ℕ) → 4 ≤ s → 4 + (s - 4) ≡ s
     four s h = omega arith
+
+-- a file's own solutions have its lengths, so of the file alone it is the first test
+own-runs : (file : List ℕ) → runsWhole file (length (runsIn file .base)) (length (runsIn file .wider)) (length (runsIn file .local)) ≡ true
+unfolding runsWhole runsIn runIn section
+own-runs file =
+    (says-eq also says-eq also says-eq) .1
+    ((length-rows (sectionCount file 4) _, length-rows (sectionCount file 5) _), length-rows (sectionCount file 6) _)
+
+pub whole-file : (file : List ℕ) → fileWhole file ≡ true → WholeFile file (runsIn file)
+whole-file file e = says-whole file (runsIn file) .0 ((says-true _ also says-true _) .1 (e, own-runs file))
+
+pub whole-true : (file : List ℕ) (runs : Runs) → WholeFile file runs → fileWhole file ≡ true
+whole-true file runs w = (says-true _ also says-true _) .0 (says-whole file runs .1 w) .0
 
 pub judge-file : (file : List ℕ) (runs : Runs)
     → Judges (fileStage file orElse runsStage file (length (runs .base)) (length (runs .wider)) (length (runs .local))) (whole (WholeFile file runs) BadFile ∷ [])

@@ -2,10 +2,10 @@
 use mathlib.Core.Path.{_≡_}
 use mathlib.Core.Logic.{_≢_}
 use mathlib.Core.List.{List}
-use Prim.Native.Nat.{ℕ, _+_, _*_, _<_}
+use Prim.Native.Nat.{ℕ, suc, _+_, _*_, _-_, _<_}
 use lib.ListN.{length}
 use Rattle.meaning.specs.Study.{Settings, Circuit, Runs, circuit}
-use Rattle.meaning.specs.File.{versionOf, studyOf, runsIn}
+use Rattle.meaning.specs.File.{u32, versionOf, section, rowAt, studyOf, runsIn}
 use Rattle.meaning.specs.Direction.{overheadFactor, cableFactor, expandedLength}
 use Rattle.meaning.specs.Outcome.{answerOf, settle, prints}
 use Rattle.meaning.specs.Conditions.{WholeFile, NewVoltage, Acceptable}
@@ -33,7 +33,13 @@ OneSheetInEitherVersion = (file file′ : List ℕ) → SayTheSame file file′ 
 abbrev pub VersionOneByVoltage : Type 0
 VersionOneByVoltage = (file : List ℕ) → versionOf file ≡ 1 → (c : ℕ) → circuit (studyOf file .circuits) c .factor ≡ 0
 
--- so an accepted case with a circuit at 320 or 525 is of version 2
+-- "circuit rows of 48 bytes, with the new factor last": in version 2 it is a row's last four bytes
+abbrev pub FactorLast : Type 0
+FactorLast =
+    (file : List ℕ) → versionOf file ≡ 2 → (c : ℕ) → c < length (studyOf file .circuits)
+    → circuit (studyOf file .circuits) c .factor ≡ u32 file (rowAt (section file 2) (suc c) - 4)
+
+-- an accepted case with a circuit at 320 or 525 is of version 2
 abbrev pub NewVoltagesInVersionTwo : Type 0
 NewVoltagesInVersionTwo =
     (file : List ℕ) (runs : Runs) → Acceptable file runs → (c : ℕ) → c < length (studyOf file .circuits) → NewVoltage (circuit (studyOf file .circuits) c .voltage)

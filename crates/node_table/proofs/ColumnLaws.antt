@@ -11,7 +11,6 @@ use Rattle.meaning.proofs.Frame.{column-read}
 use Rattle.layout.specs.Readable.{readable, sectionIn}
 use Rattle.layout.proofs.Rows.{nodes-from}
 use Rattle.node_table.specs.Columns.{nodesOf}
-use Rattle.node_table.specs.declared.NodeColumns.{NodeColumns}
 
 module _ (file : List ℕ) where
   abbrev S : Study

@@ -1,6 +1,6 @@
 // 3: the rows of the nodes' table.
 ghost use mathlib.Core.Path.{_≡_};
-ghost use Prim.Native.Nat.{_≤_};
+ghost use Prim.Native.Nat.{_-_, _^_, _≤_};
 ghost use Rattle.meaning.specs.File.{nodeAt};
 ghost use Rattle.meaning.specs.Tables.{soundNodeRow, nodesStage};
 ghost use Rattle.layout.specs.Readable.{readable, sectionIn};
@@ -12,7 +12,7 @@ use meaning::Section;
 
 // Whether the row at a place is sound by itself.
 pub fn sound_row(file: &[u8], at: usize, generation: usize, demand: usize) -> bool
-    requires { ⌜ (at ≤ 18446744069414584320) × ToldZones (now file) generation demand ⌝ }
+    requires { ⌜ (at ≤ 2 ^ 64 - 2 ^ 32) × ToldZones (now file) generation demand ⌝ }
     ensures { λ r. ⌜ r ≡ soundNodeRow (readable (now (file .entry)) .settings) (nodeAt (now (file .entry)) at) ⌝ }
 {
     names::name_formed(file, at)

@@ -15,7 +15,7 @@ use Rattle.meaning.specs.Outcome.{sheetOf, Settled, settle, written, refused}
 use Rattle.meaning.specs.Conditions.{Acceptable}
 use Rattle.meaning.specs.Demands.{IsWritten, IsRefused, Recovered, SameButStations, Agree, PassesToFive}
 use Rattle.meaning.specs.Mirror.{ShowsMirror}
-use Rattle.meaning.specs.Versions.{SayTheSame, OneCase}
+use Rattle.meaning.specs.Versions.{SayTheSame}
 use Rattle.claims.proofs.Accepted.{accepted≢refused}
 use Rattle.claims.proofs.Theorems.{every-input-settled, accepted-exactly-when, refused-exactly-when, revenue-recovered, solvers-agree, stations-hidden, printed-mirror, one-sheet-in-either-version}
 use Rattle.meaning.specs.Refusals.{Stopped}

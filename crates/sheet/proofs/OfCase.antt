@@ -16,7 +16,7 @@ use Rattle.meaning.specs.Sheet.{sheet}
 use Rattle.meaning.specs.Conditions.{WholeFile, SoundSettings}
 use Rattle.meaning.proofs.Frame.{ReadFrom, section-inside, counts}
 use Rattle.layout.specs.Readable.{sectionIn}
-use Rattle.layout.proofs.FileLaws.{whole-true}
+use Rattle.meaning.proofs.Whole.{whole-true}
 use Rattle.layout.proofs.Rows.{readable-whole, in-whole, nodes-from}
 use Rattle.charges.specs.Case.{zoneFigures, sideFigures, localFigures, figuresOf}
 use Rattle.meaning.proofs.Columns.{column-at}

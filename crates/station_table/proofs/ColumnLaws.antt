@@ -13,7 +13,6 @@ use Rattle.names.proofs.PlaceLaws.{places-read}
 use Rattle.layout.specs.Readable.{readable, sectionIn}
 use Rattle.layout.proofs.Rows.{nodes-from, node-inside, stations-from}
 use Rattle.station_table.specs.Columns.{stationsOf}
-use Rattle.station_table.specs.declared.StationColumns.{StationColumns}
 
 module _ (file : List ℕ) where
   abbrev S : Study

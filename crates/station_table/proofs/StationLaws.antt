@@ -2,7 +2,7 @@
 use mathlib.Core.Path.{_≡_, refl}
 use mathlib.Core.List.{List}
 use mathlib.Core.Bool.{not, _||_}
-use Prim.Native.Nat.{ℕ, _+_, _≤_, _<_}
+use Prim.Native.Nat.{ℕ, _+_, _-_, _^_, _≤_, _<_}
 use native.Mathlib.Omega.{arith}
 use lib.ListN.{getD}
 use Rattle.meaning.specs.declared.Refusal.the-variants.{BadStation}
@@ -38,7 +38,7 @@ module _ (file : List ℕ) {n : ℕ} {t : Section} {k : List ℕ} (told : ToldSt
   node-is i h = rw (told .column) (rows-at 0 512 _ i (omega (arith, few)))
 
   -- the column is the node of the row at its place
-  pub node-at : (i : ℕ) → i < t .count → rowAt t i ≤ 18446744069414584320 → ToldNode file (rowAt t i) n (getD k i 0)
+  pub node-at : (i : ℕ) → i < t .count → rowAt t i ≤ 2 ^ 64 - 2 ^ 32 → ToldNode file (rowAt t i) n (getD k i 0)
   unfolding stationAt
   node-at i h near = record { near = near; nodes = told .nodes; node = rw (from .at i h) at (node-is i h) }
 

@@ -25,8 +25,6 @@ use Rattle.meaning.specs.Columns.{kilowatts, numberAt, kwAt}
 use Rattle.station_table.specs.Columns.{stationsOf}
 use Rattle.station_table.specs.Tec.{cellOf, cellTec, typesTec, tecIn, tecOf, typesOf}
 use Rattle.station_table.specs.declared.StationColumns.{StationColumns}
-use Rattle.station_table.specs.declared.TecColumns.{TecColumns}
-use Rattle.layout.proofs.FileLaws.{is-true}
 use Rattle.station_table.proofs.ColumnAt.{station-node-at, plant-at, tec-at, by-type-at}
 use Rattle.layout.proofs.Rows.{stations-from}
 
@@ -47,7 +45,7 @@ cell-known nodes v t = says-cell nodes v t .0
 
 cell-some : (nodes v plantType : ℕ) → Cell nodes v plantType → 7 * v + plantType - 1 ≡ cellOf nodes v plantType
 unfolding cellOf
-cell-some nodes v t c = rw (sym (is-true (says-cell nodes v t) c)) refl
+cell-some nodes v t c = rw (says-cell nodes v t .1 c) refl
 
 -- the cell of a node and a plant type is theirs alone
 module _ (nodes v t c : ℕ) (h : c < 1792) where

@@ -2,7 +2,7 @@
 use mathlib.Core.Path.{_≡_}
 use mathlib.Core.Bool.{Bool, not}
 use mathlib.Core.List.{List}
-use Prim.Native.Nat.{ℕ, _+_, _≤_}
+use Prim.Native.Nat.{ℕ, _+_, _-_, _^_, _≤_}
 use lib.ListN.{length}
 use Rattle.meaning.specs.declared.Section.{Section}
 use Rattle.meaning.specs.File.{nameAt, rowAt, stationAt}
@@ -13,7 +13,7 @@ use Rattle.station_table.specs.Columns.{stationsOf}
 
 -- the node of a station's row at a place, as its name has it
 pub record ToldNode (file : List ℕ) (at n v : ℕ) : Type 0 where
-  pub near : at ≤ 18446744069414584320
+  pub near : at ≤ 2 ^ 64 - 2 ^ 32
   pub nodes : n ≡ length (readable file .nodes)
   pub node : v ≡ place (readable file .nodes) (nameAt file (at + 12))
 

@@ -18,7 +18,7 @@ use Rattle.layout.specs.declared.RowCounts.{RowCounts}
 use Rattle.layout.specs.declared.StudySettings.{StudySettings}
 use Rattle.layout.specs.Readable.{readable}
 use Rattle.layout.specs.Frame.{countsOf, settingsIn}
-use Rattle.layout.proofs.FileLaws.{whole-file}
+use Rattle.meaning.proofs.Whole.{whole-file}
 use Rattle.layout.proofs.Rows.{readable-whole, counts-are, few}
 use Rattle.tables.specs.Order.{frameStage}
 

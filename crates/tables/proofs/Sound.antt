@@ -16,7 +16,7 @@ use Rattle.meaning.proofs.Says.{_also_, says-eq}
 use Rattle.meaning.proofs.Frame as frame
 use Rattle.meaning.proofs.Tables.{sound-pass}
 use Rattle.layout.specs.Frame.{countsOf}
-use Rattle.layout.proofs.FileLaws.{whole-file}
+use Rattle.meaning.proofs.Whole.{whole-file}
 use Rattle.layout.proofs.Rows.{readable-whole}
 use Rattle.tables.specs.declared.Opened.{Opened}
 use Rattle.tables.specs.Order.{frameStage}

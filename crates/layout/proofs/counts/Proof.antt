@@ -1,5 +1,5 @@
 use mathlib.Core.Path.{sym, _∙_}
-use Rattle.layout.proofs.FileLaws.{FileParts, says-file}
+use Rattle.meaning.proofs.Whole.{whole-file}
 use Rattle.layout.proofs.Rows.{counts-whole, counts-none}
 use native.Mathlib.Omega.{arith}
 use borrow.Author.Needs.{needs}
@@ -10,7 +10,7 @@ whole-requires : tie.Need-whole-requires
 whole-requires c κs = search needs
 
 row-counts-requires : tie.Need-row-counts-requires
-row-counts-requires c κs = omega (arith, says-file _ .0 (sym (c .before .whole .ensures) ∙ c .if1 .taken) .long)
+row-counts-requires c κs = omega (arith, whole-file _ (sym (c .before .whole .ensures) ∙ c .if1 .taken) .long)
 
 returns : tie.Need-returns
 returns c = counts-whole _ (c .row-counts .ensures) (sym (c .before .before .whole .ensures) ∙ c .before .if1 .taken)

@@ -1,12 +1,12 @@
 use native.Mathlib.Omega.{arith}
 use Rattle.meaning.specs.File.{statedLength}
-use Rattle.layout.proofs.FileLaws.{FileParts, says-file, is-false, whole-rest}
+use Rattle.layout.proofs.FileLaws.{too-short, whole-rest}
 use borrow.Author.Needs.{needs}
 use Rattle.layout.proofs.whole.Statement.{statement}
 use Rattle.layout.proofs.whole.Tie as tie
 
 returns : tie.Need-returns
-returns c = is-false (says-file _) (λ w. omega (arith, w .long))
+returns c = too-short _ (omega arith)
 
 version-requires : tie.Need-version-requires
 version-requires c κs = search needs

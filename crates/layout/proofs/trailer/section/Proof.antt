@@ -1,17 +1,18 @@
 use native.Mathlib.Omega.{arith}
-use Rattle.layout.proofs.FileLaws.{FileParts, says-file, record-small, section-told}
+use Rattle.meaning.proofs.Whole.{whole-file}
+use Rattle.layout.proofs.FileLaws.{record-small, section-told}
 use borrow.Author.Needs.{needs}
 use Rattle.layout.proofs.trailer.section.Statement.{statement}
 use Rattle.layout.proofs.trailer.section.Tie as tie
 
 offset-requires : tie.Need-offset-requires
-offset-requires c κs = let p = c .before .pre in (omega (arith, says-file _ .0 (p .0) .long), p .1)
+offset-requires c κs = let p = c .before .pre in (omega (arith, whole-file _ (p .0) .long), p .1)
 
 cast-t4 : tie.Need-cast-t4
 cast-t4 c = search needs
 
 version-requires : tie.Need-version-requires
-version-requires c κs = omega (arith, says-file _ .0 (c .before .before .pre .0) .long)
+version-requires c κs = omega (arith, whole-file _ (c .before .before .pre .0) .long)
 
 record-size-requires : tie.Need-record-size-requires
 record-size-requires c κs = search needs
@@ -20,7 +21,7 @@ cast-t7 : tie.Need-cast-t7
 cast-t7 c = omega (arith, record-small (c .before .version .result) (c .before .before .before .before .args .number), c .record-size .ensures)
 
 count-requires : tie.Need-count-requires
-count-requires c κs = let p = c .before .before .before .before .pre in (omega (arith, says-file _ .0 (p .0) .long), p .1)
+count-requires c κs = let p = c .before .before .before .before .pre in (omega (arith, whole-file _ (p .0) .long), p .1)
 
 cast-t9 : tie.Need-cast-t9
 cast-t9 c = search needs
