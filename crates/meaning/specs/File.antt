@@ -59,6 +59,7 @@ unfoldable pub sectionStart : List ℕ → (section : ℕ) → ℕ
 sectionStart file zero = 0
 sectionStart file (suc section) = sectionStart file section + recordSize (versionOf file) section * sectionCount file section
 
+-- a section of a file: where it starts, the bytes of a record, how many there are
 unfoldable pub section : List ℕ → (section : ℕ) → Section
 section file s = record { start = sectionStart file s; size = recordSize (versionOf file) s; count = sectionCount file s }
 
