@@ -1,9 +1,10 @@
 -- The user's demands, proved: each statement is a type of meaning/specs/Demands.antt or, for requests 2 and 3, Mirror.antt and Versions.antt, and its proof is in the file named here.
 use Rattle.meaning.specs.Demands.{EveryInputSettled, AcceptedExactlyWhen, RefusedExactlyWhen, OneAnswer, JudgeIsWrite, RevenueRecovered, CentreBalances, SolversAgree, StationsHidden, CapacityKept, SheetsFit, AllButInterconnectorsPay, NoInterconnectorNoChange, TypesHidden}
 use Rattle.meaning.specs.Mirror.{NearestMirrors, OnlyNegativeHalvesMove, FiguresMove, AveragesMirror, ZonesMirror, PrintedMirror, SidesMirror, MoneyMirrors}
-use Rattle.meaning.specs.Versions.{OneSheetInEitherVersion, VersionOneByVoltage, FactorLast, NewVoltagesInVersionTwo, OwnFactorForBothLengths, NoFactorNoChange}
+use Rattle.meaning.specs.Versions.{OneSheetInEitherVersion, EveryCaseInVersionTwo, VersionOneByVoltage, FactorLast, NewVoltagesInVersionTwo, OwnFactorForBothLengths, NoFactorNoChange}
 use Rattle.meaning.proofs.Mirror as Mirror
 use Rattle.meaning.proofs.Versions as Versions
+use Rattle.meaning.proofs.Twins as Twins
 use Rattle.sizes.proofs.Accepted as Sizes
 use Rattle.claims.proofs.Accepted
 use Rattle.claims.proofs.Recovered
@@ -105,6 +106,10 @@ money-mirrors = Mirror.money-mirrors
 -- 02, request 3: whole files that say the same, of either version, are settled, judged and printed alike, refusals included
 pub one-sheet-in-either-version : OneSheetInEitherVersion
 one-sheet-in-either-version = Versions.one-sheet-in-either-version
+
+-- and each whole file of version 1 with up to 480 circuits has a twin of version 2 that says the same, solutions too
+pub every-case-in-version-two : EveryCaseInVersionTwo
+every-case-in-version-two = Twins.every-case-in-version-two
 
 -- a file of version 1 has no factor but 0, whatever stands behind its rows
 pub version-one-by-voltage : VersionOneByVoltage

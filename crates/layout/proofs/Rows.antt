@@ -112,7 +112,7 @@ module _ (file : List ℕ) where
   -- a row lies inside the file
   pub inside : (s : ℕ) {t : Section} → t ≡ sectionIn file s → (i : ℕ) → i < t .count → rowAt t i + t .size ≤ length file
   inside s e i = rw e (either-section (λ t. i < t .count → rowAt t i + t .size ≤ length file) s
-      (λ h e l. let w = whole-file file e in row-inside file (runsIn file) w s i h l)
+      (λ h e l. omega (arith, row-inside file (runsIn file) (whole-file file e) s i h l))
       (λ l. absurd (omega arith)))
 
   pub node-inside : {t : Section} → t ≡ sectionIn file 1 → (i : ℕ) → i < t .count → rowAt t i < length file

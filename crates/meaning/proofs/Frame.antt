@@ -12,7 +12,7 @@ use Rattle.meaning.specs.declared.Section.{Section}
 use Rattle.meaning.specs.Rows.{rows}
 use Rattle.meaning.specs.Columns.{column}
 use Rattle.meaning.specs.Study.{Runs}
-use Rattle.meaning.specs.File.{sections, circuitSize, recordSize, mostCircuits, versionOf, sectionCount, sectionStart, section, rowAt, table, studyOf}
+use Rattle.meaning.specs.File.{sections, trailerSize, circuitSize, recordSize, mostCircuits, versionOf, sectionCount, sectionStart, section, rowAt, table, studyOf}
 use Rattle.meaning.specs.Conditions.{WholeFile}
 use Rattle.meaning.proofs.Rows.{below-suc, rows-at, length-rows}
 use Rattle.meaning.proofs.Columns.{column-table}
@@ -54,7 +54,7 @@ module _ (file : List ℕ) where
   unfolding section sectionStart
   section-ends s = refl
 
-  starts-rise : (s t : ℕ) → s ≤ t → sectionStart file s ≤ sectionStart file t
+  pub starts-rise : (s t : ℕ) → s ≤ t → sectionStart file s ≤ sectionStart file t
   unfolding sectionStart
   starts-rise s zero h = let e : s ≡ 0 = omega arith in rw e (omega arith)
   starts-rise s (suc t) h = go (starts-rise s t) (below-suc (suc t) s (omega arith))
@@ -83,11 +83,15 @@ circuits-short version n = go (eqb version 2)
 
 -- ---- a whole file
 module _ (file : List ℕ) (runs : Runs) (whole : WholeFile file runs) where
-  pub section-inside : (s : ℕ) → s < sections → rowAt (section file s) (section file s .count) ≤ length file
-  section-inside s h = omega (arith, section-ends file s, starts-rise file (suc s) sections (omega arith), whole .end)
+  section-before : (s : ℕ) → s < sections → rowAt (section file s) (section file s .count) + trailerSize ≤ length file
+  section-before s h = omega (arith, section-ends file s, starts-rise file (suc s) sections (omega arith), whole .end)
 
-  pub row-inside : (s i : ℕ) → s < sections → i < section file s .count → rowAt (section file s) i + section file s .size ≤ length file
-  row-inside s i h l = omega (arith, row-ends (section file s) i (section file s .count) l, section-inside s h)
+  pub section-inside : (s : ℕ) → s < sections → rowAt (section file s) (section file s .count) ≤ length file
+  section-inside s h = omega (arith, section-before s h)
+
+  -- a row lies before the trailer
+  pub row-inside : (s i : ℕ) → s < sections → i < section file s .count → rowAt (section file s) i + section file s .size + trailerSize ≤ length file
+  row-inside s i h l = omega (arith, row-ends (section file s) i (section file s .count) l, section-before s h)
 
   pub circuits-most : sectionCount file 2 ≤ 512
   circuits-most = omega (arith, whole .circuits, most-low (versionOf file))

@@ -22,6 +22,7 @@ pub mod Proposals
 pub mod Judged
 -- 02, request 3: files of two versions
 pub mod Versions
+pub mod Twins
 -- the definitions computed: the starred rows, case KILN and its damaged forms, interconnectors
 pub mod Write
 pub mod Opened

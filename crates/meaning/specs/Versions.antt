@@ -2,8 +2,8 @@
 use mathlib.Core.Path.{_≡_}
 use mathlib.Core.Logic.{_≢_}
 use mathlib.Core.List.{List}
-use Prim.Native.Nat.{ℕ, suc, _+_, _*_, _-_, _<_}
-use lib.ListN.{length}
+use Prim.Native.Nat.{ℕ, suc, _+_, _*_, _-_, _≤_, _<_}
+use lib.ListN.{length, getD}
 use Rattle.meaning.specs.Study.{Settings, Circuit, Runs, circuit}
 use Rattle.meaning.specs.File.{u32, versionOf, section, rowAt, studyOf, runsIn}
 use Rattle.meaning.specs.Direction.{overheadFactor, cableFactor, expandedLength}
@@ -28,6 +28,17 @@ pub record OneCase (file file′ : List ℕ) : Type 0 where
 
 abbrev pub OneSheetInEitherVersion : Type 0
 OneSheetInEitherVersion = (file file′ : List ℕ) → SayTheSame file file′ → OneCase file file′
+
+-- and each whole file of version 1 with a place in version 2 has a twin there, with the same solutions
+pub record Twin (file : List ℕ) : Type 0 where
+  pub twin : List ℕ
+  pub bytes : ((k : ℕ) → getD file k 0 < 256) → (k : ℕ) → getD twin k 0 < 256
+  pub version : versionOf twin ≡ 2
+  pub same : SayTheSame file twin
+  pub solutions : runsIn file ≡ runsIn twin
+
+abbrev pub EveryCaseInVersionTwo : Type 0
+EveryCaseInVersionTwo = (file : List ℕ) → WholeFile file (runsIn file) → versionOf file ≡ 1 → length (studyOf file .circuits) ≤ 480 → Twin file
 
 -- ---- "Version 1 files read as if the factor were 0", whatever stands behind a row
 abbrev pub VersionOneByVoltage : Type 0
