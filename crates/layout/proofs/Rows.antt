@@ -87,14 +87,6 @@ module _ (file : List ℕ) where
   abbrev S : Study
   S = readable file
 
-  -- what holds of a whole file's study, and of one without rows
-  pub either : (P : Study → Type 0) → (fileWhole file ≡ true → P (studyOf file)) → P noStudy → P S
-  either P w n = go (fileWhole file) refl
-    where
-      go : (b : Bool) → fileWhole file ≡ b → P S
-      go true e = rw (readable-whole e) (w e)
-      go false e = rw (readable-none e) n
-
   -- ---- sections
   pub in-whole : (s : ℕ) → s < sections → fileWhole file ≡ true → sectionIn file s ≡ section file s
   unfolding sectionIn
@@ -109,12 +101,7 @@ module _ (file : List ℕ) where
       go true e = let t = (says-lt {m = s} {n = sections} also says-true (fileWhole file)) .0 e in w (t .0) (t .1)
       go false e = n
 
-  -- a row lies inside the file
-  pub inside : (s : ℕ) {t : Section} → t ≡ sectionIn file s → (i : ℕ) → i < t .count → rowAt t i + t .size ≤ length file
-  inside s e i = rw e (either-section (λ t. i < t .count → rowAt t i + t .size ≤ length file) s
-      (λ h e l. omega (arith, row-inside file (runsIn file) (whole-file file e) s i h l))
-      (λ l. absurd (omega arith)))
-
+  -- a node's row lies inside the file
   pub node-inside : {t : Section} → t ≡ sectionIn file 1 → (i : ℕ) → i < t .count → rowAt t i < length file
   unfolding section recordSize
   node-inside e i = rw e (either-section (λ t. i < t .count → rowAt t i < length file) 1
