@@ -8,7 +8,7 @@ use lib.ListN.{length, getD}
 use Rattle.meaning.specs.declared.System.{System}
 use Rattle.meaning.specs.declared.System.the-variants.{Base, Wider, Local}
 use Rattle.meaning.specs.Rows.{all, rows}
-use Rattle.meaning.specs.Columns.{numberAt, column}
+use Rattle.meaning.specs.Columns.{numberAt, networkIn, column}
 use Rattle.meaning.specs.Network.{Network}
 use Rattle.meaning.specs.Direction.{direction, signed}
 use Rattle.meaning.specs.Proposal.{potential, flow, flowOut, flowIn, missSum}
@@ -24,15 +24,7 @@ circuitsIn n long = cond (leb (long - n) 512) (long - n) 512
 
 -- the network of a case: the circuits are those that a run has a flow for
 abbrev pub netIn : Case → (run : List ℤ) → Network
-netIn k run =
-    record {
-      nodes = k .nodes;
-      circuits = circuitsIn (k .nodes) (length run);
-      reference = k .reference;
-      first = numberAt (k .first);
-      second = numberAt (k .second);
-      x = numberAt (k .x);
-    }
+netIn k run = networkIn (k .nodes) (circuitsIn (k .nodes) (length run)) (k .reference) (k .first) (k .second) (k .x)
 
 -- ---- step 2, and 9
 -- Quantities: a flow of magnitude up to 10^14; one out of that range counts as none

@@ -1,4 +1,5 @@
 -- Whole numbers: sums over an index, and the two roundings of document 01.
+use mathlib.Core.Bool.{Bool, cond}
 use Prim.Native.Nat.{ℕ, zero, suc, _+_, _*_, _/_, _≤_}
 use lib.IntN.{ℤ, pos, negsuc, negℤ, natAbs, _+ℤ_, _-ℤ_, _*ℤ_}
 
@@ -7,7 +8,11 @@ unfoldable pub sum : ℕ → (ℕ → ℕ) → ℕ
 sum zero f = 0
 sum (suc n) f = sum n f + f n
 
--- the same of signed numbers
+-- how many numbers below n pass the test
+unfoldable pub count : (ℕ → Bool) → ℕ → ℕ
+count test n = sum n (λ i. cond (test i) 1 0)
+
+-- a sum of signed numbers
 unfoldable pub Σ : ℕ → (ℕ → ℤ) → ℤ
 Σ zero f = pos 0
 Σ (suc n) f = Σ n f +ℤ f n

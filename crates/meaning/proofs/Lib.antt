@@ -8,6 +8,7 @@ pub mod Table
 pub mod Kept
 pub mod Order
 pub mod Walk
+pub mod Networks
 pub mod Plants
 pub mod Shares
 pub mod Sides

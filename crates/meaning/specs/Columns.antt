@@ -6,6 +6,7 @@ use lib.Dec.{ltb}
 use lib.IntN.{ℤ, pos}
 use lib.ListN.{getD}
 use Rattle.meaning.specs.Rows.{rows}
+use Rattle.meaning.specs.Network.{Network}
 use Rattle.meaning.specs.declared.Kw.{Kw}
 use Rattle.meaning.specs.declared.Metres.{Metres}
 use Rattle.meaning.specs.declared.MicroPerKw.{MicroPerKw}
@@ -34,6 +35,11 @@ metresAt column i = getD column i (distance (pos 0)) .0
 
 abbrev pub priceAt : List MicroPerKw → ℕ → ℤ
 priceAt column i = getD column i (price (pos 0)) .0
+
+-- the network of that many nodes and circuits whose ends and reactances stand in columns
+abbrev pub networkIn : (nodes circuits reference : ℕ) (first second x : List ℕ) → Network
+networkIn nodes circuits reference first second x =
+    record { nodes = nodes; circuits = circuits; reference = reference; first = numberAt first; second = numberAt second; x = numberAt x }
 
 -- an array of that size: f 0, .., f (count − 1), and then nothing
 unfoldable pub column : {A : Type 0} → (nothing : A) (size count : ℕ) → (ℕ → A) → List A

@@ -8,15 +8,16 @@ use lib.ListN.{length, getD}
 use Rattle.integers.specs.Numbers.{sum}
 use Rattle.integers.proofs.Sum.{sum-same}
 use Rattle.meaning.specs.declared.Kw.{Kw}
-use Rattle.meaning.specs.Rows as R
-use Rattle.meaning.specs.Study.{Settings, Study, Runs, circuit}
+use Rattle.meaning.specs.Study.{Study, Runs, circuit}
 use Rattle.meaning.specs.Grid.{gridOf, nodeTec, nodeDemand, totalTec, totalDemand}
 use Rattle.meaning.specs.declared.System.the-variants.{Base}
+use Rattle.meaning.specs.Network.{networkOf}
 use Rattle.meaning.specs.Scaled.{scaled}
 use Rattle.meaning.specs.Systems.{net, supply}
 use Rattle.meaning.specs.Direction.{expandedLength}
 use Rattle.meaning.specs.Conditions.{SoundSettings, SoundCircuit, SoundTables}
 use Rattle.meaning.proofs.Says.{says-le, _also_}
+use Rattle.meaning.proofs.Networks.{SameNetwork}
 use Rattle.meaning.proofs.Tables.{says-totals}
 use Rattle.meaning.proofs.Lengths.{overhead-in, cable-in, has-length}
 use Rattle.sizes.proofs.Scaling.{systems-fit}
@@ -24,12 +25,15 @@ use Rattle.layout.specs.declared.RowCounts.{RowCounts}
 use Rattle.layout.specs.declared.StudySettings.{StudySettings}
 use Rattle.node_table.specs.declared.NodeColumns.{NodeColumns}
 use Rattle.circuit_table.specs.declared.CircuitColumns.{CircuitColumns}
+use Rattle.station_table.specs.declared.TecColumns.{TecColumns}
 use Rattle.circuit_table.specs.Lengths.{lengthInRange, lengthIfInRange}
-use Rattle.layout.specs.Frame.{countsOf, settingsIn}
 use Rattle.node_table.specs.Columns.{nodesOf}
 use Rattle.circuit_table.specs.Columns.{circuitsOf}
-use Rattle.meaning.specs.Columns.{kilowatts, kwAt}
+use Rattle.station_table.specs.Tec.{tecOf}
+use Rattle.meaning.specs.Columns.{kilowatts, kwAt, networkIn}
 use Rattle.tables.specs.declared.Opened.{Opened}
+use Rattle.tables.proofs.ReadLaws.{StudyColumns, reference-is}
+use Rattle.tables.proofs.NetworkLaws.{columns-network}
 use Rattle.supply.specs.Supply.{baseSupply}
 use Rattle.supply.proofs.Bounds.{base-supply-at}
 use Rattle.proposal.specs.Case.{caseOf}
@@ -43,8 +47,7 @@ long-is S sound i row =
     rw ((says-le also says-le also says-le also says-le) .1 (((row .overhead, row .cable), overhead-in (S .settings) _ sound S i row .most), cable-in (S .settings) _ sound S i row .most)) refl
 
 module _ (S : Study) (sound : SoundTables S) (few : length (S .nodes) ≤ 256) (fewer : length (S .circuits) ≤ 512)
-    (o : Opened) (er : o .counts ≡ countsOf S) (es : settingsIn (o .settings) ≡ S .settings) (en : o .nodes ≡ nodesOf S) (ee : o .circuits ≡ circuitsOf S)
-    (et : o .tec .scaling ≡ R.rows 256 (λ v. kilowatts (nodeTec (gridOf S) v))) where
+    (o : Opened) (t : StudyColumns S o) where
   abbrev rows : RowCounts
   rows = o .counts
 
@@ -60,24 +63,25 @@ module _ (S : Study) (sound : SoundTables S) (few : length (S .nodes) ≤ 256) (
   abbrev scaling : List Kw
   scaling = o .tec .scaling
 
+  -- nodes, reference, ends and reactances are the grid's
+  network : SameNetwork (networkIn (rows .nodes) (rows .circuits) (settings .reference - 1) (ends .first) (ends .second) (ends .x)) (networkOf (gridOf S))
+  network = columns-network t fewer
+
   node-count : rows .nodes ≡ length (S .nodes)
-  unfolding countsOf
-  node-count = ap (λ (r : RowCounts). r .nodes) er
+  unfolding networkOf gridOf
+  node-count = network .ends .nodes
 
   circuit-count : rows .circuits ≡ length (S .circuits)
-  unfolding countsOf
-  circuit-count = ap (λ (r : RowCounts). r .circuits) er
-
-  reference-row : settings .reference ≡ S .settings .reference
-  unfolding settingsIn
-  reference-row = ap (λ (s : Settings). s .reference) es
+  unfolding networkOf gridOf
+  circuit-count = network .ends .circuits
 
   tec-at : (v : ℕ) → v < rows .nodes → kwAt scaling v ≡ nodeTec (gridOf S) v
-  tec-at v h = kw-at (of-rows (kilowatts 0) 256 _ _ scaling (omega (arith, node-count)) et v h)
+  unfolding tecOf
+  tec-at v h = kw-at (of-rows (kilowatts 0) 256 _ _ scaling (omega (arith, node-count)) (ap (λ (n : TecColumns). n .scaling) (t .tec)) v h)
 
   demand-at : (v : ℕ) → v < rows .nodes → kwAt (nodes .demand) v ≡ nodeDemand (gridOf S) v
   unfolding nodesOf gridOf
-  demand-at v h = kw-at (of-rows (kilowatts 0) 256 _ _ (nodes .demand) (omega (arith, node-count)) (ap (λ (n : NodeColumns). n .demand) en) v h)
+  demand-at v h = kw-at (of-rows (kilowatts 0) 256 _ _ (nodes .demand) (omega (arith, node-count)) (ap (λ (n : NodeColumns). n .demand) (t .nodes)) v h)
 
   total-tec : sum (rows .nodes) (kwAt scaling) ≡ totalTec (gridOf S)
   unfolding gridOf
@@ -89,7 +93,7 @@ module _ (S : Study) (sound : SoundTables S) (few : length (S .nodes) ≤ 256) (
       sum-same (rows .nodes) (kwAt (nodes .demand)) (nodeDemand (gridOf S)) demand-at ∙ ap (λ (n : ℕ). sum n (nodeDemand (gridOf S))) node-count
 
   pub reference-least : 1 ≤ settings .reference
-  reference-least = omega (arith, reference-row, sound .settings .reference .least)
+  reference-least = omega (arith, reference-is t, sound .settings .reference .least)
 
   -- step 3: the supply of node v
   supplied : (v : ℕ) → v < rows .nodes → getD (baseSupply (rows .nodes) scaling (nodes .demand)) v (pos 0) ≡ supply (gridOf S) Base v
@@ -106,15 +110,11 @@ module _ (S : Study) (sound : SoundTables S) (few : length (S .nodes) ≤ 256) (
   unfolding caseOf circuitsOf gridOf
   case-told runs =
       record {
-        nodes = node-count;
-        reference = ap (λ (r : ℕ). r - 1) reference-row;
-        first = of-rows 0 512 _ _ (ends .first) fewer (ap (λ (e : CircuitColumns). e .first) ee);
-        second = of-rows 0 512 _ _ (ends .second) fewer (ap (λ (e : CircuitColumns). e .second) ee);
-        x = of-rows 0 512 _ _ (ends .x) fewer (ap (λ (e : CircuitColumns). e .x) ee);
-        lengths = λ c h. of-rows 0 512 _ _ (ends .length) fewer (ap (λ (e : CircuitColumns). e .length) ee) c h
+        network = rw circuit-count at network;
+        lengths = λ c h. of-rows 0 512 _ _ (ends .length) fewer (ap (λ (e : CircuitColumns). e .length) (t .circuits)) c h
             ∙ long-is S (sound .settings) c (sound .circuits c h);
         some = λ c h. has-length (S .settings) _ (sound .settings) S c (sound .circuits c h);
         short = systems-fit S sound runs .expanded;
-        marks = of-rows 0 512 _ _ (ends .mark) fewer (ap (λ (e : CircuitColumns). e .mark) ee);
+        marks = of-rows 0 512 _ _ (ends .mark) fewer (ap (λ (e : CircuitColumns). e .mark) (t .circuits));
         supply = supplied;
       }

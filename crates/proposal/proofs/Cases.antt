@@ -6,12 +6,12 @@ use native.Mathlib.Omega.{arith}
 use lib.IntN.{ℤ}
 use Rattle.meaning.specs.declared.System.{System}
 use Rattle.meaning.specs.Proposal.{systemStage}
+use Rattle.meaning.proofs.Networks.{network-self, system-same}
 use Rattle.supply.specs.Supply.{supplyIn}
 use Rattle.flows.specs.declared.Case.{Case}
 use Rattle.flows.specs.Flows.{number, circuitsIn, netIn, offsetAt, offsetsOf}
 use Rattle.flows.proofs.Signed.{offset-small, offsets-at}
 use Rattle.proposal.specs.Case.{proposedIn, offeredIn, solutionIn, Based, Ready, Judgeable}
-use Rattle.proposal.proofs.Same.{system-alike}
 
 module _ (system : System) (k : Case) (base run supply offset : List ℤ) (j : Judgeable k base run)
     (p : supply ≡ supplyIn system (k .supply)) (q : offset ≡ offsetsOf system k base) where
@@ -32,16 +32,10 @@ module _ (system : System) (k : Case) (base run supply offset : List ℤ) (j : J
   }
 
   pub judged-as : systemStage (netIn k run) (proposedIn system supply offset run) ≡ solutionIn system k base run
-  judged-as = system-alike (netIn k run) (netIn k run) (proposedIn system supply offset run) (offeredIn system k base run) (record {
-    nodes = refl;
-    circuits = refl;
-    reference = refl;
+  judged-as = system-same (netIn k run) (netIn k run) (proposedIn system supply offset run) (offeredIn system k base run) (network-self (netIn k run)) (record {
     system = refl;
     limit = refl;
     run = refl;
-    first = λ c h. refl;
-    second = λ c h. refl;
-    x = λ c h. refl;
     offset = offset-is;
     supply = λ v h. ap (λ (l : List ℤ). number l v) p;
   })

@@ -1,5 +1,4 @@
 pub mod Stages
-pub mod Same
 pub mod Cases
 pub mod Told
 pub mod Sound

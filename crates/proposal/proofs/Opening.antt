@@ -16,8 +16,6 @@ use Rattle.meaning.specs.declared.System.the-variants.{Base, Wider, Local}
 use Rattle.meaning.specs.Systems.{runOf, proposalsStage}
 use Rattle.meaning.specs.Outcome.{judged}
 use Rattle.meaning.proofs.Answers.{stops-first, passes-first}
-use Rattle.station_table.specs.declared.TecColumns.{TecColumns}
-use Rattle.station_table.specs.Tec.{tecOf}
 use Rattle.tables.specs.declared.Opened.{Opened}
 use Rattle.tables.specs.Opens.{Opens, withJudgement}
 use Rattle.tables.proofs.ReadLaws.{columns-kept}
@@ -53,18 +51,10 @@ module _ (file : List ℕ) (runs : Runs) (o : Opened) (t : Opens file (length (r
     fewer = omega (arith, s .circuitCount, s .circuitsFew)
 
     pub passed-reference : 1 ≤ o .settings .reference
-    unfolding tecOf
-    passed-reference =
-        let c = s .columns in
-        reference-least S (s .tables) few fewer o (c .counts) (c .settings) (c .nodes) (c .circuits)
-        (ap (λ (t : TecColumns). t .scaling) (c .tec))
+    passed-reference = reference-least S (s .tables) few fewer o (s .columns)
 
     told-case : Told (gridOf S) (caseOf o)
-    unfolding tecOf
-    told-case =
-        let c = s .columns in
-        case-told S (s .tables) few fewer o (c .counts) (c .settings) (c .nodes) (c .circuits)
-        (ap (λ (t : TecColumns). t .scaling) (c .tec)) runs
+    told-case = case-told S (s .tables) few fewer o (s .columns) runs
 
     of-length : {m : ℕ} → m ≡ o .counts .nodes + o .counts .circuits → m ≡ length (S .nodes) + length (S .circuits)
     of-length l = omega (arith, s .nodeCount, s .circuitCount)

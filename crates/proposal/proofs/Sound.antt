@@ -8,6 +8,7 @@ use lib.ListN.{length}
 use Rattle.meaning.specs.Columns.{numberAt}
 use Rattle.meaning.specs.Study.{Study}
 use Rattle.meaning.specs.Grid.{gridOf}
+use Rattle.meaning.specs.Network.{networkOf}
 use Rattle.meaning.specs.Conditions.{SoundTables}
 use Rattle.flows.specs.declared.Case.{Case}
 use Rattle.flows.specs.Flows.{circuitsIn}
@@ -17,15 +18,15 @@ use Rattle.proposal.proofs.Told.{Told}
 
 module _ (S : Study) (k : Case) (t : Told (gridOf S) k) (sound : SoundTables S) (few : length (S .nodes) ≤ 256) (fewer : length (S .circuits) ≤ 512) where
   nodes-in : k .nodes ≡ length (S .nodes)
-  unfolding gridOf
-  nodes-in = t .nodes
+  unfolding networkOf gridOf
+  nodes-in = t .network .ends .nodes
 
   pub circuits-in : (run : List ℤ) → length run ≡ length (S .nodes) + length (S .circuits) → circuitsIn (k .nodes) (length run) ≡ length (S .circuits)
   circuits-in run e = circuits-are (k .nodes) (length (S .circuits)) (length run) fewer (omega (arith, nodes-in))
 
   x-small : (c : ℕ) → c < length (S .circuits) → numberAt (k .x) c ≤ 10000
-  unfolding gridOf
-  x-small c h = omega (arith, t .x c h, sound .circuits c h .x .most)
+  unfolding networkOf gridOf
+  x-small c h = omega (arith, t .network .x c h, sound .circuits c h .x .most)
 
   pub judgeable : (base run : List ℤ) → length base ≡ length (S .nodes) + length (S .circuits) → length run ≡ length (S .nodes) + length (S .circuits) → Judgeable k base run
   judgeable base run e f = record {

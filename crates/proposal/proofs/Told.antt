@@ -15,32 +15,28 @@ use Rattle.meaning.specs.declared.Refusal.the-variants.{DirectionInDoubt}
 use Rattle.meaning.specs.Answers.{at, _orElse_}
 use Rattle.meaning.specs.Rows.{rows, failing}
 use Rattle.meaning.specs.Study.{Runs, circuit}
-use Rattle.meaning.specs.Grid.{Grid, place}
+use Rattle.meaning.specs.Grid.{Grid}
 use Rattle.meaning.specs.Network.{networkOf}
 use Rattle.meaning.specs.Scaled.{wholeShare, leftOver, missing, scaled}
 use Rattle.meaning.specs.Direction.{expandedLength, hasLength, signedLength}
 use Rattle.meaning.specs.Systems.{runOf, supply, lengthOf, offset, proposed, solutionStage, directionClear, directionStage, proposalsStage}
 use Rattle.meaning.proofs.Rows.{rows-at, lowest-same}
+use Rattle.meaning.proofs.Networks.{SameNetwork, system-same}
 use Rattle.flows.specs.declared.Case.{Case}
 use Rattle.flows.specs.Flows.{number, circuitsIn, netIn, signedBy, offsetIn, offsetAt}
 use Rattle.flows.proofs.Signed.{signed-is}
 use Rattle.numbers.specs.Numbers.{clearBy}
-use Rattle.meaning.specs.Columns.{kilowatts, numberAt}
+use Rattle.meaning.specs.Columns.{kilowatts, numberAt, networkIn}
 use Rattle.supply.specs.Supply.{supplyIn}
 use Rattle.proposal.specs.Case.{offeredIn, solutionIn, doubtIn, proposalsIn}
-use Rattle.proposal.proofs.Same.{system-alike}
 
 -- number i of a column made row by row
 pub of-rows : {A : Type 0} (nothing : A) (size count : ℕ) (f : ℕ → A) (column : List A) → count ≤ size → column ≡ rows size f → (i : ℕ) → i < count → getD column i nothing ≡ f i
 of-rows nothing size count f column h e i k = ap (λ (l : List _). getD l i nothing) e ∙ rows-at nothing size f i (omega arith)
 
--- the columns of a grid
+-- the columns of a grid: its network, as every run of its length has it, and what is said of its circuits and nodes besides
 pub record Told (G : Grid) (k : Case) : Type 0 where
-  pub nodes : k .nodes ≡ length (G .nodes)
-  pub reference : k .reference ≡ G .settings .reference - 1
-  pub first : (c : ℕ) → c < length (G .circuits) → numberAt (k .first) c ≡ place (G .nodes) (circuit (G .circuits) c .first)
-  pub second : (c : ℕ) → c < length (G .circuits) → numberAt (k .second) c ≡ place (G .nodes) (circuit (G .circuits) c .second)
-  pub x : (c : ℕ) → c < length (G .circuits) → numberAt (k .x) c ≡ circuit (G .circuits) c .x
+  pub network : SameNetwork (networkIn (k .nodes) (length (G .circuits)) (k .reference) (k .first) (k .second) (k .x)) (networkOf G)
   pub lengths : (c : ℕ) → c < length (G .circuits) → numberAt (k .length) c ≡ expandedLength (G .settings) (circuit (G .circuits) c)
   pub short : (c : ℕ) → c < length (G .circuits) → expandedLength (G .settings) (circuit (G .circuits) c) ≤ 30000000000
   pub some : (c : ℕ) → c < length (G .circuits) → leb 1 (expandedLength (G .settings) (circuit (G .circuits) c)) ≡ hasLength (circuit (G .circuits) c)
@@ -78,7 +74,7 @@ module _ (G : Grid) (k : Case) (t : Told G k) (few : k .nodes ≤ 256) (runs : R
 
   length-told : (c : ℕ) → c < length (G .circuits) → signedBy (numberAt (k .length) c) (number (runs .base) (k .nodes + c)) ≡ lengthOf G runs c
   unfolding lengthOf signedLength networkOf
-  length-told c h = rw (t .lengths c h, t .nodes) (signed-is _ _ (t .short c h))
+  length-told c h = rw (t .lengths c h, t .network .ends .nodes) (signed-is _ _ (t .short c h))
 
   offset-told : (system : System) (c : ℕ) → c < length (G .circuits) → offsetAt system k (runs .base) c ≡ offset G runs system c
   unfolding offsetIn offset
@@ -86,18 +82,13 @@ module _ (G : Grid) (k : Case) (t : Told G k) (few : k .nodes ≤ 256) (runs : R
   offset-told Wider c h = rw (t .marks c h, length-told c h) refl
   offset-told Local c h = rw (t .marks c h, length-told c h) refl
 
-  pub net-alike : (system : System) → circuitsIn (k .nodes) (length (runOf runs system)) ≡ length (G .circuits) → solutionIn system k (runs .base) (runOf runs system) ≡ solutionStage G runs system
-  unfolding networkOf proposed
-  net-alike system m = system-alike (netIn k (runOf runs system)) (networkOf G) (offeredIn system k (runs .base) (runOf runs system)) (proposed G runs system) (record {
-    nodes = t .nodes;
-    circuits = m;
-    reference = t .reference;
+  -- 8 to 10 of a system
+  solution-told : (system : System) → circuitsIn (k .nodes) (length (runOf runs system)) ≡ length (G .circuits) → solutionIn system k (runs .base) (runOf runs system) ≡ solutionStage G runs system
+  unfolding proposed
+  solution-told system m = system-same (netIn k (runOf runs system)) (networkOf G) (offeredIn system k (runs .base) (runOf runs system)) (proposed G runs system) (rw m (t .network)) (record {
     system = refl;
     limit = refl;
     run = refl;
-    first = λ c h. t .first c (omega arith);
-    second = λ c h. t .second c (omega arith);
-    x = λ c h. t .x c (omega arith);
     offset = λ c h. offset-told system c (omega arith);
     supply = λ v h. supply-told system v h;
   })
@@ -105,7 +96,7 @@ module _ (G : Grid) (k : Case) (t : Told G k) (few : k .nodes ≤ 256) (runs : R
   -- 11
   clear-same : (c : ℕ) → c < length (G .circuits) → clearBy (k .nodes) (k .length) (runs .base) c ≡ directionClear G runs c
   unfolding directionClear clearBy networkOf
-  clear-same c h = rw (t .lengths c h, t .some c h, t .nodes) refl
+  clear-same c h = rw (t .lengths c h, t .some c h, t .network .ends .nodes) refl
 
   doubt-told : circuitsIn (k .nodes) (length (runs .base)) ≡ length (G .circuits) → doubtIn k (runs .base) ≡ directionStage G runs
   unfolding directionStage
@@ -118,4 +109,4 @@ module _ (G : Grid) (k : Case) (t : Told G k) (few : k .nodes ≤ 256) (runs : R
   pub proposals-told : ((system : System) → circuitsIn (k .nodes) (length (runOf runs system)) ≡ length (G .circuits))
       → proposalsIn k (runs .base) (runs .wider) (runs .local) ≡ proposalsStage G runs
   unfolding proposalsStage runOf
-  proposals-told m = ap₂ _orElse_ (net-alike Base (m Base)) (ap₂ _orElse_ (doubt-told (m Base)) (ap₂ _orElse_ (net-alike Wider (m Wider)) (net-alike Local (m Local))))
+  proposals-told m = ap₂ _orElse_ (solution-told Base (m Base)) (ap₂ _orElse_ (doubt-told (m Base)) (ap₂ _orElse_ (solution-told Wider (m Wider)) (solution-told Local (m Local))))

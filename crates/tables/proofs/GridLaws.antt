@@ -1,36 +1,34 @@
 -- 6, 7 and 13 of a study whose rows are sound, over its columns.
-use mathlib.Core.Path.{_≡_, refl, sym, _∙_, ap, ap₂}
+use mathlib.Core.Path.{_≡_, refl, _∙_, ap, ap₂}
 use mathlib.Core.List.{List}
-use Prim.Native.Nat.{ℕ, _<_}
+use Prim.Native.Nat.{ℕ, _-_, _<_}
 use native.Mathlib.Omega.{arith}
 use lib.ListN.{length}
 use Rattle.integers.proofs.Sum.{sum-same}
 use Rattle.meaning.specs.declared.Kw.{Kw}
 use Rattle.meaning.specs.declared.Judgement.{Judgement}
-use Rattle.meaning.specs.declared.Judgement.the-variants.{Passes}
 use Rattle.meaning.specs.Answers.{_orElse_}
 use Rattle.meaning.specs.Columns.{kilowatts, kwAt}
 use Rattle.meaning.specs.Grid.{gridOf, nodeDemand, nodeTec, payingTec, totalsStage, chargeableStage}
-use Rattle.meaning.specs.Outcome.{rowsStage, gridStage, tablesStage}
+use Rattle.meaning.specs.Network.{networkOf}
+use Rattle.meaning.specs.Outcome.{gridStage, tablesStage}
 use Rattle.meaning.proofs.Answers.{orElse-same}
 use Rattle.meaning.proofs.Rows.{rows-at}
-use Rattle.meaning.proofs.Tables.{Rowwise, rows-pass}
+use Rattle.meaning.proofs.Networks.{SameEnds, reach-same}
 use Rattle.totals.proofs.TotalLaws.{same-totals, some-total}
 use Rattle.layout.specs.Readable.{readable}
 use Rattle.layout.proofs.Rows.{counts-are, few}
+use Rattle.walk.specs.Walk.{walked}
 use Rattle.node_table.specs.Columns.{nodesOf}
 use Rattle.station_table.specs.Tec.{tecOf}
 use Rattle.tables.specs.declared.Opened.{Opened}
 use Rattle.tables.specs.Order.{frameStage}
-use Rattle.tables.specs.Reads.{Reads, SoundRows, totalsOf, chargeableOf, gridIn}
-use Rattle.tables.proofs.ReachLaws.{ends-walk, ends-stage}
-use Rattle.tables.proofs.ReadLaws.{StudyColumns, rows-read, reference-is}
-use Rattle.tables.proofs.OrderLaws.{rows-judged, chain-is}
+use Rattle.tables.specs.Reads.{Reads, totalsOf, chargeableOf, gridIn}
+use Rattle.tables.proofs.ReadLaws.{StudyColumns, rows-read}
+use Rattle.tables.proofs.NetworkLaws.{columns-network}
+use Rattle.tables.proofs.OrderLaws.{chain-is}
 
-module _ (file : List ℕ) {a : Opened} (t : StudyColumns (readable file) a) (p : rowsStage (readable file) ≡ Passes) where
-  rowwise : Rowwise (readable file)
-  rowwise = rows-pass (readable file) .0 p
-
+module _ (file : List ℕ) {a : Opened} (t : StudyColumns (readable file) a) where
   nodes-are : a .counts .nodes ≡ length (readable file .nodes)
   nodes-are = counts-are file (t .counts) .0
 
@@ -46,11 +44,17 @@ module _ (file : List ℕ) {a : Opened} (t : StudyColumns (readable file) a) (p 
   unfolding tecOf
   payers v h = rw (t .tec) (ap (λ (x : Kw). x .0) (rows-at (kilowatts 0) 256 _ v (omega (arith, few file (t .counts) .nodes-low))))
 
-  pub sound-rows : SoundRows a
-  sound-rows =
+  -- 6: the ends that were read are the study's, and none is cut off
+  ends-are : SameEnds (walked (a .counts .nodes) (a .settings .reference - 1) (a .counts .circuits) (a .circuits .first) (a .circuits .second)) (networkOf (gridOf (readable file)))
+  ends-are =
+      let f = few file (t .counts) in
+      let e = columns-network t (omega (arith, counts-are file (t .counts) .1, f .circuits-low)) .ends in
       record {
-        reference = omega (arith, reference-is t, rowwise .settings .reference .least);
-        walks = ends-walk file t rowwise;
+        nodes = omega (arith, e .nodes, f .nodes-low);
+        circuits = omega (arith, e .circuits, f .circuits-low);
+        reference = e .reference;
+        first = λ c h. e .first c (omega arith);
+        second = λ c h. e .second c (omega arith);
       }
 
   totals-are : totalsOf (a .counts .nodes) (a .nodes .demand) (a .tec .scaling) ≡ totalsStage (gridOf (readable file))
@@ -67,17 +71,11 @@ module _ (file : List ℕ) {a : Opened} (t : StudyColumns (readable file) a) (p 
 
   pub grid-judgement : gridIn a ≡ gridStage (gridOf (readable file))
   unfolding gridStage
-  grid-judgement = ap₂ _orElse_ (ends-stage file t rowwise) (ap₂ _orElse_ totals-are chargeable-is)
+  grid-judgement = ap₂ _orElse_ (reach-same ends-are) (ap₂ _orElse_ totals-are chargeable-is)
 
 -- ---- of what was read
 module _ {file : List ℕ} (base wider local : ℕ) {a : Opened} (t : Reads (frameStage file base wider local) file a) where
-  rows-pass-all : a .judgement ≡ Passes → rowsStage (readable file) ≡ Passes
-  rows-pass-all p = rows-judged file base wider local (sym (t .rows) ∙ p)
-
-  pub rows-sound : a .judgement ≡ Passes → SoundRows a
-  rows-sound p = sound-rows file (rows-read t p) (rows-pass-all p)
-
   pub tables-judged : {x : Judgement} → x ≡ (a .judgement orElse gridIn a) → x ≡ tablesStage file base wider local
   tables-judged e =
-      e ∙ orElse-same (a .judgement) (λ p. grid-judgement file (rows-read t p) (rows-pass-all p)) ∙ ap (λ (r : Judgement). r orElse gridStage (gridOf (readable file))) (t .rows)
+      e ∙ orElse-same (a .judgement) (λ p. grid-judgement file (rows-read t p)) ∙ ap (λ (r : Judgement). r orElse gridStage (gridOf (readable file))) (t .rows)
       ∙ chain-is file base wider local

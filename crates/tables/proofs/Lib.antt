@@ -1,7 +1,6 @@
-pub mod WalkLaws
 pub mod OrderLaws
 pub mod ReadLaws
-pub mod ReachLaws
+pub mod NetworkLaws
 pub mod GridLaws
 pub mod FrameLaws
 pub mod Sound

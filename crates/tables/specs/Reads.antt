@@ -1,7 +1,7 @@
 -- What 6, 7 and 13 are told: a file whose rows were read and judged.
 use mathlib.Core.Path.{_≡_}
 use mathlib.Core.List.{List}
-use Prim.Native.Nat.{ℕ, _-_, _≤_}
+use Prim.Native.Nat.{ℕ, _-_}
 use lib.Dec.{leb}
 use Rattle.meaning.specs.declared.Judgement.{Judgement}
 use Rattle.meaning.specs.declared.Refusal.the-variants.{BadTotal, NoChargeableTec}
@@ -10,9 +10,8 @@ use Rattle.meaning.specs.Answers.{_orElse_, unless}
 use Rattle.meaning.specs.Grid.{soundTotals}
 use Rattle.meaning.specs.Network.{reachStage}
 use Rattle.totals.specs.Totals.{totalOf}
+use Rattle.walk.specs.Walk.{walked}
 use Rattle.tables.specs.declared.Opened.{Opened}
-use Rattle.tables.specs.declared.reach.Ends.{Ends}
-use Rattle.tables.specs.Walk.{Walks, endsNetwork}
 use Rattle.tables.specs.Order.{thenStations}
 use Rattle.tables.specs.Opens.{Columns}
 
@@ -20,17 +19,6 @@ use Rattle.tables.specs.Opens.{Columns}
 pub record Reads (frame : Judgement) (file : List ℕ) (o : Opened) : Type 0 where
   pub rows : o .judgement ≡ thenStations frame file
   pub columns : Columns frame file o
-
--- the circuits' ends, for the walk from the reference
-abbrev pub endsOf : Opened → Ends
-endsOf a =
-    record {
-      nodes = a .counts .nodes;
-      reference = a .settings .reference - 1;
-      circuits = a .counts .circuits;
-      first = a .circuits .first;
-      second = a .circuits .second;
-    }
 
 -- 7, of the columns of n nodes
 abbrev pub totalsOf : (n : ℕ) (demand tec : List Kw) → Judgement
@@ -43,10 +31,6 @@ chargeableOf n paying = unless (leb 1 (totalOf n paying .0)) NoChargeableTec
 -- 6, 7 and 13 of what was read
 abbrev pub gridIn : Opened → Judgement
 gridIn a =
-    reachStage (endsNetwork (endsOf a)) orElse totalsOf (a .counts .nodes) (a .nodes .demand) (a .tec .scaling)
+    reachStage (walked (a .counts .nodes) (a .settings .reference - 1) (a .counts .circuits) (a .circuits .first) (a .circuits .second))
+    orElse totalsOf (a .counts .nodes) (a .nodes .demand) (a .tec .scaling)
     orElse chargeableOf (a .counts .nodes) (a .tec .paying)
-
--- what 6 is told: rows that are sound
-pub record SoundRows (a : Opened) : Type 0 where
-  pub reference : 1 ≤ a .settings .reference
-  pub walks : Walks (endsOf a)

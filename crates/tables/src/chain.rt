@@ -1,17 +1,15 @@
 // The stages in 01's order: what stops first is the judgement.
 use crate::Opened;
-use crate::reach;
-use crate::reach::Ends;
 use answers::or_else;
 use meaning::Judgement;
 use meaning::Kw;
 use meaning::Refusal;
 ghost use mathlib.Core.Path.{_≡_};
 ghost use mathlib.Core.Bool.{_&&_};
+ghost use Prim.Native.Nat.{_-_};
 ghost use lib.Dec.{eqb};
-ghost use Rattle.meaning.specs.declared.Judgement.the-variants.{Passes};
 ghost use Rattle.meaning.specs.Answers.{_orElse_};
-ghost use Rattle.tables.specs.Reads.{SoundRows, endsOf, totalsOf, chargeableOf, gridIn};
+ghost use Rattle.tables.specs.Reads.{totalsOf, chargeableOf, gridIn};
 
 // Whether the three runs have this length.
 pub fn same_lengths(base: usize, wider: usize, local: usize, count: usize) -> bool
@@ -20,23 +18,14 @@ pub fn same_lengths(base: usize, wider: usize, local: usize, count: usize) -> bo
     (base == count) & (wider == count) & (local == count)
 }
 
-// The circuits' ends, for the walk.
-pub fn ends(all: Opened) -> Ends
-    requires { ⌜ SoundRows all ⌝ }
-    ensures { λ r. ⌜ r ≡ endsOf all ⌝ }
+// A row's number counted from 0; 0 where there is no row.
+pub fn from_zero(row: usize) -> usize
+    ensures { λ r. ⌜ r ≡ row - 1 ⌝ }
 {
-    let counts = all.counts;
-    let settings = all.settings;
-    let circuits = all.circuits;
-    let first = circuits.first;
-    let second = circuits.second;
-    Ends {
-        nodes: counts.nodes,
-        reference: settings.reference - 1,
-        circuits: counts.circuits,
-        first,
-        second,
+    if row < 1 {
+        return 0;
     }
+    row - 1
 }
 
 // 7: a total out of its range, or less TEC than demand.
@@ -61,16 +50,20 @@ pub fn chargeable_stage(n: usize, paying: [Kw; 256]) -> Judgement
 
 // 6, 7 and 13.
 pub fn grid_stage(all: Opened) -> Judgement
-    requires { ⌜ SoundRows all ⌝ }
     ensures { λ r. ⌜ r ≡ gridIn all ⌝ }
 {
     let counts = all.counts;
+    let settings = all.settings;
     let nodes = all.nodes;
+    let circuits = all.circuits;
     let tec = all.tec;
+    let first = circuits.first;
+    let second = circuits.second;
+    let reference = from_zero(settings.reference);
     let demand = nodes.demand;
     let scaling = tec.scaling;
     let paying = tec.paying;
-    let reached = reach::stage(ends(all));
+    let reached = walk::stage(counts.nodes, reference, counts.circuits, &first, &second);
     let totalled = totals_stage(counts.nodes, demand, scaling);
     let charged = chargeable_stage(counts.nodes, paying);
     or_else(reached, or_else(totalled, charged))
@@ -78,7 +71,6 @@ pub fn grid_stage(all: Opened) -> Judgement
 
 // 1 to 7 and 13: what stops the rows that were read, else 6, 7 and 13.
 pub fn judgement(all: Opened) -> Judgement
-    requires { ⌜ (all .judgement ≡ Passes → SoundRows all) ⌝ }
     ensures { λ r. ⌜ r ≡ (all .judgement orElse gridIn all) ⌝ }
 {
     let rows = all.judgement;

@@ -1,6 +1,5 @@
 // The case file judged: refusals 1 to 7 of document 01, then 13 of document 02, and the columns of a file.
 mod chain;
-mod reach;
 mod read;
 mod settings;
 

@@ -2,7 +2,7 @@
 use Rattle.tables.specs.Order.{frameStage}
 use Rattle.tables.specs.Reads.{Reads}
 use Rattle.tables.proofs.ReadLaws.{columns-kept}
-use Rattle.tables.proofs.GridLaws.{rows-sound, tables-judged}
+use Rattle.tables.proofs.GridLaws.{tables-judged}
 use borrow.Author.Needs.{needs}
 use Rattle.tables.proofs.open.Statement.{statement}
 use Rattle.tables.proofs.open.Tie as tie
@@ -17,7 +17,7 @@ tables-requires : tie.Need-tables-requires
 tables-requires c κs = search needs
 
 judgement-requires : tie.Need-judgement-requires
-judgement-requires c κs = rows-sound _ _ _ (rows-of c)
+judgement-requires c κs = search needs
 
 with-judgement-requires : tie.Need-with-judgement-requires
 with-judgement-requires c κs = search needs

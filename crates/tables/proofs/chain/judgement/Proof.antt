@@ -12,7 +12,7 @@ enum-told : tie.Need-enum-told
 enum-told c = search needs
 
 grid-stage-requires : tie.Need-grid-stage-requires
-grid-stage-requires c κs = c .before .before .pre (c .enum-told .given .1)
+grid-stage-requires c κs = search needs
 
 returns : tie.Need-returns
 returns c = stops-first _ refl (c .before .rows .given .1)

@@ -1,0 +1,3 @@
+-- Laws of bits and of sets of them.
+pub mod Bits
+pub mod Sets
