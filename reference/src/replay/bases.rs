@@ -224,6 +224,21 @@ pub fn station(identifier: &str, node: &str, tec: u32) -> StationRow {
     StationRow { identifier: name(identifier), node: name(node), plant: 7, tec }
 }
 
+/// Every circuit with its ends turned round: the same network.
+pub fn turned(case: &mut Case) {
+    case.circuits.iter_mut().for_each(turn);
+}
+
+/// Every second circuit, from the first on, with its ends turned round.
+pub fn every_second_turned(case: &mut Case) {
+    case.circuits.iter_mut().step_by(2).for_each(turn);
+}
+
+/// A circuit's ends turned round.
+fn turn(row: &mut CircuitRow) {
+    std::mem::swap(&mut row.first, &mut row.second);
+}
+
 /// Numbers of zero for as many rows as a case has.
 pub fn zeros(case: &Case) -> [Vec<i64>; 3] {
     std::array::from_fn(|_| vec![0; case.nodes.len() + case.circuits.len()])

@@ -22,6 +22,7 @@ mod proposals;
 mod settings;
 mod stations;
 mod versions;
+mod walks;
 
 use crate::file::Case;
 use crate::{program_output, solver};
@@ -77,6 +78,7 @@ pub fn cases() -> Vec<Labelled> {
         halves::add,
         factors::add,
         versions::add,
+        walks::add,
     ];
     let mut list = List::default();
     groups.iter().for_each(|add| add(&mut list));

@@ -1,6 +1,8 @@
 //! 01 "What stops a case", 6 and 7: reach and totals.
 
-use super::bases::{circuit, kiln, kiln_of_four, name, named_case, node, pair, station, zeros};
+use super::bases::{
+    circuit, every_second_turned, kiln, kiln_of_four, name, named_case, node, pair, station, turned, zeros,
+};
 use super::{solved, List};
 use crate::file::Case;
 
@@ -61,11 +63,6 @@ fn path(nodes: usize) -> Case {
 
 /// Paths that are found only by walking backwards, only at the end of the table, or not at all.
 fn add_paths(list: &mut List) {
-    let turned = |case: &mut Case| {
-        for row in &mut case.circuits {
-            std::mem::swap(&mut row.first, &mut row.second);
-        }
-    };
     list.solved("a path of 12", &path(12), |_| ());
     list.solved("a path of 12, reached only backwards", &path(12), turned);
     list.solved("a path of 12, its circuits from the far end", &path(12), |case| case.circuits.reverse());
@@ -79,12 +76,7 @@ fn add_paths(list: &mut List) {
         case.settings.reference = 12;
     };
     list.solved("a path of 12, the reference last", &path(12), last);
-    let every_second = |case: &mut Case| {
-        for row in case.circuits.iter_mut().step_by(2) {
-            std::mem::swap(&mut row.first, &mut row.second);
-        }
-    };
-    list.solved("a path of 12, every second circuit turned", &path(12), every_second);
+    list.solved("a path of 12, every second circuit turned", &path(12), every_second_turned);
     list.solved("a path of 12, all marked", &path(12), |case| case.circuits.iter_mut().for_each(|row| row.mark = 1));
     list.solved("a path of 12 without length", &path(12), |case| {
         case.circuits.iter_mut().for_each(|row| row.overhead = 0)
