@@ -72,12 +72,39 @@ fn without_doubt(mut case: Case) -> Case {
     solved(&case).0
 }
 
-/// A chain whose circuits stand in the order that a walk from its end likes least.
-pub fn chain() -> Case {
-    let mut case = sized(256, 512, 512);
-    case.circuits.truncate(255);
-    case.circuits.reverse();
-    without_doubt(case)
+/// Chains of 256 nodes with 512 stations, their circuits in different orders, and the largest case with its circuits in none: a label, and what is lent.
+pub fn walks() -> Vec<(&'static str, Input)> {
+    let mut rising = sized(256, 512, 512);
+    rising.circuits.truncate(255);
+    let order = |label, change: fn(&mut Case)| {
+        let mut case = rising.clone();
+        change(&mut case);
+        (label, Input::of(&without_doubt(case)))
+    };
+    let (_, mut cut) = order("", |case| case.circuits.reverse());
+    // The falling table's first circuit leads to the last node: moved, it leaves that node alone.
+    let end = cut.file[64 + 24 * 256 + 44..][..24].to_vec();
+    cut.file[64 + 24 * 256..][..24].copy_from_slice(&end);
+    let mut mesh = largest();
+    shuffle(&mut mesh.circuits);
+    vec![
+        ("chain, rising", order("", |_| ()).1),
+        ("chain, falling", order("", |case| case.circuits.reverse()).1),
+        ("chain, shuffled", order("", |case| shuffle(&mut case.circuits)).1),
+        ("chain, falling, last node cut", cut),
+        ("the largest case, shuffled", Input::of(&solved(&mesh).0)),
+    ]
+}
+
+/// The same disorder each time.
+fn shuffle(rows: &mut [CircuitRow]) {
+    let mut state = 88_172_645_463_325_252u64;
+    for last in (1..rows.len()).rev() {
+        state ^= state << 13;
+        state ^= state >> 7;
+        state ^= state << 17;
+        rows.swap(last, (state % (last as u64 + 1)) as usize);
+    }
 }
 
 /// The largest case with one thing wrong, for each stage, late in its table: a label, and what is lent.

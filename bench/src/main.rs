@@ -142,8 +142,10 @@ fn growth() {
     for stations in [64, 128, 256, 512] {
         line(&stations.to_string(), &Input::of(&cases::sized(256, 512, stations)));
     }
-    heading("a chain, its table reversed");
-    line("256 nodes, 255 circuits", &Input::of(&cases::chain()));
+    heading("walks: 256 nodes, 512 st.");
+    for (label, input) in cases::walks() {
+        line(label, &input);
+    }
     heading("version 2, with factors");
     line("256 nodes, 480 c., 512 st.", &Input::of(&cases::greatest_of_version_2()));
 }

@@ -9,6 +9,7 @@ mod fields;
 mod proposal;
 mod sheet;
 mod tables;
+mod walk;
 
 use crate::answer::{accepted, refused, Answer};
 

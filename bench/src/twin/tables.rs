@@ -2,6 +2,7 @@
 
 use super::columns::{own_factor, Columns, Settings, Stations};
 use super::fields::{key_at, name_at, name_formed, repeated, u32_at};
+use super::walk::unreached;
 use crate::answer::{refused, Answer};
 
 type Judged = Result<(), Answer>;
@@ -106,26 +107,9 @@ fn stations(file: &[u8], c: &Columns, s: &Stations) -> Judged {
     Ok(())
 }
 
-/// Goes over all circuits until that marks nothing more.
 fn reach(c: &Columns) -> Judged {
-    let mut marks = [false; 256];
-    marks[c.settings.reference - 1] = true;
-    loop {
-        let mut more = false;
-        for i in 0..c.circuits {
-            let (a, b) = (c.first[i], c.second[i]);
-            if marks[a] != marks[b] {
-                marks[a] = true;
-                marks[b] = true;
-                more = true;
-            }
-        }
-        if !more {
-            break;
-        }
-    }
-    match (0..c.nodes).find(|v| !marks[*v]) {
-        Some(v) => refuse(6, v + 1),
+    match unreached(c) {
+        Some(node) => refuse(6, node + 1),
         None => Ok(()),
     }
 }

@@ -1,0 +1,52 @@
+//! What a walk along the circuits reaches from the reference: sets of nodes, one bit a node in four words.
+
+use super::columns::Columns;
+
+type Set = [u64; 4];
+
+fn in_word(w: usize, word: u64, node: usize) -> bool {
+    node / 64 == w && (word >> (node % 64)) & 1 == 1
+}
+
+fn add(set: &mut Set, node: usize) {
+    set[node / 64] |= 1 << (node % 64);
+}
+
+/// The lowest number in the set.
+fn lowest(set: &Set) -> Option<usize> {
+    let w = set.iter().position(|word| *word != 0)?;
+    Some(64 * w + set[w].trailing_zeros() as usize)
+}
+
+fn without(a: &Set, b: &Set) -> Set {
+    std::array::from_fn(|w| a[w] & !b[w])
+}
+
+fn size(set: &Set) -> usize {
+    set.iter().map(|word| word.count_ones() as usize).sum()
+}
+
+/// The nodes reached. The next node that waits is visited with the others of its word that wait.
+fn reached(c: &Columns) -> Set {
+    let (mut reached, mut visited) = ([0; 4], [0; 4]);
+    add(&mut reached, c.settings.reference - 1);
+    while size(&reached) < c.nodes {
+        let waiting = without(&reached, &visited);
+        let Some(next) = lowest(&waiting) else { break };
+        let w = next / 64;
+        let word = waiting[w];
+        for (first, second) in c.first[..c.circuits].iter().zip(&c.second[..c.circuits]) {
+            if in_word(w, word, *first) || in_word(w, word, *second) {
+                add(&mut reached, *first);
+                add(&mut reached, *second);
+            }
+        }
+        visited[w] |= word;
+    }
+    reached
+}
+
+/// The lowest node that is not reached, if there is one.
+pub fn unreached(c: &Columns) -> Option<usize> {
+    lowest(&without(&[u64::MAX; 4], &reached(c))).filter(|node| *node < c.nodes)
+}
