@@ -1,5 +1,5 @@
 -- Bits of one word under `|`, `^`, `&` and `<<`, its trailing zeros and its ones.
-use Prim.Native.Nat.{ℕ, zero, suc, _+_, _*_, _-_, _/_, _%_, _^_, _<_, _≤_, max, min}
+use Prim.Native.Nat.{ℕ, zero, suc, _+_, _*_, _-_, _/_, _%_, _^_, _<_, max, min}
 use mathlib.Core.Path.{_≡_, refl, sym, ap, ap₂, _∙_}
 use mathlib.Core.Logic.{⊎-elim, _⊎_, inl, inr, _≢_}
 use native.Mathlib.Nat.{one-mul, div-self, div-eq-of-lt, div-one, pow-succ'}
@@ -9,7 +9,7 @@ use lib.Bits.{bitOr, bitAnd, bitXor, differ, or-shr, or-step, and-shr, and-step,
 use lib.Count.{ones, ones-step, trailingZeros, trailing-le}
 use lib.Pow.{shl-exact, pow-pos, pow-lt, pow-add, shr-shr, shl-shr}
 use Rattle.integers.specs.Numbers.{sum}
-use Rattle.integers.proofs.Sum.{sum-zero, sum-front}
+use Rattle.integers.proofs.Sum.{sum-front}
 use Rattle.bits.specs.Sets.{bit}
 use Rattle.bits.specs.Words.{Lowest}
 

@@ -1,15 +1,15 @@
 -- Sets as words: what one bit more, two sets together, the ones and the trailing zeros say of the numbers in a set.
 use Prim.Native.Nat.{ℕ, zero, suc, _+_, _*_, _-_, _/_, _%_, _^_, _<_, _≤_, max}
-use mathlib.Core.Path.{_≡_, refl, sym, ap, ap₂, _∙_}
-use mathlib.Core.Logic.{_⊎_, inl, inr, _≢_}
+use mathlib.Core.Path.{_≡_, refl, sym, ap, _∙_}
+use mathlib.Core.Logic.{_≢_}
 use mathlib.Core.List.{List, [], _∷_}
-use mathlib.Core.Bool.{Bool, true, false, cond, not, true≢false, _&&_, _||_}
+use mathlib.Core.Bool.{Bool, true, false, cond, not, true≢false, _&&_, _||_, or-false, and-true, and-false}
 use native.Mathlib.Decide.{decLt, ℕ-discrete}
 use native.Mathlib.Omega.{arith}
 use native.Mathlib.Nat.{zero-sub}
 use lib.Dec.{eqb, ltb}
 use lib.Bits.{bitOr}
-use lib.ListN.{length, getD, set, length-set, List·getD-eq-default}
+use lib.ListN.{length, getD, set, List·getD-eq-default}
 use lib.Seq.{getD-set-same, getD-set-other, ext-getD}
 use borrow.Author.Tests.{eq-eqb, ne-eqb, lt-ltb, le-ltb}
 use Rattle.integers.specs.Numbers.{sum, count}
@@ -73,18 +73,6 @@ module _ (a b : List ℕ) (la : length a ≡ 4) (lb : length b ≡ 4) where
       each (suc (suc (suc (suc i)))) k l = absurd (omega arith)
 
 -- ---- the numbers of one word
-or-false : (b : Bool) → b ≡ (b || false)
-or-false true = refl
-or-false false = refl
-
-and-false : (b : Bool) → (b && false) ≡ false
-and-false true = refl
-and-false false = refl
-
-and-true : (b : Bool) → (b && true) ≡ b
-and-true true = refl
-and-true false = refl
-
 pub in-word : (w word n : ℕ) → n / 64 ≡ w → eqb (bit word (n % 64)) 1 ≡ inWord w word n
 unfolding inWord
 in-word w word n q = rw (eq-eqb (n / 64) w q) refl
@@ -118,10 +106,10 @@ with-word-has words w word l h m = go (ℕ-discrete (m / 64) w)
     go (yes q) =
         rw (q, eq-eqb w w refl, lt-ltb w 4 h, getD-set-same words w new 0 (omega arith), bit-or (getD words w 0) word (m % 64))
         (max-says _ _ (bit-lt _ _) (bit-lt _ _))
-    go (no q) = rw (ne-eqb (m / 64) w q, getD-set-other words w (m / 64) new 0 q, and-false (ltb w 4)) (or-false _)
+    go (no q) = rw (ne-eqb (m / 64) w q, getD-set-other words w (m / 64) new 0 q, and-false (ltb w 4)) (sym (or-false _))
 
 pub with-word-none : (words : List ℕ) (w word : ℕ) → 4 ≤ w → SetOf words (λ m. has words m || (ltb w 4 && inWord w word m))
-with-word-none words w word h m = rw (le-ltb w 4 h) (or-false _)
+with-word-none words w word h m = rw (le-ltb w 4 h) (sym (or-false _))
 
 -- one bit of it is one number
 pub one-bit : (n m : ℕ) → (ltb (n / 64) 4 && inWord (n / 64) (2 ^ (n % 64)) m) ≡ (eqb m n && ltb m 256)
@@ -146,8 +134,8 @@ pub with-none : (words : List ℕ) (n limit : ℕ) → limit ≤ n → SetOf wor
 with-none words n limit h m = go (ℕ-discrete m n)
   where
     go : Dec (m ≡ n) → has words m ≡ (has words m || (eqb m n && ltb m limit))
-    go (yes q) = rw (q, eq-eqb n n refl, le-ltb n limit h) (or-false _)
-    go (no q) = rw (ne-eqb m n q) (or-false _)
+    go (yes q) = rw (q, eq-eqb n n refl, le-ltb n limit h) (sym (or-false _))
+    go (no q) = rw (ne-eqb m n q) (sym (or-false _))
 
 pub with-within : (words more : List ℕ) (n limit other : ℕ) → n < limit → n < other → SetOf more (λ m. has words m || (eqb m n && ltb m limit))
     → SetOf more (λ m. has words m || (eqb m n && ltb m other))

@@ -1,5 +1,5 @@
 // The entry called with KILN, lent buffers of several lengths and runs of wrong lengths: prints each answer's values, and whether the buffer changed.
-// Then the line of a refusal, into a buffer that is long enough and one that is a byte too short.
+// Then the line of a refusal, into a buffer that is long enough and one that is a byte too short; and walks along ends that no sound table has.
 use libc::STDIN_FILENO;
 use libc::STDOUT_FILENO;
 use meaning::Refusal;
@@ -100,6 +100,47 @@ fn lines() {
     refuse(&mut short);
 }
 
+// A number, where it is in the set.
+fn print_member(set: [u64; 4], n: usize) {
+    if bits::has(set, n) {
+        print_number(n);
+    }
+}
+
+// The numbers of a set, past its last word too.
+fn print_set(set: [u64; 4]) {
+    let mut n: usize = 0;
+    while n < 600 {
+        print_member(set, n);
+        n += 1;
+    }
+    io::write_all(STDOUT_FILENO, b"\n");
+}
+
+// The nodes that a walk reaches along two circuits, a to b and c to d.
+fn walk(nodes: usize, reference: usize, a: usize, b: usize, c: usize, d: usize) {
+    let mut first = [0usize; 512];
+    let mut second = [0usize; 512];
+    first[0] = a;
+    second[0] = b;
+    first[1] = c;
+    second[1] = d;
+    print_set(walk::reached(nodes, reference, 2, &first, &second));
+}
+
+// Ends that are no nodes lead nowhere, from a reference that is no node nothing is reached, and past 256 nodes and 512 circuits there are none.
+fn walks() {
+    walk(5, 4, 1, 0, 4, 1);
+    walk(5, 1, 1, 9, 9, 2);
+    walk(65, 64, 65, 64, 0, 64);
+    walk(256, 0, 255, 0, 256, 255);
+    walk(1000, 255, 256, 255, 319, 255);
+    walk(5, 5, 5, 1, 5, 2);
+    walk(0, 0, 0, 1, 1, 2);
+    let ends = [1usize; 512];
+    print_set(walk::reached(2, 0, 1000, &ends, &ends));
+}
+
 fn main() {
     let mut input = io::buffer();
     let read = io::read_full(STDIN_FILENO, &mut input);
@@ -111,4 +152,5 @@ fn main() {
     let long = run_at(file, 380);
     wrong_runs(file, &base[0..6], &wider[0..6], &local[0..6], &long);
     lines();
+    walks();
 }

@@ -7,6 +7,7 @@ pub mod Answers
 pub mod Table
 pub mod Kept
 pub mod Order
+pub mod Tests
 pub mod Walk
 pub mod Networks
 pub mod Plants

@@ -27,31 +27,15 @@ unfolding _orElse_ shown
 judged-after stage Passes file e = e
 judged-after stage (Stops r) file e = e
 
--- ---- 1 to 5 pass exactly where each does
+-- ---- where 1 to 5 pass, so do 1 to 3, after which circuits are read, and 1 to 4, after which stations are
 pub record Passed (frame : Judgement) (file : List ℕ) : Type 0 where
-  pub before : frame ≡ Passes
-  pub nodes : nodesStage (readable file) ≡ Passes
-  pub circuits : circuitsStage (readable file) ≡ Passes
-  pub stations : stationsStage (readable file) ≡ Passes
   pub toNodes : thenNodes frame file ≡ Passes
   pub toCircuits : thenCircuits frame file ≡ Passes
 
 pub rows-passed : (frame : Judgement) (file : List ℕ) → thenStations frame file ≡ Passes → Passed frame file
-rows-passed frame file p =
-    let s = passes-orElse _ _ .0 p in
-    let c = passes-orElse _ _ .0 (s .0) in
-    let n = passes-orElse _ _ .0 (c .0) in
-    record { before = n .0; nodes = n .1; circuits = c .1; stations = s .1; toNodes = c .0; toCircuits = s .0 }
+rows-passed frame file p = let s = passes-orElse _ _ .0 p in record { toNodes = passes-orElse _ _ .0 (s .0) .0; toCircuits = s .0 }
 
 module _ (file : List ℕ) (base wider local : ℕ) where
-  -- 2 to 5, of what is read
-  pub rows-judged : thenStations (frameStage file base wider local) file ≡ Passes → rowsStage (readable file) ≡ Passes
-  unfolding rowsStage frameStage
-  rows-judged p =
-      let r = rows-passed _ file p in
-      let s = passes-orElse _ _ .0 (passes-orElse _ _ .0 (r .before) .1) .1 in
-      passes-orElse _ _ .1 (s, passes-orElse _ _ .1 (r .nodes, passes-orElse _ _ .1 (r .circuits, r .stations)))
-
   -- 1 to 7 and 13 in their order: a file that is not whole is stopped before its study matters
   later : Study → Judgement
   later S = rowsStage S orElse gridStage (gridOf S)

@@ -13,7 +13,7 @@ use Rattle.meaning.proofs.Walk.{Joins}
 use Rattle.meaning.proofs.Rows.{below-suc}
 use Rattle.bits.specs.Sets.{has, SetOf}
 use Rattle.walk.specs.Walk.{NextFrom, Followed}
-use Rattle.walk.proofs.Tests.{or-either, or-first, or-second, and-both}
+use Rattle.meaning.proofs.Tests.{or-elim, or-left, or-right, and-elim}
 
 -- ---- a search from a row on, as far as c
 pub record Sought (test : ℕ → Bool) (from m c : ℕ) : Type 0 where
@@ -50,8 +50,8 @@ module _ (N : Network) (visited : ℕ → Bool) where
   ends c = visited (N .first c) || visited (N .second c)
 
   joins-ends : (c u v : ℕ) → visited u ≡ true → Joins N c u v → ends c ≡ true
-  joins-ends c u v e (inl p) = or-first (visited (N .first c)) (visited (N .second c)) (rw (p .0) e)
-  joins-ends c u v e (inr p) = or-second (visited (N .first c)) (visited (N .second c)) (rw (p .0) e)
+  joins-ends c u v e (inl p) = or-left (visited (N .first c)) (visited (N .second c)) (rw (p .0) e)
+  joins-ends c u v e (inr p) = or-right (visited (N .first c)) (visited (N .second c)) (rw (p .0) e)
 
   followed-none : (old : List ℕ) → Followed N visited 0 old old
   followed-none old = record { kept = λ v e. e; full = λ j u v h. absurd (omega arith); sound = λ P h on. h }
@@ -73,27 +73,27 @@ module _ (N : Network) (visited : ℕ → Bool) where
     added v end l q = rw (eq-eqb v end (sym q), lt-ltb v (N .nodes) l) refl
 
     from-middle : (v : ℕ) → has middle v ≡ true → has more v ≡ true
-    from-middle v p = second v ∙ or-first (has middle v) _ p
+    from-middle v p = second v ∙ or-left (has middle v) _ p
 
     grown : (v : ℕ) → has new v ≡ true → has more v ≡ true
-    grown v p = from-middle v (first v ∙ or-first (has new v) _ p)
+    grown v p = from-middle v (first v ∙ or-left (has new v) _ p)
 
     led : (u v : ℕ) → v < N .nodes → Joins N c u v → has more v ≡ true
-    led u v l (inl p) = second v ∙ or-second (has middle v) _ (added v (N .second c) l (p .1))
-    led u v l (inr p) = from-middle v (first v ∙ or-second (has new v) _ (added v (N .first c) l (p .1)))
+    led u v l (inl p) = second v ∙ or-right (has middle v) _ (added v (N .second c) l (p .1))
+    led u v l (inr p) = from-middle v (first v ∙ or-right (has new v) _ (added v (N .first c) l (p .1)))
 
     module _ (P : ℕ → Bool) (was : (v : ℕ) → has old v ≡ true → P v ≡ true)
         (on : (j u v : ℕ) → j < N .circuits → v < N .nodes → Joins N j u v → P u ≡ true → P v ≡ true) where
       -- of two ends one is visited, and leads to the other
       end-first : N .first c < N .nodes → P (N .first c) ≡ true
-      end-first l = go (or-either (visited (N .first c)) (visited (N .second c)) e)
+      end-first l = go (or-elim (visited (N .first c)) (visited (N .second c)) e)
         where
           go : (visited (N .first c) ≡ true) ⊎ (visited (N .second c) ≡ true) → P (N .first c) ≡ true
           go (inl p) = was (N .first c) (within (N .first c) p)
           go (inr p) = on c (N .second c) (N .first c) h l (inr (refl, refl)) (was (N .second c) (within (N .second c) p))
 
       end-second : N .second c < N .nodes → P (N .second c) ≡ true
-      end-second l = go (or-either (visited (N .first c)) (visited (N .second c)) e)
+      end-second l = go (or-elim (visited (N .first c)) (visited (N .second c)) e)
         where
           go : (visited (N .first c) ≡ true) ⊎ (visited (N .second c) ≡ true) → P (N .second c) ≡ true
           go (inl p) = on c (N .first c) (N .second c) h l (inl (refl, refl)) (was (N .first c) (within (N .first c) p))
@@ -101,19 +101,19 @@ module _ (N : Network) (visited : ℕ → Bool) where
 
       at-end : (v end : ℕ) → (end < N .nodes → P end ≡ true) → (eqb v end && ltb v (N .nodes)) ≡ true → P v ≡ true
       at-end v end there p =
-          let q = and-both (eqb v end) (ltb v (N .nodes)) p in
+          let q = and-elim (eqb v end) (ltb v (N .nodes)) p in
           let r = eqb-true v end (q .0) in
           rw r (there (rw (sym r) (ltb-true v (N .nodes) (q .1))))
 
       still : (v : ℕ) → has more v ≡ true → P v ≡ true
-      still v p = go (or-either (has middle v) _ (sym (second v) ∙ p))
+      still v p = go (or-elim (has middle v) _ (sym (second v) ∙ p))
         where
           before : (has new v ≡ true) ⊎ ((eqb v (N .first c) && ltb v (N .nodes)) ≡ true) → P v ≡ true
           before (inl q) = s .sound P was on v q
           before (inr q) = at-end v (N .first c) end-first q
 
           go : (has middle v ≡ true) ⊎ ((eqb v (N .second c) && ltb v (N .nodes)) ≡ true) → P v ≡ true
-          go (inl q) = before (or-either (has new v) _ (sym (first v) ∙ q))
+          go (inl q) = before (or-elim (has new v) _ (sym (first v) ∙ q))
           go (inr q) = at-end v (N .second c) end-second q
 
     followed-more : Followed N visited (c + 1) old more

@@ -5,7 +5,6 @@ use mathlib.Core.List.{List}
 use mathlib.Core.Bool.{Bool, true, false, true≢false, not, _&&_, _||_}
 use Prim.Native.Nat.{ℕ, _+_, _-_, _/_, _≤_, _<_}
 use native.Mathlib.Omega.{arith}
-use native.Mathlib.Decide.{decLt}
 use lib.Dec.{eqb, ltb}
 use lib.ListN.{getD}
 use borrow.Author.Tests.{eq-eqb, eqb-true, ltb-true, lt-ltb}
@@ -21,7 +20,7 @@ use Rattle.meaning.proofs.Walk.{Joins, reached-in, reached-home, reached-on, re
 use Rattle.bits.specs.Sets.{has, inWord, SetOf}
 use Rattle.bits.proofs.Sets.{word-has, own-word}
 use Rattle.walk.specs.Walk.{Followed}
-use Rattle.walk.proofs.Tests.{or-either, or-first, or-second, and-both, not-false, not-true}
+use Rattle.meaning.proofs.Tests.{or-elim, or-left, or-right, and-elim, not-false, not-true}
 
 -- ---- what a walk has found: all of it is reached, and of each node visited the circuits were followed
 pub record Walking (N : Network) (reached visited : List ℕ) : Type 0 where
@@ -36,12 +35,12 @@ module _ {N : Network} where
     where
       sound : (v : ℕ) → has reached v ≡ true → marked (reachedNodes N) v ≡ true
       sound v e =
-          let p = and-both (eqb v (N .reference)) (ltb v (N .nodes)) (sym (rw (empty v) at (holds v)) ∙ e) in
+          let p = and-elim (eqb v (N .reference)) (ltb v (N .nodes)) (sym (rw (empty v) at (holds v)) ∙ e) in
           let q = eqb-true v (N .reference) (p .0) in
           rw q (reached-home N (rw (sym q) (ltb-true v (N .nodes) (p .1))))
 
       home : N .reference < N .nodes → has reached (N .reference) ≡ true
-      home h = holds (N .reference) ∙ or-second (has none (N .reference)) (eqb (N .reference) (N .reference) && ltb (N .reference) (N .nodes)) (rw (eq-eqb (N .reference) (N .reference) refl, lt-ltb (N .reference) (N .nodes) h) refl)
+      home h = holds (N .reference) ∙ or-right (has none (N .reference)) (eqb (N .reference) (N .reference) && ltb (N .reference) (N .nodes)) (rw (eq-eqb (N .reference) (N .reference) refl, lt-ltb (N .reference) (N .nodes) h) refl)
 
   -- nodes that were reached are visited: what their circuits lead to is reached too
   pub walk-on : {reached visited wider more : List ℕ} {now : ℕ → Bool} → Walking N reached visited → Followed N now (N .circuits) reached wider
@@ -90,27 +89,27 @@ module _ (reached visited waiting : List ℕ) (holds : SetOf waiting (λ m. has 
 
   pub visits-reached : (v : ℕ) → visits v ≡ true → has reached v ≡ true
   visits-reached v e =
-      let here = and-both (eqb (v / 64) w) (has waiting v) (sym (word-has waiting w v) ∙ e) .1 in
-      and-both (has reached v) (not (has visited v)) (sym (holds v) ∙ here) .0
+      let here = and-elim (eqb (v / 64) w) (has waiting v) (sym (word-has waiting w v) ∙ e) .1 in
+      and-elim (has reached v) (not (has visited v)) (sym (holds v) ∙ here) .0
 
   module _ (more : List ℕ) (marks : SetOf more (λ m. has visited m || (ltb w 4 && inWord w (getD waiting w 0) m))) where
     pub visited-now : (v : ℕ) → has more v ≡ true → (has visited v ≡ true) ⊎ (visits v ≡ true)
-    visited-now v e = go (or-either (has visited v) _ (sym (marks v) ∙ e))
+    visited-now v e = go (or-elim (has visited v) _ (sym (marks v) ∙ e))
       where
         go : (has visited v ≡ true) ⊎ ((ltb w 4 && visits v) ≡ true) → (has visited v ≡ true) ⊎ (visits v ≡ true)
         go (inl p) = inl p
-        go (inr p) = inr (and-both (ltb w 4) (visits v) p .1)
+        go (inr p) = inr (and-elim (ltb w 4) (visits v) p .1)
 
     -- the next node that waits is one of them: fewer nodes are left to visit
     pub fewer : {next : ℕ} → w ≡ next / 64 → IsFirst (has waiting) 256 next → next < 256 → 256 - count (has more) 256 < 256 - count (has visited) 256
     fewer {next} q f h =
-        omega (arith, count-le (has more) 256, count-more (has visited) (has more) 256 next (λ u _ p. marks u ∙ or-first (has visited u) _ p) h unvisited chosen)
+        omega (arith, count-le (has more) 256, count-more (has visited) (has more) 256 next (λ u _ p. marks u ∙ or-left (has visited u) _ p) h unvisited chosen)
       where
         unvisited : has visited next ≡ false
-        unvisited = not-false (has visited next) (and-both (has reached next) (not (has visited next)) (sym (holds next) ∙ f .here h) .1)
+        unvisited = not-false (has visited next) (and-elim (has reached next) (not (has visited next)) (sym (holds next) ∙ f .here h) .1)
 
         chosen : has more next ≡ true
-        chosen = marks next ∙ or-second (has visited next) (ltb w 4 && visits next) (rw (q, lt-ltb (next / 64) 4 (omega arith), own-word waiting next, f .here h) refl)
+        chosen = marks next ∙ or-right (has visited next) (ltb w 4 && visits next) (rw (q, lt-ltb (next / 64) 4 (omega arith), own-word waiting next, f .here h) refl)
 
 -- ---- the stage
 module _ (N : Network) (reached : List ℕ) (holds : SetOf reached (marked (reachedNodes N))) where

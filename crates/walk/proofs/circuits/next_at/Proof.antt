@@ -5,7 +5,7 @@ use borrow.Author.Needs.{needs}
 use Rattle.meaning.specs.Columns.{numberAt}
 use Rattle.bits.specs.Sets.{inWord}
 use Rattle.walk.specs.Walk.{endsIn}
-use Rattle.walk.proofs.Tests.{or-first, or-second, or-neither}
+use Rattle.meaning.proofs.Tests.{or-left, or-right, or-neither}
 use Rattle.walk.proofs.Following.{Sought, sought-none, sought-more, sought-here, sought-end}
 use Rattle.walk.proofs.circuits.next_at.Statement.{statement}
 use Rattle.walk.proofs.circuits.next_at.Tie as tie
@@ -37,7 +37,7 @@ in-word-requires c κs = search needs
 
 -- src/circuits.rt:47:13
 returns : tie.Need-returns Inv-loop μ-loop
-returns c = sought-here (c .before .before .before .before .loop .inv) (or-first _ _ (sym (c .before .in-word .ensures) ∙ c .if1 .taken))
+returns c = sought-here (c .before .before .before .before .loop .inv) (or-left _ _ (sym (c .before .in-word .ensures) ∙ c .if1 .taken))
 
 -- src/circuits.rt:49:35
 mul-in-word-2 : tie.Need-mul-in-word-2 Inv-loop μ-loop
@@ -56,7 +56,7 @@ returns-2 : tie.Need-returns-2 Inv-loop μ-loop
 returns-2 c =
     let l = c .before .before .before .before .before .before .before .loop in
     let a = c .before .before .before .before .before .before .before .before .args in
-    sought-here (l .inv) (or-second (inWord (a .w) (a .word) (numberAt (a .first .now) (l .c))) _ (sym (c .before .in-word2 .ensures) ∙ c .if2 .taken))
+    sought-here (l .inv) (or-right (inWord (a .w) (a .word) (numberAt (a .first .now) (l .c))) _ (sym (c .before .in-word2 .ensures) ∙ c .if2 .taken))
 
 -- src/circuits.rt:52:9
 add-c : tie.Need-add-c Inv-loop μ-loop
