@@ -26,7 +26,8 @@ fn size(set: &Set) -> usize {
     set.iter().map(|word| word.count_ones() as usize).sum()
 }
 
-/// The nodes reached. The next node that waits is visited with the others of its word that wait.
+/// The nodes reached. The next node that waits is visited with the others of its word that wait; nodes of the word that are met on the way are followed
+/// from there on, and wait for a visit of their own.
 fn reached(c: &Columns) -> Set {
     let (mut reached, mut visited) = ([0; 4], [0; 4]);
     add(&mut reached, c.settings.reference - 1);
@@ -34,14 +35,15 @@ fn reached(c: &Columns) -> Set {
         let waiting = without(&reached, &visited);
         let Some(next) = lowest(&waiting) else { break };
         let w = next / 64;
-        let word = waiting[w];
+        let mut word = waiting[w];
         for (first, second) in c.first[..c.circuits].iter().zip(&c.second[..c.circuits]) {
             if in_word(w, word, *first) || in_word(w, word, *second) {
                 add(&mut reached, *first);
                 add(&mut reached, *second);
+                word = reached[w] & !visited[w];
             }
         }
-        visited[w] |= word;
+        visited[w] |= waiting[w];
     }
     reached
 }

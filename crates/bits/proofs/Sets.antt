@@ -93,6 +93,23 @@ word-has words w n = go (ℕ-discrete (n / 64) w)
 pub own-word : (words : List ℕ) (n : ℕ) → inWord (n / 64) (getD words (n / 64) 0) n ≡ has words n
 own-word words n = word-has words (n / 64) n ∙ rw (eq-eqb (n / 64) (n / 64) refl) refl
 
+-- word w of one set without another
+pub word-less : (a b : List ℕ) (w word : ℕ) → ((k : ℕ) → bit word k ≡ bit (getD a w 0) k - bit (getD b w 0) k) → (m : ℕ) → inWord w word m ≡ (eqb (m / 64) w && (has a m && not (has b m)))
+unfolding inWord has
+word-less a b w word e m = go (ℕ-discrete (m / 64) w)
+  where
+    go : Dec (m / 64 ≡ w) → (eqb (m / 64) w && eqb (bit word (m % 64)) 1) ≡ (eqb (m / 64) w && (eqb (bit (getD a (m / 64) 0) (m % 64)) 1 && not (eqb (bit (getD b (m / 64) 0) (m % 64)) 1)))
+    go (yes q) = rw (q, eq-eqb w w refl, e (m % 64)) (less-says _ _ (bit-lt _ _) (bit-lt _ _))
+    go (no q) = rw (ne-eqb (m / 64) w q) refl
+
+pub word-past : (a b : List ℕ) (w : ℕ) → length a ≡ 4 → 4 ≤ w → (m : ℕ) → inWord w 0 m ≡ (eqb (m / 64) w && (has a m && not (has b m)))
+unfolding inWord
+word-past a b w l h m = go (ℕ-discrete (m / 64) w)
+  where
+    go : Dec (m / 64 ≡ w) → (eqb (m / 64) w && eqb (bit 0 (m % 64)) 1) ≡ (eqb (m / 64) w && (has a m && not (has b m)))
+    go (yes q) = rw (bit-none (m % 64), has-past a m (omega arith)) refl
+    go (no q) = rw (ne-eqb (m / 64) w q) refl
+
 pub with-word-has : (words : List ℕ) (w word : ℕ) → length words ≡ 4 → w < 4
     → SetOf (set words w (bitOr (getD words w 0) word)) (λ m. has words m || (ltb w 4 && inWord w word m))
 unfolding inWord has

@@ -1,7 +1,7 @@
 // Sets of numbers below 256, one bit a number in four 64-bit words.
 ghost use mathlib.Core.Path.{_≡_};
 ghost use mathlib.Core.Bool.{_&&_, _||_, not};
-ghost use Prim.Native.Nat.{_<_};
+ghost use Prim.Native.Nat.{ℕ, _/_};
 ghost use lib.Dec.{eqb, ltb};
 ghost use Rattle.integers.specs.Numbers.{count};
 ghost use Rattle.meaning.specs.First.{IsFirst};
@@ -61,6 +61,16 @@ pub fn without(a: [u64; 4], b: [u64; 4]) -> [u64; 4]
         words::less(a[2], b[2]),
         words::less(a[3], b[3]),
     ]
+}
+
+// The numbers of word w that are in the first set and not in the second; past the last word there are none.
+pub fn word_without(a: [u64; 4], b: [u64; 4], w: usize) -> u64
+    ensures { λ r. ⌜ ((m : ℕ) → inWord w r m ≡ (eqb (m / 64) w && (has a m && not (has b m)))) ⌝ }
+{
+    if w < 4 {
+        return words::less(a[w], b[w]);
+    }
+    0
 }
 
 // How many numbers are in the set: the ones of its words.

@@ -19,7 +19,7 @@ use Rattle.meaning.proofs.Says.{agree}
 use Rattle.meaning.proofs.Walk.{Joins, reached-in, reached-home, reached-on, reached-least}
 use Rattle.bits.specs.Sets.{has, inWord, SetOf}
 use Rattle.bits.proofs.Sets.{word-has, own-word}
-use Rattle.walk.specs.Walk.{Followed}
+use Rattle.walk.specs.Walk.{waitsIn, Followed}
 use Rattle.meaning.proofs.Tests.{or-elim, or-left, or-right, and-elim, not-false, not-true}
 
 -- ---- what a walk has found: all of it is reached, and of each node visited the circuits were followed
@@ -87,18 +87,13 @@ module _ (reached visited waiting : List ℕ) (holds : SetOf waiting (λ m. has 
   abbrev visits : ℕ → Bool
   visits = inWord w (getD waiting w 0)
 
-  pub visits-reached : (v : ℕ) → visits v ≡ true → has reached v ≡ true
-  visits-reached v e =
-      let here = and-elim (eqb (v / 64) w) (has waiting v) (sym (word-has waiting w v) ∙ e) .1 in
-      and-elim (has reached v) (not (has visited v)) (sym (holds v) ∙ here) .0
-
   module _ (more : List ℕ) (marks : SetOf more (λ m. has visited m || (ltb w 4 && inWord w (getD waiting w 0) m))) where
-    pub visited-now : (v : ℕ) → has more v ≡ true → (has visited v ≡ true) ⊎ (visits v ≡ true)
-    visited-now v e = go (or-elim (has visited v) _ (sym (marks v) ∙ e))
+    pub visited-now : (v : ℕ) → has more v ≡ true → (has visited v ≡ true) ⊎ (waitsIn reached visited w v ≡ true)
+    visited-now v e = go (or-elim (has visited v) (ltb w 4 && visits v) (sym (marks v) ∙ e))
       where
-        go : (has visited v ≡ true) ⊎ ((ltb w 4 && visits v) ≡ true) → (has visited v ≡ true) ⊎ (visits v ≡ true)
+        go : (has visited v ≡ true) ⊎ ((ltb w 4 && visits v) ≡ true) → (has visited v ≡ true) ⊎ (waitsIn reached visited w v ≡ true)
         go (inl p) = inl p
-        go (inr p) = inr (and-elim (ltb w 4) (visits v) p .1)
+        go (inr p) = inr (rw (holds v) at (sym (word-has waiting w v) ∙ and-elim (ltb w 4) (visits v) p .1))
 
     -- the next node that waits is one of them: fewer nodes are left to visit
     pub fewer : {next : ℕ} → w ≡ next / 64 → IsFirst (has waiting) 256 next → next < 256 → 256 - count (has more) 256 < 256 - count (has visited) 256

@@ -1,8 +1,9 @@
 -- 6, and 02, request 4: what is walked, and what a visit finds.
 use mathlib.Core.Path.{_≡_}
-use mathlib.Core.Bool.{Bool, true, false, _||_}
+use mathlib.Core.Bool.{Bool, true, false, not, _&&_, _||_}
 use mathlib.Core.List.{List, []}
-use Prim.Native.Nat.{ℕ, _≤_, _<_, min}
+use Prim.Native.Nat.{ℕ, _/_, _≤_, _<_, min}
+use lib.Dec.{eqb}
 use Rattle.meaning.specs.Network.{Network}
 use Rattle.meaning.specs.Columns.{networkIn, numberAt}
 use Rattle.meaning.proofs.Walk.{Joins}
@@ -15,6 +16,10 @@ walked nodes reference circuits first second = networkIn (min nodes 256) (min ci
 -- circuit c has an end among the numbers of word w
 abbrev pub endsIn : (first second : List ℕ) (w word c : ℕ) → Bool
 endsIn first second w word c = inWord w word (numberAt first c) || inWord w word (numberAt second c)
+
+-- v is a node of word w that waits: it was reached, and is not visited yet
+abbrev pub waitsIn : (reached visited : List ℕ) (w v : ℕ) → Bool
+waitsIn reached visited w v = eqb (v / 64) w && (has reached v && not (has visited v))
 
 -- r is the lowest number, of those from `from` to m − 1, that passes the test; m where there is none
 pub record NextFrom (test : ℕ → Bool) (from m r : ℕ) : Type 0 where

@@ -1,12 +1,12 @@
 // What one visit follows: the circuits that have an end among the nodes visited.
 ghost use mathlib.Core.Path.{_≡_};
-ghost use mathlib.Core.Bool.{true, _&&_, _||_};
+ghost use mathlib.Core.Bool.{_&&_, _||_};
 ghost use mathlib.Core.List.{[]};
-ghost use Prim.Native.Nat.{ℕ, _≤_, min};
+ghost use Prim.Native.Nat.{_≤_, min};
 ghost use lib.Dec.{eqb, ltb};
 ghost use Rattle.meaning.specs.Columns.{networkIn};
-ghost use Rattle.bits.specs.Sets.{has, inWord, SetOf};
-ghost use Rattle.walk.specs.Walk.{endsIn, NextFrom, Followed};
+ghost use Rattle.bits.specs.Sets.{has, SetOf};
+ghost use Rattle.walk.specs.Walk.{endsIn, waitsIn, NextFrom, Followed};
 
 // The lesser of two numbers.
 pub fn least(a: usize, b: usize) -> usize
@@ -54,25 +54,40 @@ pub fn next_at(
     m
 }
 
-// What is reached, of n nodes, once the nodes of word w are visited: both ends of each of m circuits that has one there.
+// What is reached, of n nodes, once the nodes of word w that wait are visited: both ends of each of m circuits that has one there. Nodes of the word that are met
+// on the way are followed from there on; they still wait, since circuits before may end at them.
 pub fn follow(
     reached: [u64; 4],
+    visited: [u64; 4],
     first: &[usize; 512],
     second: &[usize; 512],
     w: usize,
-    word: u64,
     n: usize,
     m: usize,
 ) -> [u64; 4]
-    requires { ⌜ (n ≤ 256) × (m ≤ 512) × ((v : ℕ) → inWord w word v ≡ true → has reached v ≡ true) ⌝ }
-    ensures { λ r. ⌜ Followed (networkIn n m 0 (now (first .entry)) (now (second .entry)) []) (inWord w word) m reached r ⌝ }
+    requires { ⌜ (n ≤ 256) × (m ≤ 512) ⌝ }
+    ensures { λ r. ⌜ Followed (networkIn n m 0 (now (first .entry)) (now (second .entry)) []) (waitsIn reached visited w) m reached r ⌝ }
 {
     let mut wider = reached;
-    let mut c = next_at(first, second, w, word, 0, m);
+    let mut c = next_at(
+        first,
+        second,
+        w,
+        bits::word_without(wider, visited, w),
+        0,
+        m,
+    );
     while c < m {
         let more = with_node(with_node(wider, first[c], n), second[c], n);
         wider = more;
-        c = next_at(first, second, w, word, c + 1, m);
+        c = next_at(
+            first,
+            second,
+            w,
+            bits::word_without(more, visited, w),
+            c + 1,
+            m,
+        );
     }
     wider
 }

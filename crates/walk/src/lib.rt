@@ -33,9 +33,8 @@ pub fn reached(
             return reached;
         }
         let w = next / 64;
-        let word = waiting[w];
-        let wider = circuits::follow(reached, first, second, w, word, n, m);
-        let more = bits::with_word(visited, w, word);
+        let wider = circuits::follow(reached, visited, first, second, w, n, m);
+        let more = bits::with_word(visited, w, waiting[w]);
         reached = wider;
         visited = more;
     }

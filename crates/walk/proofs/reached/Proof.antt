@@ -9,7 +9,7 @@ use Rattle.meaning.specs.First.{IsFirst}
 use Rattle.meaning.specs.Columns.{networkIn}
 use Rattle.bits.specs.Sets.{has}
 use Rattle.bits.proofs.Sets.{empty-has}
-use Rattle.walk.proofs.Walking.{Walking, walk-begins, walk-on, walk-full, walk-still, visits-reached, visited-now, fewer}
+use Rattle.walk.proofs.Walking.{Walking, walk-begins, walk-on, walk-full, walk-still, visited-now, fewer}
 use Rattle.walk.proofs.reached.Statement.{statement}
 use Rattle.walk.proofs.reached.Tie as tie
 use Rattle.walk.proofs.reached.Reads as reads
@@ -76,23 +76,19 @@ returns-2 c =
     rw (sym (s .before .before .before .least .ensures), sym (s .before .before .least2 .ensures))
     (walk-still (s .loop .inv) waiting (omega (arith, s .before .before .before .least .ensures)) (c .before .before .without .ensures) still)
 
--- src/lib.rt:36:20
-mul-word : tie.Need-mul-word Inv-loop μ-loop
-mul-word c = search needs
+-- src/lib.rt:36:13
+follow-requires : tie.Need-follow-requires Inv-loop μ-loop
+follow-requires c κs = search needs
 
--- src/lib.rt:36:20
-array-read-word : tie.Need-array-read-word Inv-loop μ-loop
-array-read-word c = omega (arith, found (c .before .lowest .ensures .within) (c .if2 .left))
+-- src/lib.rt:37:48
+mul-with-word : tie.Need-mul-with-word Inv-loop μ-loop
+mul-with-word c = search needs
+
+-- src/lib.rt:37:48
+array-read-with-word : tie.Need-array-read-with-word Inv-loop μ-loop
+array-read-with-word c = omega (arith, found (c .before .before .lowest .ensures .within) (c .before .if2 .left))
 
 -- src/lib.rt:37:13
-follow-requires : tie.Need-follow-requires Inv-loop μ-loop
-follow-requires c κs =
-    let s = c .before .before .before .before .before in
-    let next = c .before .lowest .result in
-    let without = c .before .before .without in
-    (omega (arith, s .before .before .before .least .ensures), omega (arith, s .before .before .least2 .ensures), visits-reached (s .loop .reached) (s .loop .visited) (without .result) (without .ensures) (next / 64))
-
--- src/lib.rt:38:13
 with-word-requires : tie.Need-with-word-requires Inv-loop μ-loop
 with-word-requires c κs = search needs
 
@@ -130,9 +126,9 @@ reached-spec =
     without-requires
     lowest-requires
     returns-2
-    mul-word
-    array-read-word
     follow-requires
+    mul-with-word
+    array-read-with-word
     with-word-requires
     loop-less
     loop-again)
