@@ -54,8 +54,8 @@ pub fn next_at(
     m
 }
 
-// What is reached, of n nodes, once the nodes of word w that wait are visited: both ends of each of m circuits that has one there. Nodes of the word that are met
-// on the way are followed from there on; they still wait, since circuits before may end at them.
+// What is reached, of n nodes, once those of word w that wait are visited: both ends of each of m circuits that has one there. Nodes of the word that are met
+// on the way are followed from there on, and still wait, since circuits before may end at them.
 pub fn follow(
     reached: [u64; 4],
     visited: [u64; 4],
@@ -69,25 +69,13 @@ pub fn follow(
     ensures { λ r. ⌜ Followed (networkIn n m 0 (now (first .entry)) (now (second .entry)) []) (waitsIn reached visited w) m reached r ⌝ }
 {
     let mut wider = reached;
-    let mut c = next_at(
-        first,
-        second,
-        w,
-        bits::word_without(wider, visited, w),
-        0,
-        m,
-    );
+    let word = bits::word_without(reached, visited, w);
+    let mut c = next_at(first, second, w, word, 0, m);
     while c < m {
         let more = with_node(with_node(wider, first[c], n), second[c], n);
+        let waiting = bits::word_without(more, visited, w);
         wider = more;
-        c = next_at(
-            first,
-            second,
-            w,
-            bits::word_without(more, visited, w),
-            c + 1,
-            m,
-        );
+        c = next_at(first, second, w, waiting, c + 1, m);
     }
     wider
 }

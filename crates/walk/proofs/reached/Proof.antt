@@ -9,6 +9,7 @@ use Rattle.meaning.specs.First.{IsFirst}
 use Rattle.meaning.specs.Columns.{networkIn}
 use Rattle.bits.specs.Sets.{has}
 use Rattle.bits.proofs.Sets.{empty-has}
+use Rattle.walk.specs.Walk.{waitsIn}
 use Rattle.walk.proofs.Walking.{Walking, walk-begins, walk-on, walk-full, walk-still, visited-now, fewer}
 use Rattle.walk.proofs.reached.Statement.{statement}
 use Rattle.walk.proofs.reached.Tie as tie
@@ -108,7 +109,7 @@ loop-again c =
     let without = c .before .before .before .before .without in
     let w = c .before .before .before .lowest .result / 64 in
     let f = c .before .follow .ensures in
-    walk-on (s .loop .inv) (record { kept = f .kept; full = f .full; sound = f .sound })
+    walk-on {now = waitsIn (s .loop .reached) (s .loop .visited) w} (s .loop .inv) (record { kept = f .kept; full = f .full; sound = f .sound })
     (visited-now (s .loop .reached) (s .loop .visited) (without .result) (without .ensures) w (c .with-word .result) (c .with-word .ensures))
 
 pub reached-spec : {M : Type 1} → statement M

@@ -13,10 +13,10 @@ use Rattle.walk.proofs.circuits.next_at.Reads as next-at-reads
 use Rattle.walk.proofs.circuits.with_node.Reads as with-node-reads
 
 abbrev Inv-loop : tie.InvT-loop
-Inv-loop visited first second w n m wider₀ c₀ wider c = Following (networkIn n m 0 first second []) visited w m c wider₀ wider
+Inv-loop visited first second w n m wider₀ word c₀ wider c = Following (networkIn n m 0 first second []) visited w m c wider₀ wider
 
 abbrev μ-loop : tie.MeasureT-loop
-μ-loop visited first second w n m wider₀ c₀ wider c = m - c
+μ-loop visited first second w n m wider₀ word c₀ wider c = m - c
 
 -- src/circuits.rt:72:43
 word-without-requires : tie.Need-word-without-requires Inv-loop μ-loop
