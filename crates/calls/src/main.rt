@@ -128,7 +128,7 @@ fn walk(nodes: usize, reference: usize, a: usize, b: usize, c: usize, d: usize) 
     print_set(walk::reached(nodes, reference, 2, &first, &second));
 }
 
-// Ends that are no nodes lead nowhere, from a reference that is no node nothing is reached, and past 256 nodes and 512 circuits there are none.
+// Ends that are no nodes lead nowhere, from a reference that is no node nothing is reached, and counts may pass 256 nodes and 512 circuits.
 fn walks() {
     walk(5, 4, 1, 0, 4, 1);
     walk(5, 1, 1, 9, 9, 2);

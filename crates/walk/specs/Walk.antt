@@ -28,9 +28,10 @@ pub record NextFrom (test : ℕ → Bool) (from m r : ℕ) : Type 0 where
   pub between : (j : ℕ) → from ≤ j → j < r → test j ≡ false
   pub here : r < m → test r ≡ true
 
--- a visit has followed the first c circuits: of those that have an end among the nodes visited the other is reached, and nothing that no circuit leads to
+-- a visit of these nodes has followed the first c circuits: what was reached stays; of a circuit that has an end among the nodes visited the other is reached;
+-- and nothing else is: a test that all passed before, and that circuits lead on, is passed by all
 pub record Followed (N : Network) (visited : ℕ → Bool) (c : ℕ) (old new : List ℕ) : Type 0 where
   pub kept : (v : ℕ) → has old v ≡ true → has new v ≡ true
   pub full : (j u v : ℕ) → j < c → visited u ≡ true → v < N .nodes → Joins N j u v → has new v ≡ true
-  pub sound : (P : ℕ → Bool) → ((v : ℕ) → has old v ≡ true → P v ≡ true)
-      → ((j u v : ℕ) → j < N .circuits → v < N .nodes → Joins N j u v → P u ≡ true → P v ≡ true) → (v : ℕ) → has new v ≡ true → P v ≡ true
+  pub sound : (test : ℕ → Bool) → ((v : ℕ) → has old v ≡ true → test v ≡ true)
+      → ((j u v : ℕ) → j < N .circuits → v < N .nodes → Joins N j u v → test u ≡ true → test v ≡ true) → (v : ℕ) → has new v ≡ true → test v ≡ true
