@@ -1,8 +1,9 @@
-use Prim.Native.Nat.{_%_}
+use Prim.Native.Nat.{ℕ, _/_, _%_}
 use mathlib.Core.Path.{_∙_, ap}
-use mathlib.Core.Bool.{_||_}
+use mathlib.Core.Bool.{_&&_, _||_}
 use native.Mathlib.Omega.{arith}
-use Rattle.bits.specs.Sets.{has}
+use lib.Dec.{ltb}
+use Rattle.bits.specs.Sets.{has, inWord}
 use Rattle.bits.proofs.Bits.{one-shl}
 use Rattle.bits.proofs.Sets.{one-bit}
 use borrow.Author.Needs.{needs}
@@ -24,7 +25,9 @@ with-word-requires c κs = search needs
 returns : tie.Need-returns
 returns c m =
     let a = c .before .args in
-    (rw (one-shl (a .n % 64) (omega arith)) at (c .with-word .ensures m)) ∙ ap (λ b. has (a .set) m || b) (one-bit (a .n) m)
+    c .with-word .ensures m
+    ∙ ap (λ (word : ℕ). has (a .set) m || (ltb (a .n / 64) 4 && inWord (a .n / 64) word m)) (one-shl (a .n % 64) (omega arith))
+    ∙ ap (λ b. has (a .set) m || b) (one-bit (a .n) m)
 
 pub with-spec : {M : Type 1} → statement M
 with-spec = tie.close (tie.spec shl-with-word with-word-requires returns)
