@@ -3,84 +3,24 @@
 -- metres after C of -1 and 1 at 0.5 a metre are tariffs of -1 and 1; WEIR's local -2.5 m are -3, and its tariff of -1.5 is -2
 use mathlib.Core.Path.{_≡_, refl}
 use mathlib.Core.List.{List, [], _∷_, _++_}
-use Prim.Native.Nat.{ℕ, zero, suc, _<_}
-use Prim.Native.String.{String}
-use native.Mathlib.Omega.{arith}
+use Prim.Native.Nat.{ℕ, zero, _<_}
 use lib.IntN.{ℤ, pos, negℤ}
 use Rattle.meaning.specs.Text.{text}
-use Rattle.meaning.specs.Study.{Settings, Node, Circuit, Station, Study, Runs}
+use Rattle.meaning.specs.Study.{Study, Runs}
 use Rattle.meaning.specs.File.{studyOf}
 use Rattle.meaning.specs.declared.Side.{Side}
 use Rattle.meaning.specs.declared.Side.the-variants.{Generation, Demand}
-use Rattle.meaning.specs.declared.Judgement.the-variants.{Passes}
 use Rattle.meaning.specs.Grid.{Grid, gridOf}
 use Rattle.meaning.specs.Figures.{zones}
-use Rattle.meaning.specs.Outcome.{judged, sheetOf, prints}
+use Rattle.meaning.specs.Outcome.{sheetOf, prints}
 use Rattle.meaning.specs.Read.{field, readWhole, lineAt}
-use Rattle.meaning.specs.Conditions.{InRange, Acceptable}
+use Rattle.meaning.specs.Conditions.{InRange}
 use Rattle.meaning.specs.Mirror.{NegativeHalf, Divides, zonal, WeighAlike, Opposite, LinesAlike, other, Exchanged, MirrorImage, MoneyImage}
-use Rattle.meaning.proofs.Write.{name, fileOf}
+use Rattle.meaning.proofs.Write.{fileOf}
 use Rattle.meaning.proofs.Opened.{opened}
 use Rattle.meaning.proofs.Kiln.{stationOf}
-use Rattle.meaning.proofs.Judged.{judged-pass}
+use Rattle.claims.proofs.Tarn.{studyWith, tarnStudy, runsWith, tarnRuns, tarn, tarn-acceptable, four}
 use Rattle.claims.proofs.Theorems.{zones-mirror, printed-mirror, sides-mirror, money-mirrors}
-
-abbrev settingsWith : (p : ℕ) → Settings
-settingsWith p =
-    record {
-      generationZones = 2;
-      demandZones = 2;
-      p = p;
-      constant = 50;
-      widerFactor = 1000;
-      localFactor = 1000;
-      overhead400 = 1000;
-      cable400 = 1000;
-      overhead275 = 1500;
-      cable275 = 1000;
-      overhead132 = 2500;
-      cable132 = 1000;
-      reference = 2;
-      revenue = 1;
-    }
-
--- a node in zone `zone` of both sides
-abbrev nodeOf : String → (zone demand : ℕ) → Node
-nodeOf n zone kw = record { name = name n; generationZone = zone; demandZone = zone; demand = kw }
-
-abbrev circuitOf : String → String → (voltage metres mark : ℕ) → Circuit
-circuitOf a b v m mark = record { first = name a; second = name b; voltage = v; x = 1; overhead = m; cable = 0; localMark = mark; factor = 0 }
-
--- the last circuit's mark, p, and the demand of each node, with stations; lengths of 4.5, 2.5 and 2.5 m
-abbrev studyWith : (mark p head mill ford weir : ℕ) → List Station → Study
-studyWith mark p head mill ford weir stations =
-    record {
-      settings = settingsWith p;
-      nodes = nodeOf "HEAD" 2 head ∷ nodeOf "MILL" 1 mill ∷ nodeOf "FORD" 1 ford ∷ nodeOf "WEIR" 2 weir ∷ [];
-      circuits = circuitOf "HEAD" "MILL" 275 3 0 ∷ circuitOf "MILL" "FORD" 132 1 0 ∷ circuitOf "FORD" "WEIR" 132 1 mark ∷ [];
-      stations = stations;
-    }
-
--- 1,000 kW run from HEAD to WEIR
-abbrev tarnStudy : (mark : ℕ) → Study
-tarnStudy mark =
-    studyWith mark 900 0 1000 1000 1500
-    (stationOf "S_1" "HEAD" 1000 ∷ stationOf "S_2" "MILL" 1000 ∷ stationOf "S_3" "FORD" 1000 ∷ stationOf "S_4" "WEIR" 500 ∷ [])
-
--- by WEIR's wider and local potential
-abbrev runsWith : (wider local : ℤ) → Runs
-runsWith wider local =
-    record {
-      base = pos 1000000000 ∷ pos 0 ∷ negℤ (pos 1000000000) ∷ negℤ (pos 2000000000) ∷ pos 1000000000 ∷ pos 1000000000 ∷ pos 1000000000 ∷ [];
-      wider = pos 4500000000 ∷ pos 0 ∷ negℤ (pos 2500000000) ∷ wider ∷ pos 0 ∷ pos 0 ∷ pos 0 ∷ [];
-      local = pos 0 ∷ pos 0 ∷ pos 0 ∷ local ∷ pos 0 ∷ pos 0 ∷ pos 0 ∷ [];
-    }
-
-abbrev tarnRuns : Runs
-tarnRuns = runsWith (negℤ (pos 2500000000)) (negℤ (pos 2500000000))
-
-abbrev tarn : List ℕ
-tarn = fileOf (tarnStudy 1) tarnRuns
 
 abbrev tarnSheet : List ℕ
 tarnSheet =
@@ -91,21 +31,6 @@ tarnSheet =
 tarn-prints : prints tarn ≡ tarnSheet
 unfolding opened
 tarn-prints = refl
-
-tarn-judged : judged tarn tarnRuns ≡ Passes
-unfolding opened
-tarn-judged = refl
-
-tarn-acceptable : Acceptable tarn tarnRuns
-tarn-acceptable = judged-pass tarn tarnRuns .0 tarn-judged
-
--- what holds of four nodes
-four : (P : ℕ → Type 0) → P 0 → P 1 → P 2 → P 3 → (v : ℕ) → v < 4 → P v
-four P a b c d zero h = a
-four P a b c d (suc zero) h = b
-four P a b c d (suc (suc zero)) h = c
-four P a b c d (suc (suc (suc zero))) h = d
-four P a b c d (suc (suc (suc (suc v)))) h = absurd (omega arith)
 
 abbrev tarnGrid : Grid
 tarnGrid = gridOf (studyOf tarn)

@@ -7,6 +7,9 @@ pub mod Accepted
 pub mod Same
 pub mod Hidden
 pub mod Stations
+pub mod Close
+pub mod Distances
+pub mod OnlyDirections
 pub mod Agree
 -- demand 2: the revenue is recovered, read back from the bytes of the sheet
 pub mod Digits
@@ -15,6 +18,7 @@ pub mod Names
 pub mod Lines
 pub mod Pays
 pub mod ReadBack
+pub mod Shown
 pub mod Money
 pub mod Recovered
 -- 02, request 1: who pays, and what is seen of plant types
@@ -26,4 +30,5 @@ pub mod Mirrored
 pub mod Told
 -- nothing of it is vacuous
 pub mod Instance
+pub mod Tarn
 pub mod Halves

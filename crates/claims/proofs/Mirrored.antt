@@ -14,15 +14,14 @@ use Rattle.meaning.specs.Study.{Study, Runs}
 use Rattle.meaning.specs.File.{studyOf}
 use Rattle.meaning.specs.Grid.{Grid, gridOf}
 use Rattle.meaning.specs.Figures.{zoneWeight, zonalMetres, afterC, zoneTariff}
-use Rattle.meaning.specs.Sheet.{letter, sheet}
-use Rattle.meaning.specs.Read.{field, readNatural, readWhole, hasLetter, lineAt}
+use Rattle.meaning.specs.Sheet.{sheet}
+use Rattle.meaning.specs.Read.{field, readNatural, readWhole, lineAt}
 use Rattle.meaning.specs.Conditions.{InRange, SoundTables}
 use Rattle.meaning.specs.Mirror.{WeighAlike, LinesAlike, PrintedMirror}
-use Rattle.meaning.proofs.Says.{says-eq}
 use Rattle.meaning.proofs.Mirror.{zones-mirror}
-use Rattle.claims.proofs.Digits.{differs, read-natural, read-decimal}
+use Rattle.claims.proofs.Digits.{read-decimal}
 use Rattle.claims.proofs.Lines.{emptyZone, fullZone}
-use Rattle.claims.proofs.ReadBack.{lines-agree}
+use Rattle.claims.proofs.Shown.{shown, field-read}
 
 module _ (S : Study) (sound : SoundTables S) (runs : Runs) where
   abbrev G : Grid
@@ -31,27 +30,8 @@ module _ (S : Study) (sound : SoundTables S) (runs : Runs) where
   -- the figure that field k of a zone's line shows
   module _ (k : ℕ) (figure : Side → ℕ → ℤ) (empty : (side : Side) (z : ℕ) → readWhole (getD (emptyZone G runs side z) k []) ≡ pos 0)
       (full : (side : Side) (z : ℕ) → readWhole (getD (fullZone G runs side z) k []) ≡ figure side z) where
-    shown : Side → ℕ → ℤ
-    shown side z = cond (eqb (zoneWeight G side z) 0) (pos 0) (figure side z)
-
-    shown-none : (side : Side) (z : ℕ) → zoneWeight G side z ≡ 0 → shown side z ≡ pos 0
-    unfolding shown
-    shown-none side z e = rw (says-eq {m = zoneWeight G side z} {n = 0} .1 e) refl
-
-    shown-some : (side : Side) (z : ℕ) → (zoneWeight G side z ≡ 0 → ⊥) → shown side z ≡ figure side z
-    unfolding shown
-    shown-some side z h = rw (differs (zoneWeight G side z) 0 h) refl
-
-    field-read : (side : Side) (i : ℕ) → hasLetter (letter side) (lineAt i (sheet G runs)) ≡ true
-        → readWhole (field k (lineAt i (sheet G runs))) ≡ shown side (readNatural 0 (field 1 (lineAt i (sheet G runs))))
-    unfolding field
-    field-read side =
-        lines-agree S sound runs (λ fs. readWhole (getD fs k [])) (λ fs. shown side (readNatural 0 (getD fs 1 []))) side
-        (λ z e. empty side z ∙ sym (ap (shown side) (read-natural z) ∙ shown-none side z e))
-        (λ z e. full side z ∙ sym (ap (shown side) (read-natural z) ∙ shown-some side z e))
-
     -- zones that weigh alike both have kilowatts or neither has
-    shown-mirror : (g d : ℕ) → WeighAlike G g d → figure Demand d ≡ negℤ (figure Generation g) → shown Demand d ≡ negℤ (shown Generation g)
+    shown-mirror : (g d : ℕ) → WeighAlike G g d → figure Demand d ≡ negℤ (figure Generation g) → shown G figure Demand d ≡ negℤ (shown G figure Generation g)
     unfolding shown zoneWeight
     shown-mirror g d h e =
         ap₂ (λ (w : ℕ) (f : ℤ). cond (eqb w 0) (pos 0) f) (sym (sum-same (length (G .nodes)) _ _ h)) e
@@ -65,9 +45,9 @@ module _ (S : Study) (sound : SoundTables S) (runs : Runs) where
         → ((g d : ℕ) → WeighAlike G g d → figure Demand d ≡ negℤ (figure Generation g))
         → readWhole (field k (lineAt j (sheet G runs))) ≡ negℤ (readWhole (field k (lineAt i (sheet G runs))))
     printed-mirror i j m h =
-        field-read Demand j (m .demand)
+        field-read S sound runs k figure empty full Demand j (m .demand)
         ∙ shown-mirror _ _ (m .alike) (h _ _ (m .alike))
-        ∙ ap negℤ (sym (field-read Generation i (m .generation)))
+        ∙ ap negℤ (sym (field-read S sound runs k figure empty full Generation i (m .generation)))
 
 -- what holds of fields 2, 3 and 4
 three-fields : (P : ℕ → Type 0) → P 2 → P 3 → P 4 → (k : ℕ) → InRange k 2 4 → P k

@@ -232,6 +232,43 @@ module _ (S : Study) (sound : SoundTables S) (runs : Runs) where
         open-gap : gap side a b (pieces 32 (lineAt i (sheet G runs))) ≡ 0 → natAbs (a (pieces 32 (lineAt i (sheet G runs))) -ℤ b (pieces 32 (lineAt i (sheet G runs)))) ≡ 0
         open-gap e = rw l at e
 
+  -- ---- and two that are equal on every node's line are equal on every `L` line
+  module _ (a b : Line → ℤ) where
+    nodeGap : Line → ℕ
+    nodeGap fs = cond (sameName (getD fs 0 []) (text "L")) (natAbs (a fs -ℤ b fs)) 0
+
+    zone-gap : (side : Side) (fs : Line) → nodeGap (letter side ∷ fs) ≡ 0
+    unfolding nodeGap sameName letter
+    zone-gap Generation fs = refl
+    zone-gap Demand fs = refl
+
+    abbrev OnNodes : Type 0
+    OnNodes = (v : ℕ) → v < length (S .nodes) → a (nodeLine G runs v) ≡ b (nodeLine G runs v)
+
+    node-gap-worth : OnNodes → Worth G runs (λ fs. pos (nodeGap fs)) (λ s z. pos 0) (λ v. pos 0) (pos 0)
+    unfolding nodeGap sameName gridOf
+    node-gap-worth h = record {
+      start = refl;
+      empty = λ s z e. ap pos (zone-gap s (drop 1 (emptyZone G runs s z)));
+      full = λ s z e. ap pos (zone-gap s (drop 1 (fullZone G runs s z)));
+      silent = λ v e. refl;
+      printed = λ v l. ap pos (closed a b _ _ (h v l));
+      last = refl;
+    }
+
+    pub node-lines-agree : OnNodes → (i : ℕ) → hasLetter (text "L") (lineAt i (sheet G runs)) ≡ true
+        → a (pieces 32 (lineAt i (sheet G runs))) ≡ b (pieces 32 (lineAt i (sheet G runs)))
+    unfolding hasLetter field nodeGap pieces sameName
+    node-lines-agree h i l = not-apart _ _ (open-gap (each-none (λ t. nodeGap (pieces 32 t)) refl (pieces 10 (sheet G runs)) all-closed i))
+      where
+        all-closed : over (λ fs. pos (nodeGap fs)) (sheet G runs) ≡ pos 0
+        all-closed =
+            adds-all (λ fs. pos (nodeGap fs)) (add-sheet G runs (λ fs. pos (nodeGap fs)) named _ _ (pos 0) (node-gap-worth h)) refl
+            ∙ rw (none (zones G Generation), none (zones G Demand), none (length (G .nodes))) refl
+
+        open-gap : nodeGap (pieces 32 (lineAt i (sheet G runs))) ≡ 0 → natAbs (a (pieces 32 (lineAt i (sheet G runs))) -ℤ b (pieces 32 (lineAt i (sheet G runs)))) ≡ 0
+        open-gap e = rw l at e
+
   -- a printed total is its tariff and its residual
   pub total-read : (side : Side) (k : ℕ) → hasLetter (letter side) (lineAt k (sheet G runs)) ≡ true
       → readWhole (field 6 (lineAt k (sheet G runs))) ≡ readWhole (field 4 (lineAt k (sheet G runs))) +ℤ readWhole (field 5 (lineAt k (sheet G runs)))

@@ -1,7 +1,8 @@
--- The user's demands, proved: each statement is a type of meaning/specs/Demands.antt or, for requests 2 and 3, Mirror.antt and Versions.antt, and its proof is in the file named here.
+-- The user's demands, proved: each statement is a type of meaning/specs/Demands.antt or, for requests 2, 3 and 12, Mirror.antt, Versions.antt and OnlyDirections.antt, and its proof is in the file named here.
 use Rattle.meaning.specs.Demands.{EveryInputSettled, AcceptedExactlyWhen, RefusedExactlyWhen, OneAnswer, JudgeIsWrite, RevenueRecovered, CentreBalances, SolversAgree, StationsHidden, CapacityKept, SheetsFit, AllButInterconnectorsPay, NoInterconnectorNoChange, TypesHidden}
 use Rattle.meaning.specs.Mirror.{NearestMirrors, OnlyNegativeHalvesMove, FiguresMove, AveragesMirror, ZonesMirror, PrintedMirror, SidesMirror, MoneyMirrors}
 use Rattle.meaning.specs.Versions.{OneSheetInEitherVersion, EveryCaseInVersionTwo, VersionOneByVoltage, FactorLast, NewVoltagesInVersionTwo, OwnFactorForBothLengths, NoFactorNoChange}
+use Rattle.meaning.specs.OnlyDirections.{OnlyDirectionsCount}
 use Rattle.meaning.proofs.Mirror as Mirror
 use Rattle.meaning.proofs.Versions as Versions
 use Rattle.meaning.proofs.Twins as Twins
@@ -14,6 +15,7 @@ use Rattle.claims.proofs.Stations
 use Rattle.claims.proofs.Interconnectors
 use Rattle.claims.proofs.Types
 use Rattle.claims.proofs.Mirrored
+use Rattle.claims.proofs.OnlyDirections
 
 -- demand 1: any bytes, runs and buffer give the sheet, or a refusal of 01's table with the buffer untouched
 pub every-input-settled : EveryInputSettled
@@ -130,3 +132,7 @@ own-factor-for-both-lengths = Versions.own-factor-for-both-lengths
 -- and a row without one has 01's length
 pub no-factor-no-change : NoFactorNoChange
 no-factor-no-change = Versions.no-factor-no-change
+
+-- 02, request 12: accepted cases of one network and the same directions have the same nodal distances, to within one metre, whatever their demand and TEC; that nothing less will do is in the crate `tutorial`
+pub only-directions-count : OnlyDirectionsCount
+only-directions-count = OnlyDirections.only-directions-count

@@ -25,6 +25,8 @@ pub mod Judged
 -- 02, request 3: files of two versions
 pub mod Versions
 pub mod Twins
+-- 02, request 12: what distances are said by
+pub mod Directions
 -- the definitions computed: the starred rows, case KILN and its damaged forms, interconnectors
 pub mod Write
 pub mod Opened

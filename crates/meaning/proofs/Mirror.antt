@@ -16,7 +16,8 @@ use Rattle.meaning.specs.declared.Side.the-variants.{Generation, Demand}
 use Rattle.meaning.specs.Study.{Metres, Runs}
 use Rattle.meaning.specs.Grid.{Grid}
 use Rattle.meaning.specs.Figures.{metres, tariff, widerMetres, localMetres, distance, totalPaying, overZones, target, zonalMetres, C, afterC, zoneTariff, localTariff, localIncome}
-use Rattle.meaning.specs.Mirror.{NearestMirrors, halfUp, NegativeHalf, OnlyNegativeHalvesMove, wider, local, zonal, centre, zoneTariffs, localTariffs, FiguresMove, average, AveragesMirror, weightIn, WeighAlike, ZonesMirror, other, Exchanged, MirrorImage, SidesMirror, MoneyMirrors}
+use Rattle.meaning.specs.Distances.{weightIn}
+use Rattle.meaning.specs.Mirror.{NearestMirrors, halfUp, NegativeHalf, OnlyNegativeHalvesMove, wider, local, zonal, centre, zoneTariffs, localTariffs, FiguresMove, average, AveragesMirror, WeighAlike, ZonesMirror, other, Exchanged, MirrorImage, SidesMirror, MoneyMirrors}
 use Rattle.meaning.proofs.Sides.{average-same, zonal-average, Corresponds, zonal-same, total-same, over-same, residual-same, remainder-same, zone-total-same}
 
 -- ---- one division

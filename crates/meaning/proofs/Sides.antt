@@ -1,19 +1,23 @@
 -- Two cases whose sides correspond, each side to itself (what is hidden of stations) or to the other (the mirror image): what is added up over nodes and zones corresponds too, and the money where prices do.
 use mathlib.Core.Path.{_≡_, refl, sym, _∙_, ap, ap₂}
+use mathlib.Core.Logic.{_≢_}
 use mathlib.Core.Bool.{Bool, true, false, cond}
-use Prim.Native.Nat.{ℕ, suc, _<_}
+use Prim.Native.Nat.{ℕ, suc, _≤_, _<_}
 use native.Mathlib.Omega.{arith}
 use lib.Dec.{eqb}
 use lib.IntN.{ℤ, pos, _+ℤ_, _*ℤ_}
 use lib.ListN.{length}
 use Rattle.integers.specs.Numbers.{sum, nearest}
 use Rattle.integers.proofs.Core.{Z}
+use Rattle.integers.proofs.Div.{nearest-exact}
 use Rattle.integers.proofs.Sum.{sum-same, Σ-same}
+use Rattle.integers.proofs.Group.{sum-only, Σ-only}
 use Rattle.meaning.specs.declared.Side.{Side}
 use Rattle.meaning.specs.Study.{Kw, Metres, Runs}
 use Rattle.meaning.specs.Grid.{Grid}
 use Rattle.meaning.specs.Figures.{residualOf, remainderOf, distance, zones, zoneOf, weight, paying, zoneWeight, zonePaying, totalPaying, overZones, target, zonalMetres, zoneTariff, localIncome, rest, residual, remainder, zoneTotal}
-use Rattle.meaning.specs.Mirror.{average, weightIn}
+use Rattle.meaning.specs.Distances.{weightIn}
+use Rattle.meaning.specs.Mirror.{average}
 
 -- ---- step 7: an average by its terms, and a zone's metres as one
 pub average-same : (n : ℕ) (m m′ : ℕ → Metres) (w w′ : ℕ → Kw) → ((v : ℕ) → v < n → m v ≡ m′ v) → ((v : ℕ) → v < n → w v ≡ w′ v)
@@ -31,6 +35,17 @@ zonal-average G runs side zone =
     weighed : (b : Bool) (x : ℤ) (w : ℕ) → cond b (x *ℤ pos w) (pos 0) ≡ x *ℤ pos (cond b w 0)
     weighed true x w = refl
     weighed false x w = simp Z (omega arith)
+
+-- a zone whose kilowatts are all at node v has that node's distance
+pub zone-of-one : (G : Grid) (runs : Runs) (side : Side) (zone v : ℕ) → v < length (G .nodes) → 1 ≤ weightIn G side zone v
+    → ((u : ℕ) → u < length (G .nodes) → u ≢ v → weightIn G side zone u ≡ 0) → zonalMetres G runs side zone ≡ distance runs side v
+zone-of-one G runs side zone v h some none =
+    zonal-average G runs side zone
+    ∙ ap₂ nearest (Σ-only (length (G .nodes)) v (λ u. distance runs side u *ℤ pos (weightIn G side zone u)) h term) (sum-only (length (G .nodes)) v (weightIn G side zone) h none)
+    ∙ nearest-exact (distance runs side v) (weightIn G side zone v) some
+  where
+    term : (u : ℕ) → u < length (G .nodes) → u ≢ v → distance runs side u *ℤ pos (weightIn G side zone u) ≡ pos 0
+    term u l d = rw (none u l d) (simp Z (omega arith))
 
 -- ---- two cases
 -- a side of G′ has the zones, the kilowatts and the distances of the side `to side` of G

@@ -23,10 +23,11 @@ use Rattle.meaning.specs.Grid.{Grid, gridOf, capacityOf, nodeTec, paying
 use Rattle.meaning.specs.Direction.{direction}
 use Rattle.meaning.specs.Proposal.{potential}
 use Rattle.meaning.specs.Systems.{baseFlow, runOf}
-use Rattle.meaning.specs.Figures.{residualOf, remainderOf, widerMetres, localMetres, zones, zoneWeight, totalPaying, overZones, target, zonalMetres, C, afterC, zoneTariff, localTariff, rest, residual, remainder}
+use Rattle.meaning.specs.Figures.{residualOf, remainderOf, zones, zoneWeight, totalPaying, overZones, target, zonalMetres, C, afterC, zoneTariff, localTariff, rest, residual, remainder}
 use Rattle.meaning.specs.Outcome.{sheetOf, answerOf, refused, written, settle}
 use Rattle.meaning.specs.Read.{field, readWhole, hasLetter, lineAt, sideIncome, printedIncome, printedRemainder}
 use Rattle.meaning.specs.Sheet.{letter}
+use Rattle.meaning.specs.Distances.{DistancesWithin}
 use Rattle.meaning.specs.Conditions.{Acceptable, InRange, HasLength, WholeFile, SoundTables, SoundStudy}
 use Rattle.meaning.specs.Refusals.{AllMet, rowsOrder, Stopped}
 
@@ -175,8 +176,8 @@ pub record Agree (S : Study) (runs runs′ : Runs) (sheet sheet′ : List ℕ) :
       → direction (baseFlow (gridOf S) runs c) ≡ direction (baseFlow (gridOf S) runs′ c)
   pub potentials : (system : System) (v : ℕ) → v < length (S .nodes)
       → natAbs (potential (runOf runs system) v -ℤ potential (runOf runs′ system) v) ≤ 200000000
-  pub widerMetre : (v : ℕ) → v < length (S .nodes) → natAbs (widerMetres runs v -ℤ widerMetres runs′ v) ≤ 1
-  pub localMetre : (v : ℕ) → v < length (S .nodes) → natAbs (localMetres runs v -ℤ localMetres runs′ v) ≤ 1
+  -- "each node's wider and local marginal distance differs by at most one metre"
+  pub distances : DistancesWithin 1 (gridOf S) (gridOf S) runs runs′ sheet sheet′
   pub sheets : runs ≡ runs′ → sheet ≡ sheet′
 
 abbrev pub SolversAgree : Type 0

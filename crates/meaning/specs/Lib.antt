@@ -20,9 +20,11 @@ pub mod Edges
 pub mod Conditions
 pub mod Refusals
 pub mod Read
+pub mod Distances
 pub mod Demands
 pub mod Mirror
 pub mod Versions
+pub mod OnlyDirections
 pub mod Calls
 -- no words of 01: arrays and searches as code has them
 pub mod Columns

@@ -20,6 +20,7 @@ use Rattle.meaning.specs.Outcome.{sheetOf}
 use Rattle.meaning.specs.Sheet.{letter}
 use Rattle.meaning.specs.Read.{field, readNatural, readWhole, hasLetter, lineAt}
 use Rattle.meaning.specs.Conditions.{InRange, Acceptable}
+use Rattle.meaning.specs.Distances.{weightIn}
 
 -- ---- one division
 abbrev pub NearestMirrors : Type 0
@@ -67,10 +68,6 @@ abbrev pub AveragesMirror : Type 0
 AveragesMirror = (n : ℕ) (m : ℕ → Metres) (w : ℕ → Kw) → average n (λ v. negℤ (m v)) w ≡ negℤ (average n m w)
 
 -- ---- a generation zone and a demand zone of one case
--- the kilowatts by which node v weighs in a zone
-abbrev pub weightIn : Grid → Side → (zone v : ℕ) → Kw
-weightIn G side zone v = cond (eqb (zoneOf G side v) zone) (weight G side v) 0
-
 -- the same nodes and weights: each node weighs in both alike
 abbrev pub WeighAlike : Grid → (g d : ℕ) → Type 0
 WeighAlike G g d = (v : ℕ) → v < length (G .nodes) → weightIn G Generation g v ≡ weightIn G Demand d v

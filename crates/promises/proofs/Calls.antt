@@ -16,8 +16,10 @@ use Rattle.meaning.specs.Conditions.{Acceptable}
 use Rattle.meaning.specs.Demands.{IsWritten, IsRefused, Recovered, SameButStations, Agree, PassesToFive}
 use Rattle.meaning.specs.Mirror.{ShowsMirror}
 use Rattle.meaning.specs.Versions.{SayTheSame}
+use Rattle.meaning.specs.Distances.{DistancesWithin}
+use Rattle.meaning.specs.OnlyDirections.{Asked, Holds}
 use Rattle.claims.proofs.Accepted.{accepted≢refused}
-use Rattle.claims.proofs.Theorems.{every-input-settled, accepted-exactly-when, refused-exactly-when, revenue-recovered, solvers-agree, stations-hidden, printed-mirror, one-sheet-in-either-version}
+use Rattle.claims.proofs.Theorems.{every-input-settled, accepted-exactly-when, refused-exactly-when, revenue-recovered, solvers-agree, stations-hidden, printed-mirror, one-sheet-in-either-version, only-directions-count}
 use Rattle.meaning.specs.Refusals.{Stopped}
 use Rattle.meaning.specs.Calls.{Call, Kept}
 use Rattle.promises.specs.Calls.{IsAccepted, sheetIn, IsRefusal, Promised, EveryCallPromised, EveryTwoPromised}
@@ -97,7 +99,7 @@ pub every-call-promised : EveryCallPromised
 every-call-promised = promised
 
 pub every-two-promised : EveryTwoPromised
-every-two-promised c d keptC keptD = record { agree = agree; hidden = hidden; either = either }
+every-two-promised c d keptC keptD = record { agree = agree; hidden = hidden; either = either; directions = directions }
   where
     either : SayTheSame (c .file) (d .file) → c .runs ≡ d .runs → c .before ≡ d .before → (c .answer ≡ d .answer) × (c .after ≡ d .after)
     either same runs before = (ap (λ (s : Settled). s .answer) one, ap (λ (s : Settled). s .buffer) one)
@@ -115,6 +117,14 @@ every-two-promised c d keptC keptD = record { agree = agree; hidden = hidden; ei
         subst (λ (l : List ℕ). Agree (studyOf (c .file)) (c .runs) (d .runs) l (sheetIn d)) (sym (promised c keptC .sheet a))
         (subst (λ (l : List ℕ). Agree (studyOf (c .file)) (c .runs) (d .runs) (sheetOf (c .file) (c .runs)) l) (sym (promised d keptD .sheet b))
         (solvers-agree (c .file) (d .file) (c .runs) (d .runs) (acceptable c keptC a) (acceptable d keptD b) same))
+
+    directions : IsAccepted c → IsAccepted d → ((a : Asked) → Holds a (studyOf (c .file)) (studyOf (d .file)) (c .runs) (d .runs))
+        → DistancesWithin 1 (gridOf (studyOf (c .file))) (gridOf (studyOf (d .file))) (c .runs) (d .runs) (sheetIn c) (sheetIn d)
+    directions a b all =
+        let within = DistancesWithin 1 (gridOf (studyOf (c .file))) (gridOf (studyOf (d .file))) (c .runs) (d .runs) in
+        subst (λ (l : List ℕ). within l (sheetIn d)) (sym (promised c keptC .sheet a))
+        (subst (λ (l : List ℕ). within (sheetOf (c .file) (c .runs)) l) (sym (promised d keptD .sheet b))
+        (only-directions-count (c .file) (d .file) (c .runs) (d .runs) (acceptable c keptC a) (acceptable d keptD b) all))
 
     hidden : c .runs ≡ d .runs → PassesToFive (c .file) (c .runs) → PassesToFive (d .file) (d .runs)
         → SameButStations (studyOf (c .file)) (studyOf (d .file)) → length (c .before) ≡ length (d .before) → c .answer ≡ d .answer

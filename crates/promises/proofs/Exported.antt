@@ -17,6 +17,8 @@ use Rattle.meaning.specs.Refusals.{Stopped}
 use Rattle.meaning.specs.Demands.{Accepting, Recovered, SameButStations, Agree, PassesToFive}
 use Rattle.meaning.specs.Mirror.{ShowsMirror}
 use Rattle.meaning.specs.Versions.{SayTheSame}
+use Rattle.meaning.specs.Distances.{DistancesWithin}
+use Rattle.meaning.specs.OnlyDirections.{Asked, Holds}
 use Rattle.meaning.specs.Calls.{Call, Kept, four, ToldCall, ToldKept}
 use Rattle.meaning.proofs.Table.{values-tell, number-positive}
 use Rattle.claims.proofs.Listed.{stopped-listed}
@@ -146,7 +148,7 @@ pub every-told-promised : EveryToldPromised
 every-told-promised = promised
 
 pub every-two-told : EveryTwoTold
-every-two-told c d keptC keptD = record { agree = agree; hidden = hidden; either = either }
+every-two-told c d keptC keptD = record { agree = agree; hidden = hidden; either = either; directions = directions }
   where
     two : BothPromised (inner c keptC) (inner d keptD)
     two = every-two-promised (inner c keptC) (inner d keptD) (inner-kept c keptC) (inner-kept d keptD)
@@ -157,6 +159,14 @@ every-two-told c d keptC keptD = record { agree = agree; hidden = hidden; either
         subst (λ (l : List ℕ). Agree (studyOf (c .file)) (c .runs) (d .runs) l (sheetAt d (n d keptD))) (sheet-in c keptC e)
         (subst (Agree (studyOf (c .file)) (c .runs) (d .runs) (sheetIn (inner c keptC))) (sheet-in d keptD f)
         (two .agree (is-accepted c keptC e) (is-accepted d keptD f) same))
+
+    directions : c .result ≡ 0 → d .result ≡ 0 → ((a : Asked) → Holds a (studyOf (c .file)) (studyOf (d .file)) (c .runs) (d .runs))
+        → DistancesWithin 1 (gridOf (studyOf (c .file))) (gridOf (studyOf (d .file))) (c .runs) (d .runs) (sheetAt c (n c keptC)) (sheetAt d (n d keptD))
+    directions e f all =
+        let within = DistancesWithin 1 (gridOf (studyOf (c .file))) (gridOf (studyOf (d .file))) (c .runs) (d .runs) in
+        subst (λ (l : List ℕ). within l (sheetAt d (n d keptD))) (sheet-in c keptC e)
+        (subst (within (sheetIn (inner c keptC))) (sheet-in d keptD f)
+        (two .directions (is-accepted c keptC e) (is-accepted d keptD f) all))
 
     -- one answer is told in one way
     told : inner c keptC .answer ≡ inner d keptD .answer → (c .result ≡ d .result) × (c .numbers ≡ d .numbers)

@@ -19,12 +19,14 @@ use Rattle.meaning.specs.Conditions.{Acceptable}
 use Rattle.meaning.specs.Refusals.{FirstUnmet, caseOrder}
 use Rattle.meaning.specs.Demands.{Recovered, SameButStations, Agree, PassesToFive}
 use Rattle.meaning.specs.Mirror.{ShowsMirror}
+use Rattle.meaning.specs.Distances.{DistancesWithin}
+use Rattle.meaning.specs.OnlyDirections.{Asked, Holds}
 use Rattle.meaning.proofs.Judged.{judge-case, judged-pass}
 use Rattle.claims.proofs.Listed.{case-listed, case-number}
 use Rattle.claims.proofs.Told.{line-told}
 use Rattle.claims.proofs.Hidden.{judged-alike}
 use Rattle.claims.proofs.Same.{same-grid}
-use Rattle.claims.proofs.Theorems.{revenue-recovered, solvers-agree, printed-mirror, one-sheet-in-either-version}
+use Rattle.claims.proofs.Theorems.{revenue-recovered, solvers-agree, printed-mirror, one-sheet-in-either-version, only-directions-count}
 use Rattle.output.proofs.Cut.{input-cut}
 use Rattle.meaning.specs.Calls.{Prints}
 use Rattle.promises.specs.Program.{shown, RefusalPrinted, PrintPromised, EveryPrintPromised, BothPrinted, EveryTwoPrinted, Filled, EveryReadPromised}
@@ -106,7 +108,7 @@ every-print-promised file r p = subst (PrintPromised file) (shown-is (prints fil
 
 both : (file file′ : List ℕ) → BothPrinted file file′ (prints file) (prints file′)
 unfolding prints
-both file file′ = record { agree = agree; hidden = hidden; either = λ same runs. one-sheet-in-either-version file file′ same .printed runs }
+both file file′ = record { agree = agree; hidden = hidden; either = λ same runs. one-sheet-in-either-version file file′ same .printed runs; directions = directions }
   where
     agree : Acceptable file (runsIn file) → Acceptable file′ (runsIn file′) → SameButStations (studyOf file) (studyOf file′)
         → Agree (studyOf file) (runsIn file) (runsIn file′) (prints file) (prints file′)
@@ -114,6 +116,14 @@ both file file′ = record { agree = agree; hidden = hidden; either = λ same ru
         subst (λ (l : List ℕ). Agree (studyOf file) (runsIn file) (runsIn file′) l (prints file′)) (sym (accepted-sheet file a))
         (subst (λ (l : List ℕ). Agree (studyOf file) (runsIn file) (runsIn file′) (sheetOf file (runsIn file)) l) (sym (accepted-sheet file′ b))
         (solvers-agree file file′ (runsIn file) (runsIn file′) a b same))
+
+    directions : Acceptable file (runsIn file) → Acceptable file′ (runsIn file′) → ((a : Asked) → Holds a (studyOf file) (studyOf file′) (runsIn file) (runsIn file′))
+        → DistancesWithin 1 (gridOf (studyOf file)) (gridOf (studyOf file′)) (runsIn file) (runsIn file′) (prints file) (prints file′)
+    directions a b all =
+        let within = DistancesWithin 1 (gridOf (studyOf file)) (gridOf (studyOf file′)) (runsIn file) (runsIn file′) in
+        subst (λ (l : List ℕ). within l (prints file′)) (sym (accepted-sheet file a))
+        (subst (λ (l : List ℕ). within (sheetOf file (runsIn file)) l) (sym (accepted-sheet file′ b))
+        (only-directions-count file file′ (runsIn file) (runsIn file′) a b all))
 
     hidden : runsIn file ≡ runsIn file′ → PassesToFive file (runsIn file) → PassesToFive file′ (runsIn file′)
         → SameButStations (studyOf file) (studyOf file′) → prints file ≡ prints file′

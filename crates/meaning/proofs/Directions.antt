@@ -1,0 +1,120 @@
+-- What says a network, a length and an offset: circuits, names in order, the reference, the six factors and directions, and nothing else of a case.
+use mathlib.Core.Path.{_≡_, refl, sym, _∙_, ap, ap₂, fun-ext}
+use mathlib.Core.Bool.{cond}
+use mathlib.Core.List.{List, []}
+use mathlib.Core.Option.{Option·getD}
+use Prim.Native.Nat.{ℕ, zero, suc, _+_, _*_, _-_, _≤_, _<_}
+use native.Mathlib.Omega.{arith}
+use native.Mathlib.Nat.{zero-mul}
+use native.Mathlib.Decide.{decLe, decLt}
+use lib.Dec.{eqb}
+use lib.IntN.{ℤ, pos}
+use lib.ListN.{length, getD, List·getD-eq-default}
+use Rattle.meaning.specs.Name.{Name, sameName}
+use Rattle.meaning.specs.Rows.{lowest}
+use Rattle.meaning.specs.Study.{Settings, Node, Circuit, Study, Runs, node, circuit, noCircuit}
+use Rattle.meaning.specs.declared.System.{System}
+use Rattle.meaning.specs.declared.System.the-variants.{Base, Wider, Local}
+use Rattle.meaning.specs.declared.Direction.{Direction}
+use Rattle.meaning.specs.declared.Direction.the-variants.{Idle, Forward, Backward, InDoubt}
+use Rattle.meaning.specs.Grid.{gridOf, place}
+use Rattle.meaning.specs.Network.{networkOf}
+use Rattle.meaning.specs.Direction.{overheadFactor, cableFactor, ownOr, expandedLength, direction, signed, signedLength}
+use Rattle.meaning.specs.Systems.{baseFlow, lengthOf, offset}
+use Rattle.meaning.specs.Conditions.{HasLength}
+use Rattle.meaning.specs.OnlyDirections.{factorsOf, namesOf, Holds, sameCircuits, sameNames, sameFactors, sameReference, sameDirections}
+use Rattle.meaning.proofs.Rows.{lowest-same, rows-at, length-rows}
+
+-- ---- a name's place is said by the names alone, and a network by circuits, names and reference
+module _ (nodes nodes′ : List Node) (e : namesOf nodes ≡ namesOf nodes′) where
+  pub names-count : length nodes ≡ length nodes′
+  names-count = sym (length-rows (length nodes) _) ∙ ap length e ∙ length-rows (length nodes′) _
+
+  name-at : (v : ℕ) → v < length nodes → node nodes v .name ≡ node nodes′ v .name
+  name-at v h = sym (rows-at [] (length nodes) _ v h) ∙ ap (λ (l : List Name). getD l v []) e ∙ rows-at [] (length nodes′) _ v (omega (arith, names-count))
+
+  pub place-same : (name : Name) → place nodes name ≡ place nodes′ name
+  unfolding place
+  place-same name =
+      ap₂ Option·getD
+      (lowest-same _ _ (length nodes) (λ v h. ap (λ (m : Name). sameName m name) (name-at v h))
+      ∙ ap (λ (k : ℕ). lowest (λ v. sameName (node nodes′ v .name) name) k) names-count)
+      names-count
+
+pub network-shared : (S S′ : Study) (runs runs′ : Runs) → Holds sameCircuits S S′ runs runs′ → Holds sameNames S S′ runs runs′ → Holds sameReference S S′ runs runs′
+    → networkOf (gridOf S) ≡ networkOf (gridOf S′)
+unfolding networkOf gridOf
+network-shared S S′ runs runs′ c n r = λ i. record {
+  nodes = names-count (S .nodes) (S′ .nodes) n i;
+  circuits = ap length c i;
+  reference = ap (λ (k : ℕ). k - 1) r i;
+  first = fun-ext (λ k. ap₂ (λ (l : List Circuit) (f : Name → ℕ). f (circuit l k .first)) c places) i;
+  second = fun-ext (λ k. ap₂ (λ (l : List Circuit) (f : Name → ℕ). f (circuit l k .second)) c places) i;
+  x = fun-ext (λ k. ap (λ (l : List Circuit). circuit l k .x) c) i;
+}
+  where
+    places : place (S .nodes) ≡ place (S′ .nodes)
+    places = fun-ext (place-same (S .nodes) (S′ .nodes) n)
+
+-- ---- an expanded length is said by its row and the six factors
+pub expanded-same : (s s′ : Settings) (c : Circuit) → factorsOf s ≡ factorsOf s′ → expandedLength s c ≡ expandedLength s′ c
+unfolding expandedLength overheadFactor cableFactor
+expanded-same s s′ c e = ap (λ (l : List ℕ).
+    c .overhead * ownOr (c .factor) (cond (eqb (c .voltage) 400) (getD l 0 0) (cond (eqb (c .voltage) 275) (getD l 2 0) (getD l 4 0)))
+    + c .cable * ownOr (c .factor) (cond (eqb (c .voltage) 400) (getD l 1 0) (cond (eqb (c .voltage) 275) (getD l 3 0) (getD l 5 0)))) e
+
+-- ---- lengths with a sign
+-- a circuit without a length has a signed length of 0, whatever its flow
+no-length : (s : Settings) (c : Circuit) (d : Direction) → (HasLength c → ⊥) → signed d (pos (1000000 * expandedLength s c)) ≡ pos 0
+unfolding expandedLength signed
+no-length s c d h = rw (empty (c .overhead) (c .cable) _ _ (omega arith)) (nought d)
+  where
+    empty : (a b m n : ℕ) → a + b ≡ 0 → 1000000 * (a * m + b * n) ≡ 0
+    empty zero zero m n e = rw (zero-mul m, zero-mul n) refl
+    empty (suc a) b m n e = absurd (omega arith)
+    empty zero (suc b) m n e = absurd (omega arith)
+
+    nought : (d : Direction) → signed d (pos 0) ≡ pos 0
+    nought Idle = refl
+    nought Forward = refl
+    nought Backward = refl
+    nought InDoubt = refl
+
+-- one expanded length and, where there is a length, one direction
+length-same : (s s′ : Settings) (c : Circuit) (f f′ : ℤ) → expandedLength s c ≡ expandedLength s′ c
+    → (HasLength c → direction f ≡ direction f′) → signedLength s c f ≡ signedLength s′ c f′
+unfolding signedLength
+length-same s s′ c f f′ e same = go (decLe 1 (c .overhead + c .cable))
+  where
+    go : Dec (HasLength c) → signed (direction f) (pos (1000000 * expandedLength s c)) ≡ signed (direction f′) (pos (1000000 * expandedLength s′ c))
+    go (yes h) = ap₂ (λ (d : Direction) (n : ℕ). signed d (pos (1000000 * n))) (same h) e
+    go (no h) = no-length s c _ h ∙ sym (no-length s′ c _ h)
+
+-- a row past the table has no length
+pub in-table : (circuits : List Circuit) (c : ℕ) → HasLength (circuit circuits c) → c < length circuits
+in-table circuits c h = go (decLt c (length circuits))
+  where
+    go : Dec (c < length circuits) → c < length circuits
+    go (yes k) = k
+    go (no k) = absurd (omega (arith, rw (List·getD-eq-default circuits noCircuit (past k)) at h))
+      where
+        past : (c < length circuits → ⊥) → length circuits ≤ c
+        past k = omega arith
+
+-- ---- so the offsets of all systems are said by circuits, factors and directions
+module _ (S S′ : Study) (runs runs′ : Runs) (rows : Holds sameCircuits S S′ runs runs′) (scales : Holds sameFactors S S′ runs runs′) (headed : Holds sameDirections S S′ runs runs′) where
+  same-length : (c : ℕ) → lengthOf (gridOf S) runs c ≡ lengthOf (gridOf S′) runs′ c
+  unfolding lengthOf gridOf
+  same-length c =
+      length-same (S .settings) (S′ .settings) (circuit (S .circuits) c) _ _ (expanded-same (S .settings) (S′ .settings) (circuit (S .circuits) c) scales)
+      (λ h. headed c (in-table (S .circuits) c h) h)
+      ∙ ap (λ (l : List Circuit). signedLength (S′ .settings) (circuit l c) (baseFlow (gridOf S′) runs′ c)) rows
+
+  same-mark : (c : ℕ) → circuit (S .circuits) c .localMark ≡ circuit (S′ .circuits) c .localMark
+  same-mark c = ap (λ (l : List Circuit). circuit l c .localMark) rows
+
+  pub offset-shared : (system : System) → offset (gridOf S) runs system ≡ offset (gridOf S′) runs′ system
+  unfolding offset gridOf
+  offset-shared Base = refl
+  offset-shared Wider = fun-ext (λ c. ap₂ (λ (mark : ℕ) (z : ℤ). cond (eqb mark 0) z (pos 0)) (same-mark c) (same-length c))
+  offset-shared Local = fun-ext (λ c. ap₂ (λ (mark : ℕ) (z : ℤ). cond (eqb mark 0) (pos 0) z) (same-mark c) (same-length c))

@@ -1,0 +1,94 @@
+-- 02, request 12: "Only directions count." Does more generation change nodal costs? Not while every direction stays. As statements over the definitions.
+use mathlib.Core.Path.{_≡_}
+use mathlib.Core.Logic.{_≢_}
+use mathlib.Core.List.{List, [], _∷_}
+use Prim.Native.Nat.{ℕ, _≤_, _<_}
+use lib.ListN.{length}
+use Rattle.meaning.specs.Rows.{rows}
+use Rattle.meaning.specs.Name.{Name}
+use Rattle.meaning.specs.Study.{Settings, Node, Study, Runs, node, circuit}
+use Rattle.meaning.specs.File.{studyOf}
+use Rattle.meaning.specs.Grid.{gridOf}
+use Rattle.meaning.specs.Direction.{direction}
+use Rattle.meaning.specs.Systems.{baseFlow}
+use Rattle.meaning.specs.Figures.{widerMetres, localMetres}
+use Rattle.meaning.specs.Outcome.{sheetOf}
+use Rattle.meaning.specs.Conditions.{Acceptable, HasLength}
+use Rattle.meaning.specs.Distances.{apart, DistancesWithin}
+
+-- "factors": the six expansion factors
+abbrev pub factorsOf : Settings → List ℕ
+factorsOf s = s.overhead400 ∷ s.cable400 ∷ s.overhead275 ∷ s.cable275 ∷ s.overhead132 ∷ s.cable132 ∷ []
+
+abbrev pub namesOf : List Node → List Name
+namesOf nodes = rows (length nodes) (λ v. node nodes v .name)
+
+-- what is asked of two cases; nothing is asked of demand, TEC, zones, the other settings, stations and solvers
+pub data Asked : Type 0 where
+  sameCircuits : Asked
+  sameNames : Asked
+  sameFactors : Asked
+  sameReference : Asked
+  sameDirections : Asked
+
+-- "equal circuits, node names in equal order, factors and reference, whose circuits with a length have equal directions (idle ones idle in both)".
+-- "over edition 1": until request 5 every accepted case is of it (WholeFile, settingsZero); from then on a line here asks it of both
+abbrev pub Holds : Asked → (S S′ : Study) (runs runs′ : Runs) → Type 0
+Holds sameCircuits S S′ runs runs′ = S .circuits ≡ S′ .circuits
+Holds sameNames S S′ runs runs′ = namesOf (S .nodes) ≡ namesOf (S′ .nodes)
+Holds sameFactors S S′ runs runs′ = factorsOf (S .settings) ≡ factorsOf (S′ .settings)
+Holds sameReference S S′ runs runs′ = S .settings .reference ≡ S′ .settings .reference
+Holds sameDirections S S′ runs runs′ =
+    (c : ℕ) → c < length (S .circuits) → HasLength (circuit (S .circuits) c) → direction (baseFlow (gridOf S) runs c) ≡ direction (baseFlow (gridOf S′) runs′ c)
+
+-- "two accepted cases" of which all this holds "differ by at most one metre in every nodal distance, whatever their demand and TEC"
+abbrev pub OnlyDirectionsCount : Type 0
+OnlyDirectionsCount =
+    (file file′ : List ℕ) (runs runs′ : Runs)
+    → Acceptable file runs
+    → Acceptable file′ runs′
+    → ((a : Asked) → Holds a (studyOf file) (studyOf file′) runs runs′)
+    → DistancesWithin 1 (gridOf (studyOf file)) (gridOf (studyOf file′)) runs runs′ (sheetOf file runs) (sheetOf file′ runs′)
+
+-- ---- and no less will do
+-- two cases, and what holds of them
+pub record Two : Type 0 where
+  pub file : List ℕ
+  pub file′ : List ℕ
+  pub runs : Runs
+  pub runs′ : Runs
+
+abbrev pub HoldsOf : Two → Asked → Type 0
+HoldsOf t a = Holds a (studyOf (t .file)) (studyOf (t .file′)) (t .runs) (t .runs′)
+
+-- at some node their wider distances differ by more than a metre
+pub record FarApart (t : Two) : Type 0 where
+  pub node : ℕ
+  pub isNode : node < length (studyOf (t .file) .nodes)
+  pub far : 2 ≤ apart (widerMetres (t .runs) node) (widerMetres (t .runs′) node)
+
+-- two accepted cases of which all but this is so; and two of which all is so, but one is not accepted
+pub record Needed (a : Asked) : Type 0 where
+  pub two : Two
+  pub accepted : Acceptable (two .file) (two .runs)
+  pub accepted′ : Acceptable (two .file′) (two .runs′)
+  pub others : (b : Asked) → b ≢ a → HoldsOf two b
+  pub apart : FarApart two
+
+abbrev pub EachIsNeeded : Type 0
+EachIsNeeded = (a : Asked) → Needed a
+
+pub record AcceptedIsNeeded : Type 0 where
+  pub two : Two
+  pub accepted : Acceptable (two .file) (two .runs)
+  pub all : (a : Asked) → HoldsOf two a
+  pub apart : FarApart two
+
+-- and two accepted cases of which all is so, with a wider and a local distance that differ by a metre
+pub record MetreIsReached : Type 0 where
+  pub two : Two
+  pub accepted : Acceptable (two .file) (two .runs)
+  pub accepted′ : Acceptable (two .file′) (two .runs′)
+  pub all : (a : Asked) → HoldsOf two a
+  pub wider : (v : ℕ) × (v < length (studyOf (two .file) .nodes)) × (apart (widerMetres (two .runs) v) (widerMetres (two .runs′) v) ≡ 1)
+  pub local : (v : ℕ) × (v < length (studyOf (two .file) .nodes)) × (apart (localMetres (two .runs) v) (localMetres (two .runs′) v) ≡ 1)
