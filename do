@@ -43,7 +43,11 @@ kiln)                                                   # print the sheet of cas
     build_program
     print_sheet crates/tariff/stdin
     ;;
-case) exec cargo run --offline --quiet --release --manifest-path reference/Cargo.toml --bin case -- "$@" ;; # make, show and solve case files; alone it says how
+case)                                                   # make, show, solve and compare case files; alone it says how
+    # From where the user stands, for the names of files.
+    repository=$PWD && cd "$from"
+    exec cargo run --offline --quiet --release --manifest-path "$repository/reference/Cargo.toml" --bin case -- "$@"
+    ;;
 gate) alone "$@" && exec .ci/run ;;                     # the verdict, from nothing
 check) exec rt check "$@" ;;                            # prove these crates and what they depend on
 dev) exec rt dev "$@" ;;                                # the edit loop on one crate, in seconds

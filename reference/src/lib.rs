@@ -4,8 +4,9 @@
 //! Written from their words for clarity, not for speed: `i128` for every sum, one function for each
 //! sentence, and each function names its place. `judge_case` is the library entry, `program_output` what the
 //! program prints. `text` writes and reads cases as plain text, `solver` proposes solutions, `largest` and
-//! `longest` build cases of the greatest counts.
+//! `longest` build cases of the greatest counts, `beside` sets two cases side by side (request 12).
 
+pub mod beside;
 pub mod charges;
 pub mod file;
 pub mod judge;

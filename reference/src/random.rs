@@ -74,6 +74,49 @@ pub fn random_of_version_2(seed: u64, most_nodes: u64) -> Case {
     solved(&case).0
 }
 
+/// 02, CR 12: another case of a network by chance: its circuits, names, factors and reference, and demand, stations, zones
+/// and money by chance.
+pub fn another(network: &Case, seed: u64) -> Case {
+    let chance = &mut Chance(seed);
+    let nodes = network.nodes.len() as u64;
+    let settings = other_settings(network, chance);
+    let mut case = Case {
+        nodes: other_nodes(network, chance, &settings),
+        stations: (0..2 * nodes).map(|number| station(chance, number, nodes)).collect(),
+        settings,
+        ..network.clone()
+    };
+    fit_totals(&mut case);
+    solved(&case).0
+}
+
+/// 02, CR 12: the same with the network's stations, and each demand and TEC by at most so many per cent more or less.
+pub fn near(network: &Case, seed: u64, percent: u64) -> Case {
+    let chance = &mut Chance(seed);
+    let settings = other_settings(network, chance);
+    let mut case = Case { nodes: other_nodes(network, chance, &settings), settings, ..network.clone() };
+    let mut moved = |kw: u32| (kw as u64 * chance.within(100 - percent, 100 + percent) / 100) as u32;
+    for (row, old) in case.nodes.iter_mut().zip(&network.nodes) {
+        row.demand = moved(old.demand);
+    }
+    case.stations.iter_mut().for_each(|row| row.tec = moved(row.tec));
+    case.stations.iter_mut().for_each(|row| row.plant = chance.within(1, 7) as u32);
+    fit_totals(&mut case);
+    solved(&case).0
+}
+
+/// Settings by chance but for a network's factors and reference.
+fn other_settings(network: &Case, chance: &mut Chance) -> Settings {
+    let (factors, reference) = (network.settings.factors, network.settings.reference);
+    Settings { factors, reference, ..settings(chance, network.nodes.len() as u64) }
+}
+
+/// A network's names, their demand and zones by chance.
+fn other_nodes(network: &Case, chance: &mut Chance, settings: &Settings) -> Vec<NodeRow> {
+    let rows = network.nodes.iter().zip(0..);
+    rows.map(|(row, number)| NodeRow { name: row.name, ..node(chance, number, settings) }).collect()
+}
+
 /// Settings anywhere in their ranges.
 fn settings(chance: &mut Chance, nodes: u64) -> Settings {
     Settings {

@@ -109,10 +109,16 @@ pub fn misses(tables: &Tables, system: &System, run: &[i64]) -> i128 {
 /// 01 step 4: "A circuit with a length above zero is idle at a base flow of magnitude up to 200,000,000, directed
 /// above 400,000,000, and in doubt between".
 pub fn direction(circuit: &Circuit, base_flow: i64) -> Direction {
+    match circuit.expanded_length {
+        0 => Direction::WithoutLength,
+        _ => flow_direction(base_flow),
+    }
+}
+
+/// 01 step 4: the direction of a circuit with a length.
+pub fn flow_direction(base_flow: i64) -> Direction {
     let flow = base_flow as i128;
-    if circuit.expanded_length == 0 {
-        Direction::WithoutLength
-    } else if flow.abs() <= IDLE_FLOW {
+    if flow.abs() <= IDLE_FLOW {
         Direction::Idle
     } else if flow.abs() <= DIRECTED_FLOW {
         Direction::InDoubt

@@ -36,7 +36,7 @@ fn each_text_gives_its_sheet() {
 }
 
 /// Texts whose solutions are another solver's, or chosen: at the ends of their ranges, or by hand.
-const CHOSEN: [&str; 5] = ["DALE", "HIGH", "LOW", "TARN", "TARN_MIRROR"];
+const CHOSEN: [&str; 7] = ["DALE", "HIGH", "LOW", "TARN", "TARN_MIRROR", "TUT1_OTHER", "TARN_METRE"];
 
 #[test]
 fn each_chosen_text_gives_its_sheet() {

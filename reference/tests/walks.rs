@@ -5,13 +5,14 @@ use reference::file::{whole_case, Case};
 use reference::replay::{cases, Labelled, Told};
 use std::collections::{BTreeSet, HashMap};
 
-/// Cases of the replay before those for the walk.
+/// Cases of the replay before those for the walk, and those for the walk.
 const EARLIER: usize = 3_026;
+const WALKS: usize = 241;
 
 /// The cases for the walk, each with its tables.
 fn walks() -> Vec<(Labelled, Case)> {
     let with_tables = |case: Labelled| whole_case(&case.file).map(|tables| (case, tables));
-    cases().into_iter().skip(EARLIER).map(|case| with_tables(case).expect("a whole file")).collect()
+    cases().into_iter().skip(EARLIER).take(WALKS).map(|case| with_tables(case).expect("a whole file")).collect()
 }
 
 /// The row that stands for all rows joined with this one.

@@ -1,7 +1,7 @@
-//! Makes, shows and solves case files. Standard input to standard output; faults to standard error.
+//! Makes, shows, solves and compares case files. Standard input to standard output; faults to standard error.
 
 use reference::file::{whole_case, Case, Version};
-use reference::{largest, longest, random, solver, standard, text};
+use reference::{beside, largest, longest, random, solver, standard, text};
 use std::process::ExitCode;
 
 const USE: &str = "\
@@ -10,6 +10,7 @@ case show     < file > text   a text that describes a file, damaged ones too
 case solve    < text > text   the same text with solutions in place of its own
 case solve    < file > file   the same for a file
 case version N < file > file  the same case in a file of version 1 or 2
+case beside FILE FILE > text  two cases, each a text or a file: what of request 12 holds, directions, distances
 case largest         > file   256 nodes, 512 circuits, 512 stations
 case largest_2       > file   the largest of version 2: 256 nodes, 480 circuits, 512 stations
 case longest         > file   the counts of the largest, and a sheet nearly as long as one can be
@@ -25,6 +26,8 @@ fn main() -> ExitCode {
         ["show"] => standard::input().map(|file| text::show(&file).into_bytes()),
         ["solve"] => standard::input().and_then(|input| solve(&input)),
         ["version", number] => standard::input().and_then(|file| in_version(&file, number)),
+        ["beside", first, second] => side_by_side([first, second]),
+        ["beside", ..] => Err("beside takes the names of two files".to_string()),
         ["largest"] => Ok(largest::largest().bytes()),
         ["largest_2"] => Ok(largest::largest_of_version_2().bytes()),
         ["longest"] => Ok(longest::longest().bytes()),
@@ -77,6 +80,15 @@ fn in_version(file: &[u8], word: &str) -> Result<Vec<u8>, String> {
     let version = word.parse().ok().and_then(Version::of).ok_or("a version is 1 or 2")?;
     let case = whole_case(file).ok_or("not a whole file")?;
     Ok(case.in_version(version)?.bytes())
+}
+
+/// 02, CR 12: the cases of two files, by their names, side by side.
+fn side_by_side(names: [&str; 2]) -> Result<Vec<u8>, String> {
+    let case = |name: &str| -> Result<Case, String> {
+        let input = std::fs::read(name).map_err(|fault| format!("{name}: {fault}"))?;
+        beside::read(&input).map_err(|fault| format!("{name}: {fault}"))
+    };
+    Ok(beside::laid_out(&beside::beside(&case(names[0])?, &case(names[1])?), names).into_bytes())
 }
 
 /// A case by chance.

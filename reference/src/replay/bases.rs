@@ -31,12 +31,16 @@ pub const LINK_TEXTS: [(&str, &str); 2] = [text_named!("TUT1_IC"), text_named!("
 /// The texts of the folder of version 2 (02, CR 3).
 pub const VERSION_TEXTS: [(&str, &str); 2] = [text_named!("SUBSEA"), text_named!("KILN_2")];
 
-/// Texts of the folder whose solutions aren't this solver's.
+/// The texts of the folder that stand beside TUT1 and TARN (02, CR 12). Their solutions aren't this solver's.
+pub const DIRECTION_TEXTS: [(&str, &str); 2] = [text_named!("TUT1_OTHER"), text_named!("TARN_METRE")];
+
+/// More texts of the folder whose solutions aren't this solver's.
 const CHOSEN_TEXTS: [(&str, &str); 2] = [text_named!("DALE"), text_named!("TARN")];
 
 /// The case of a text of the folder.
 pub fn named_case(name: &str) -> Case {
-    let mut texts = TEXTS.into_iter().chain(LINK_TEXTS).chain(VERSION_TEXTS).chain(CHOSEN_TEXTS);
+    let lists = [&TEXTS[..], &LINK_TEXTS, &VERSION_TEXTS, &DIRECTION_TEXTS, &CHOSEN_TEXTS];
+    let mut texts = lists.into_iter().flatten();
     let (_, text) = texts.find(|(known, _)| *known == name).expect("a text of the folder");
     text::parse(text.as_bytes()).expect("a text without faults").case
 }

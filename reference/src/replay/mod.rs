@@ -9,6 +9,7 @@ pub mod bases;
 mod bands;
 mod chance;
 mod circuits;
+mod directions;
 mod factors;
 mod figures;
 mod files;
@@ -79,6 +80,7 @@ pub fn cases() -> Vec<Labelled> {
         factors::add,
         versions::add,
         walks::add,
+        directions::add,
     ];
     let mut list = List::default();
     groups.iter().for_each(|add| add(&mut list));

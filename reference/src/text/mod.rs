@@ -27,6 +27,7 @@ mod words;
 
 pub use read::{make, parse, Damage, Described};
 pub use show::{show, solution_lines};
+pub use words::shown_name;
 
 use crate::file::Settings;
 use std::fmt;
@@ -55,15 +56,19 @@ const SETTINGS: [(&str, SettingPlace); 14] = [
     ("constant", |settings| &mut settings.constant),
     ("wider_factor", |settings| &mut settings.wider_factor),
     ("local_factor", |settings| &mut settings.local_factor),
-    ("overhead_400", |settings| &mut settings.factors[0]),
-    ("cable_400", |settings| &mut settings.factors[1]),
-    ("overhead_275", |settings| &mut settings.factors[2]),
-    ("cable_275", |settings| &mut settings.factors[3]),
-    ("overhead_132", |settings| &mut settings.factors[4]),
-    ("cable_132", |settings| &mut settings.factors[5]),
+    (FACTOR_NAMES[0], |settings| &mut settings.factors[0]),
+    (FACTOR_NAMES[1], |settings| &mut settings.factors[1]),
+    (FACTOR_NAMES[2], |settings| &mut settings.factors[2]),
+    (FACTOR_NAMES[3], |settings| &mut settings.factors[3]),
+    (FACTOR_NAMES[4], |settings| &mut settings.factors[4]),
+    (FACTOR_NAMES[5], |settings| &mut settings.factors[5]),
     ("reference", |settings| &mut settings.reference),
     ("zero", |settings| &mut settings.zero),
 ];
+
+/// 01 "The case file", settings: the names of the six expansion factors, in the file's order.
+pub const FACTOR_NAMES: [&str; 6] =
+    ["overhead_400", "cable_400", "overhead_275", "cable_275", "overhead_132", "cable_132"];
 
 /// 01 "The case file": the words of the three solutions' lines, in the file's order.
 const SOLUTIONS: [&str; 3] = ["base", "wider", "local"];
