@@ -3,15 +3,16 @@ pub mod Theorems
 -- demands 1 and 2: every input is settled; accepted exactly when
 pub mod Listed
 pub mod Accepted
--- demand 3: solvers agree, and stations stay hidden
+-- demand 3: stations stay hidden
 pub mod Same
 pub mod Hidden
 pub mod Stations
+-- demand 3 and 02, request 12: one system of two cases, only directions count, solvers agree
 pub mod Close
 pub mod Distances
 pub mod OnlyDirections
 pub mod Agree
--- demand 2: the revenue is recovered, read back from the bytes of the sheet
+-- demand 2: the revenue is recovered, read back from the bytes of the sheet; what else its lines show
 pub mod Digits
 pub mod Pieces
 pub mod Names

@@ -57,7 +57,7 @@ network-shared S S′ runs runs′ c n r = λ i. record {
     places = fun-ext (place-same (S .nodes) (S′ .nodes) n)
 
 -- ---- an expanded length is said by its row and the six factors
-pub expanded-same : (s s′ : Settings) (c : Circuit) → factorsOf s ≡ factorsOf s′ → expandedLength s c ≡ expandedLength s′ c
+expanded-same : (s s′ : Settings) (c : Circuit) → factorsOf s ≡ factorsOf s′ → expandedLength s c ≡ expandedLength s′ c
 unfolding expandedLength overheadFactor cableFactor
 expanded-same s s′ c e = ap (λ (l : List ℕ).
     c .overhead * ownOr (c .factor) (cond (eqb (c .voltage) 400) (getD l 0 0) (cond (eqb (c .voltage) 275) (getD l 2 0) (getD l 4 0)))
@@ -91,7 +91,7 @@ length-same s s′ c f f′ e same = go (decLe 1 (c .overhead + c .cable))
     go (no h) = no-length s c _ h ∙ sym (no-length s′ c _ h)
 
 -- a row past the table has no length
-pub in-table : (circuits : List Circuit) (c : ℕ) → HasLength (circuit circuits c) → c < length circuits
+in-table : (circuits : List Circuit) (c : ℕ) → HasLength (circuit circuits c) → c < length circuits
 in-table circuits c h = go (decLt c (length circuits))
   where
     go : Dec (c < length circuits) → c < length circuits

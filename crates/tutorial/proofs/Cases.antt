@@ -18,7 +18,7 @@ use Rattle.meaning.proofs.Judged.{judged-pass}
 
 -- ---- tables
 -- the factor of 275 kV overhead lines, and the reference's row
-abbrev pub settingsWith : (overhead275 reference : ℕ) → Settings
+abbrev settingsWith : (overhead275 reference : ℕ) → Settings
 settingsWith overhead275 reference =
     record {
       generationZones = 4;
@@ -40,7 +40,7 @@ settingsWith overhead275 reference =
 abbrev pub nodeIn : String → (generationZone demandZone demand : ℕ) → Node
 nodeIn n g d kw = record { name = name n; generationZone = g; demandZone = d; demand = kw }
 
-abbrev pub overhead : String → String → (voltage x metres mark : ℕ) → Circuit
+abbrev overhead : String → String → (voltage x metres mark : ℕ) → Circuit
 overhead a b v x m mark = record { first = name a; second = name b; voltage = v; x = x; overhead = m; cable = 0; localMark = mark; factor = 0 }
 
 abbrev pub plant : String → String → (plantType tec : ℕ) → Station
@@ -73,7 +73,7 @@ baseWith b c d ab ac bc dc = pos 0 ∷ b ∷ c ∷ d ∷ ab ∷ ac ∷ bc ∷ dc
 abbrev widerWith : (b c flow : ℤ) → List ℤ
 widerWith b c flow = pos 0 ∷ b ∷ c ∷ c ∷ negℤ flow ∷ flow ∷ negℤ flow ∷ pos 0 ∷ []
 
-abbrev pub localRun : List ℤ
+abbrev localRun : List ℤ
 localRun = pos 0 ∷ pos 0 ∷ pos 0 ∷ pos 30000000000000 ∷ replicate 4 (pos 0)
 
 abbrev runsWith : (base wider : List ℤ) → Runs
@@ -83,7 +83,7 @@ abbrev tutBase : List ℤ
 tutBase = baseWith (negℤ (pos 125000000000)) (negℤ (pos 687500000000)) (pos 3062500000000) (pos 2500000000) (pos 27500000000) (pos 22500000000) (pos 150000000000)
 
 -- A-B forward, and backward: the tutorial's 0, -10, -15, -15 km and 0, 10, -5, -5 km
-abbrev pub forwardWider : List ℤ
+abbrev forwardWider : List ℤ
 forwardWider = widerWith (negℤ (pos 10000000000000)) (negℤ (pos 15000000000000)) (pos 200000000000)
 
 abbrev backwardWider : List ℤ
