@@ -35,6 +35,7 @@ module _ (S : Study) (sound : SoundTables S) (G′ : Grid) (runs runs′ : Runs)
   abbrev N : Network
   N = networkOf (gridOf S)
 
+  -- solved twice
   pub twice : SolvedTwice N 100000000 100000000 (potential (runOf runs system)) (flow N (runOf runs system)) (potential (runOf runs′ system)) (flow N (runOf runs′ system))
   unfolding proposed
   twice = record {
@@ -45,9 +46,11 @@ module _ (S : Study) (sound : SoundTables S) (G′ : Grid) (runs runs′ : Runs)
     again = rw (one .network, one .supplies, one .offsets) (s′ .solves);
   }
 
+  -- theorem B, with 01's bound on misses
   pub potential-near : (v : ℕ) → v < length (S .nodes) → natAbs (potential (runOf runs system) v -ℤ potential (runOf runs′ system) v) ≤ 200000000
   potential-near v h = potentials-close _ _ _ _ _ _ _ twice v (sound .reached v h)
 
+  -- and the metre, which is proved nowhere else
   pub metre-near : (v : ℕ) → v < length (S .nodes) → apart (metres (potential (runOf runs system) v)) (metres (potential (runOf runs′ system) v)) ≤ 1
   metre-near v h =
       let z = potential (runOf runs system) v in

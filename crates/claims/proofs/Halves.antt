@@ -3,7 +3,7 @@
 -- metres after C of -1 and 1 at 0.5 a metre are tariffs of -1 and 1; WEIR's local -2.5 m are -3, and its tariff of -1.5 is -2
 use mathlib.Core.Path.{_≡_, refl}
 use mathlib.Core.List.{List, [], _∷_, _++_}
-use Prim.Native.Nat.{ℕ, zero, _<_}
+use Prim.Native.Nat.{ℕ, _<_}
 use lib.IntN.{ℤ, pos, negℤ}
 use Rattle.meaning.specs.Text.{text}
 use Rattle.meaning.specs.Study.{Study, Runs}

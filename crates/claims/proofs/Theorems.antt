@@ -2,7 +2,7 @@
 use Rattle.meaning.specs.Demands.{EveryInputSettled, AcceptedExactlyWhen, RefusedExactlyWhen, OneAnswer, JudgeIsWrite, RevenueRecovered, CentreBalances, SolversAgree, StationsHidden, CapacityKept, SheetsFit, AllButInterconnectorsPay, NoInterconnectorNoChange, TypesHidden}
 use Rattle.meaning.specs.Mirror.{NearestMirrors, OnlyNegativeHalvesMove, FiguresMove, AveragesMirror, ZonesMirror, PrintedMirror, SidesMirror, MoneyMirrors}
 use Rattle.meaning.specs.Versions.{OneSheetInEitherVersion, EveryCaseInVersionTwo, VersionOneByVoltage, FactorLast, NewVoltagesInVersionTwo, OwnFactorForBothLengths, NoFactorNoChange}
-use Rattle.meaning.specs.OnlyDirections.{OnlyDirectionsCount}
+use Rattle.meaning.specs.OnlyDirections.{OnlyDirectionsCount, OwnDirectionsCount}
 use Rattle.meaning.proofs.Mirror as Mirror
 use Rattle.meaning.proofs.Versions as Versions
 use Rattle.meaning.proofs.Twins as Twins
@@ -136,3 +136,7 @@ no-factor-no-change = Versions.no-factor-no-change
 -- 02, request 12: accepted cases of one network and the same directions have the same nodal distances, to within one metre, whatever their demand and TEC; that nothing less will do is in the crate `tutorial`
 pub only-directions-count : OnlyDirectionsCount
 only-directions-count = OnlyDirections.only-directions-count
+
+-- and for the wider distances the directions of circuits without local mark are enough, for the local ones those of circuits with it
+pub own-directions-count : OwnDirectionsCount
+own-directions-count = OnlyDirections.own-directions-count

@@ -1,6 +1,7 @@
 -- What says a network, a length and an offset: circuits, names in order, the reference, the six factors and directions, and nothing else of a case.
 use mathlib.Core.Path.{_≡_, refl, sym, _∙_, ap, ap₂, fun-ext}
-use mathlib.Core.Bool.{cond}
+use mathlib.Core.Logic.{_≢_}
+use mathlib.Core.Bool.{Bool, true, false, cond, true≢false}
 use mathlib.Core.List.{List, []}
 use mathlib.Core.Option.{Option·getD}
 use Prim.Native.Nat.{ℕ, zero, suc, _+_, _*_, _-_, _≤_, _<_}
@@ -19,10 +20,11 @@ use Rattle.meaning.specs.declared.Direction.{Direction}
 use Rattle.meaning.specs.declared.Direction.the-variants.{Idle, Forward, Backward, InDoubt}
 use Rattle.meaning.specs.Grid.{gridOf, place}
 use Rattle.meaning.specs.Network.{networkOf}
-use Rattle.meaning.specs.Direction.{overheadFactor, cableFactor, ownOr, expandedLength, direction, signed, signedLength}
+use Rattle.meaning.specs.Direction.{overheadFactor, cableFactor, expandedLength, direction, signed, signedLength}
 use Rattle.meaning.specs.Systems.{baseFlow, lengthOf, offset}
 use Rattle.meaning.specs.Conditions.{HasLength}
-use Rattle.meaning.specs.OnlyDirections.{factorsOf, namesOf, Holds, sameCircuits, sameNames, sameFactors, sameReference, sameDirections}
+use Rattle.meaning.specs.OnlyDirections.{factorsOf, namesOf, Holds, sameCircuits, sameNames, sameFactors, sameReference, sameDirections, SameDirectionsOf}
+use Rattle.meaning.proofs.Says.{Says, says-eq}
 use Rattle.meaning.proofs.Rows.{lowest-same, rows-at, length-rows}
 
 -- ---- a name's place is said by the names alone, and a network by circuits, names and reference
@@ -57,11 +59,32 @@ network-shared S S′ runs runs′ c n r = λ i. record {
     places = fun-ext (place-same (S .nodes) (S′ .nodes) n)
 
 -- ---- an expanded length is said by its row and the six factors
-expanded-same : (s s′ : Settings) (c : Circuit) → factorsOf s ≡ factorsOf s′ → expandedLength s c ≡ expandedLength s′ c
+-- settings with these factors, and nothing else
+abbrev onlyFactors : List ℕ → Settings
+onlyFactors l =
+    record {
+      generationZones = 0;
+      demandZones = 0;
+      p = 0;
+      constant = 0;
+      widerFactor = 0;
+      localFactor = 0;
+      overhead400 = getD l 0 0;
+      cable400 = getD l 1 0;
+      overhead275 = getD l 2 0;
+      cable275 = getD l 3 0;
+      overhead132 = getD l 4 0;
+      cable132 = getD l 5 0;
+      reference = 0;
+      revenue = 0;
+    }
+
+by-factors : (s : Settings) (c : Circuit) → expandedLength s c ≡ expandedLength (onlyFactors (factorsOf s)) c
 unfolding expandedLength overheadFactor cableFactor
-expanded-same s s′ c e = ap (λ (l : List ℕ).
-    c .overhead * ownOr (c .factor) (cond (eqb (c .voltage) 400) (getD l 0 0) (cond (eqb (c .voltage) 275) (getD l 2 0) (getD l 4 0)))
-    + c .cable * ownOr (c .factor) (cond (eqb (c .voltage) 400) (getD l 1 0) (cond (eqb (c .voltage) 275) (getD l 3 0) (getD l 5 0)))) e
+by-factors s c = refl
+
+expanded-same : (s s′ : Settings) (c : Circuit) → factorsOf s ≡ factorsOf s′ → expandedLength s c ≡ expandedLength s′ c
+expanded-same s s′ c e = by-factors s c ∙ ap (λ (l : List ℕ). expandedLength (onlyFactors l) c) e ∙ sym (by-factors s′ c)
 
 -- ---- lengths with a sign
 -- a circuit without a length has a signed length of 0, whatever its flow
@@ -101,20 +124,41 @@ in-table circuits c h = go (decLt c (length circuits))
         past : (c < length circuits → ⊥) → length circuits ≤ c
         past k = omega arith
 
--- ---- so the offsets of all systems are said by circuits, factors and directions
-module _ (S S′ : Study) (runs runs′ : Runs) (rows : Holds sameCircuits S S′ runs runs′) (scales : Holds sameFactors S S′ runs runs′) (headed : Holds sameDirections S S′ runs runs′) where
-  same-length : (c : ℕ) → lengthOf (gridOf S) runs c ≡ lengthOf (gridOf S′) runs′ c
-  unfolding lengthOf gridOf
-  same-length c =
-      length-same (S .settings) (S′ .settings) (circuit (S .circuits) c) _ _ (expanded-same (S .settings) (S′ .settings) (circuit (S .circuits) c) scales)
-      (λ h. headed c (in-table (S .circuits) c h) h)
-      ∙ ap (λ (l : List Circuit). signedLength (S′ .settings) (circuit l c) (baseFlow (gridOf S′) runs′ c)) rows
-
+-- ---- so the offsets of a system are said by circuits, factors and the directions of its circuits
+module _ (S S′ : Study) (runs runs′ : Runs) (rows : Holds sameCircuits S S′ runs runs′) (scales : Holds sameFactors S S′ runs runs′) where
   same-mark : (c : ℕ) → circuit (S .circuits) c .localMark ≡ circuit (S′ .circuits) c .localMark
   same-mark c = ap (λ (l : List Circuit). circuit l c .localMark) rows
 
-  pub offset-shared : (system : System) → offset (gridOf S) runs system ≡ offset (gridOf S′) runs′ system
+  -- of circuits of one kind
+  same-length : (Kind : Circuit → Type 0) → SameDirectionsOf Kind S S′ runs runs′ → (c : ℕ) → Kind (circuit (S .circuits) c)
+      → lengthOf (gridOf S) runs c ≡ lengthOf (gridOf S′) runs′ c
+  unfolding lengthOf gridOf
+  same-length Kind headed c kind =
+      length-same (S .settings) (S′ .settings) (circuit (S .circuits) c) _ _ (expanded-same (S .settings) (S′ .settings) (circuit (S .circuits) c) scales)
+      (λ h. headed c (in-table (S .circuits) c h) h kind)
+      ∙ ap (λ (l : List Circuit). signedLength (S′ .settings) (circuit l c) (baseFlow (gridOf S′) runs′ c)) rows
+
+  pub wider-shared : SameDirectionsOf (λ c. c .localMark ≡ 0) S S′ runs runs′ → offset (gridOf S) runs Wider ≡ offset (gridOf S′) runs′ Wider
   unfolding offset gridOf
-  offset-shared Base = refl
-  offset-shared Wider = fun-ext (λ c. ap₂ (λ (mark : ℕ) (z : ℤ). cond (eqb mark 0) z (pos 0)) (same-mark c) (same-length c))
-  offset-shared Local = fun-ext (λ c. ap₂ (λ (mark : ℕ) (z : ℤ). cond (eqb mark 0) (pos 0) z) (same-mark c) (same-length c))
+  wider-shared headed = fun-ext (λ c. rw (sym (same-mark c)) (by-mark c (eqb (circuit (S .circuits) c .localMark) 0) says-eq))
+    where
+      by-mark : (c : ℕ) (b : Bool) → Says b (circuit (S .circuits) c .localMark ≡ 0)
+          → cond b (lengthOf (gridOf S) runs c) (pos 0) ≡ cond b (lengthOf (gridOf S′) runs′ c) (pos 0)
+      by-mark c true s = same-length (λ c. c .localMark ≡ 0) headed c (s .0 refl)
+      by-mark c false s = refl
+
+  pub local-shared : SameDirectionsOf (λ c. c .localMark ≢ 0) S S′ runs runs′ → offset (gridOf S) runs Local ≡ offset (gridOf S′) runs′ Local
+  unfolding offset gridOf
+  local-shared headed = fun-ext (λ c. rw (sym (same-mark c)) (by-mark c (eqb (circuit (S .circuits) c .localMark) 0) says-eq))
+    where
+      by-mark : (c : ℕ) (b : Bool) → Says b (circuit (S .circuits) c .localMark ≡ 0)
+          → cond b (pos 0) (lengthOf (gridOf S) runs c) ≡ cond b (pos 0) (lengthOf (gridOf S′) runs′ c)
+      by-mark c true s = refl
+      by-mark c false s = same-length (λ c. c .localMark ≢ 0) headed c (λ e. true≢false (sym (s .1 e)))
+
+  -- and of all systems by those of all circuits
+  pub offset-shared : Holds sameDirections S S′ runs runs′ → (system : System) → offset (gridOf S) runs system ≡ offset (gridOf S′) runs′ system
+  unfolding offset
+  offset-shared headed Base = refl
+  offset-shared headed Wider = wider-shared (λ c k h m. headed c k h)
+  offset-shared headed Local = local-shared (λ c k h m. headed c k h)

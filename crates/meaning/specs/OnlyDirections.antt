@@ -6,7 +6,7 @@ use Prim.Native.Nat.{ℕ, _≤_, _<_}
 use lib.ListN.{length}
 use Rattle.meaning.specs.Rows.{rows}
 use Rattle.meaning.specs.Name.{Name}
-use Rattle.meaning.specs.Study.{Settings, Node, Study, Runs, node, circuit}
+use Rattle.meaning.specs.Study.{Settings, Node, Circuit, Study, Runs, node, circuit}
 use Rattle.meaning.specs.File.{studyOf}
 use Rattle.meaning.specs.Grid.{gridOf}
 use Rattle.meaning.specs.Direction.{direction}
@@ -49,6 +49,25 @@ OnlyDirectionsCount =
     → Acceptable file′ runs′
     → ((a : Asked) → Holds a (studyOf file) (studyOf file′) runs runs′)
     → DistancesWithin 1 (gridOf (studyOf file)) (gridOf (studyOf file′)) runs runs′ (sheetOf file runs) (sheetOf file′ runs′)
+
+-- ---- and more: a wider distance is said by the directions of circuits without local mark, a local one by those of circuits with it
+-- of the circuits of one kind that have a length the directions are equal
+abbrev pub SameDirectionsOf : (Kind : Circuit → Type 0) (S S′ : Study) (runs runs′ : Runs) → Type 0
+SameDirectionsOf Kind S S′ runs runs′ =
+    (c : ℕ) → c < length (S .circuits) → HasLength (circuit (S .circuits) c) → Kind (circuit (S .circuits) c)
+    → direction (baseFlow (gridOf S) runs c) ≡ direction (baseFlow (gridOf S′) runs′ c)
+
+pub record OwnDirections (S S′ : Study) (runs runs′ : Runs) : Type 0 where
+  pub wider : SameDirectionsOf (λ c. c .localMark ≡ 0) S S′ runs runs′ → (v : ℕ) → v < length (S .nodes) → apart (widerMetres runs v) (widerMetres runs′ v) ≤ 1
+  pub local : SameDirectionsOf (λ c. c .localMark ≢ 0) S S′ runs runs′ → (v : ℕ) → v < length (S .nodes) → apart (localMetres runs v) (localMetres runs′ v) ≤ 1
+
+abbrev pub OwnDirectionsCount : Type 0
+OwnDirectionsCount =
+    (file file′ : List ℕ) (runs runs′ : Runs)
+    → Acceptable file runs
+    → Acceptable file′ runs′
+    → ((a : Asked) → a ≢ sameDirections → Holds a (studyOf file) (studyOf file′) runs runs′)
+    → OwnDirections (studyOf file) (studyOf file′) runs runs′
 
 -- ---- and no less will do
 -- two cases, and what holds of them

@@ -189,6 +189,31 @@ pub other-acceptable : Acceptable other otherRuns
 unfolding opened
 other-acceptable = judged-pass other otherRuns .0 refl
 
+-- ---- TUT1 with demand at D and no generation there: of the directions only that of its marked circuit has turned
+abbrev pub fedRuns : Runs
+fedRuns =
+    record {
+      base = baseWith (negℤ (pos 375000000000)) (negℤ (pos 1062500000000)) (negℤ (pos 2312500000000)) (pos 7500000000) (pos 42500000000) (pos 27500000000)
+          (negℤ (pos 50000000000));
+      wider = forwardWider;
+      local = pos 0 ∷ pos 0 ∷ pos 0 ∷ negℤ (pos 30000000000000) ∷ replicate 4 (pos 0);
+    }
+
+abbrev pub fed : List ℕ
+fed =
+    fileOf
+    (record {
+      settings = settingsWith 1000 1;
+      nodes = nodeIn "SUBA" 1 1 0 ∷ nodeIn "SUBB" 2 2 180000 ∷ nodeIn "SUBC" 3 3 20000 ∷ nodeIn "SUBD" 4 4 50000 ∷ [];
+      circuits = circuitsAt 400;
+      stations = stationOf "GENA" "SUBA" 60000 ∷ stationOf "GENB" "SUBB" 240000 ∷ [];
+    })
+    fedRuns
+
+pub fed-acceptable : Acceptable fed fedRuns
+unfolding opened
+fed-acceptable = judged-pass fed fedRuns .0 refl
+
 -- ---- TUT1 with the second node for reference
 abbrev pub movedRuns : Runs
 movedRuns =

@@ -1,7 +1,8 @@
 -- The tutorial's Exercise 1, "does more generation change nodal costs?", answered by request 12 of 02: 5 MW more at B leave every direction and so every distance; so do 200 in place of 150, which turn A-B both. And TUT1 with all else changed.
 use mathlib.Core.Path.{_≡_, refl}
+use mathlib.Core.Logic.{_≢_}
 use mathlib.Core.List.{List, [], _∷_, _++_}
-use Prim.Native.Nat.{ℕ, zero, suc, _≤_, _<_}
+use Prim.Native.Nat.{ℕ, _≤_, _<_}
 use native.Mathlib.Omega.{arith}
 use lib.IntN.{pos, negℤ}
 use Rattle.meaning.specs.Text.{text}
@@ -17,8 +18,8 @@ use Rattle.meaning.specs.Distances.{apart, shownMetres, OfOneName, OfNode, Dist
 use Rattle.meaning.specs.OnlyDirections.{Asked, sameCircuits, sameNames, sameFactors, sameReference, sameDirections, Holds}
 use Rattle.meaning.proofs.Opened.{opened}
 use Rattle.claims.proofs.Tarn.{four}
-use Rattle.tutorial.proofs.Cases.{tut, tutRuns, tut-acceptable, five, fiveRuns, five-acceptable, turned, turnedRuns, turned-acceptable, further, furtherRuns, further-acceptable, other, otherRuns, other-acceptable}
-use Rattle.claims.proofs.Theorems.{only-directions-count}
+use Rattle.tutorial.proofs.Cases.{tut, tutRuns, tut-acceptable, five, fiveRuns, five-acceptable, turned, turnedRuns, turned-acceptable, further, furtherRuns, further-acceptable, other, otherRuns, other-acceptable, fed, fedRuns, fed-acceptable}
+use Rattle.claims.proofs.Theorems.{only-directions-count, own-directions-count}
 
 -- ---- TUT1 and TUT1_P5
 tut-five : (a : Asked) → Holds a (studyOf tut) (studyOf five) tutRuns fiveRuns
@@ -55,6 +56,28 @@ tut-other sameDirections = four _ (λ h. refl) (λ h. refl) (λ h. refl) (λ h. 
 
 other-within : DistancesWithin 1 (gridOf (studyOf tut)) (gridOf (studyOf other)) tutRuns otherRuns (sheetOf tut tutRuns) (sheetOf other otherRuns)
 other-within = only-directions-count tut other tutRuns otherRuns tut-acceptable other-acceptable tut-other
+
+-- ---- TUT1 and TUT1 with D fed from C: the marked circuit turned, and no wider distance moved; D's local distance moved 60 km
+tut-fed : (a : Asked) → a ≢ sameDirections → Holds a (studyOf tut) (studyOf fed) tutRuns fedRuns
+unfolding opened
+tut-fed sameCircuits n = refl
+tut-fed sameNames n = refl
+tut-fed sameFactors n = refl
+tut-fed sameReference n = refl
+tut-fed sameDirections n = absurd (n refl)
+
+fed-wider : (v : ℕ) → v < 4 → apart (widerMetres tutRuns v) (widerMetres fedRuns v) ≤ 1
+unfolding opened
+fed-wider =
+    own-directions-count tut fed tutRuns fedRuns tut-acceptable fed-acceptable tut-fed .wider
+    (four _ (λ h m. refl) (λ h m. refl) (λ h m. refl) (λ h m. absurd (marked m)))
+  where
+    marked : _≡_ {A = ℕ} 1 0 → ⊥
+    marked e = omega arith
+
+fed-local : apart (localMetres tutRuns 3) (localMetres fedRuns 3) ≡ 60000
+unfolding opened
+fed-local = refl
 
 -- ---- the distances that the tutorial prints, in metres: the same before and after, and in TUT1_OTHER
 abbrev wider : Runs → List Metres

@@ -1,14 +1,14 @@
 -- 02, request 12 is sharp: for each thing that is asked two cases without it that are kilometres apart, and two cases with all of it that are one metre apart.
-use mathlib.Core.Path.{_≡_, refl}
+use mathlib.Core.Path.{refl}
 use mathlib.Core.Logic.{_≢_}
 use mathlib.Core.List.{List, [], _∷_}
 use Prim.Native.Nat.{ℕ}
 use native.Mathlib.Omega.{arith}
 use lib.IntN.{pos, negℤ}
 use lib.ListN.{replicate}
-use Rattle.meaning.specs.Study.{Settings, Study, Runs}
+use Rattle.meaning.specs.Study.{Study, Runs}
 use Rattle.meaning.specs.Conditions.{Acceptable}
-use Rattle.meaning.specs.OnlyDirections.{Asked, sameCircuits, sameNames, sameFactors, sameReference, sameDirections, Two, HoldsOf, FarApart, Needed, EachIsNeeded, AcceptedIsNeeded, MetreIsReached}
+use Rattle.meaning.specs.OnlyDirections.{Asked, sameCircuits, sameNames, sameFactors, sameReference, sameDirections, Two, HoldsOf, Needed, EachIsNeeded, AcceptedIsNeeded, MetreIsReached}
 use Rattle.meaning.proofs.Write.{fileOf}
 use Rattle.meaning.proofs.Opened.{opened}
 use Rattle.meaning.proofs.Judged.{judged-pass}
