@@ -52,14 +52,17 @@ module _ (G : Grid) where
   income-over Generation t = refl
   income-over Demand t = refl
 
--- how far two numbers of a zone's line are apart
-gap : Side → (a b : Line → ℤ) → Line → ℕ
-gap side a b fs = cond (sameName (getD fs 0 []) (letter side)) (natAbs (a fs -ℤ b fs)) 0
+-- how far two numbers of a line with this letter are apart
+gap : (letter : List ℕ) (a b : Line → ℤ) → Line → ℕ
+gap l a b fs = cond (sameName (getD fs 0 []) l) (natAbs (a fs -ℤ b fs)) 0
 
-no-gap : (side : Side) (a b : Line → ℤ) → gap side a b ([] ∷ []) ≡ 0
+no-gap : (side : Side) (a b : Line → ℤ) → gap (letter side) a b ([] ∷ []) ≡ 0
 unfolding gap sameName letter
 no-gap Generation a b = refl
 no-gap Demand a b = refl
+
+closed : (y z : ℤ) → y ≡ z → natAbs (y -ℤ z) ≡ 0
+closed y z e = rw e (zero-apart z)
 
 left : Side → Line → ℤ
 left side fs = cond (sameName (getD fs 0 []) (text "R")) (readWhole (getD fs (remainderField side) [])) (pos 0)
@@ -187,32 +190,46 @@ module _ (S : Study) (sound : SoundTables S) (runs : Runs) where
       of Generation = rw (none (zones G Demand)) (simp Z (omega arith))
       of Demand = rw (none (zones G Generation), none (length (G .nodes))) (simp Z (omega arith))
 
-  -- ---- two numbers that are equal on the line of every zone of a side are equal on every line with its letter
+  -- ---- where the gaps of two numbers on lines with a letter are worth nothing, the two are equal on every such line
   module _ (a b : Line → ℤ) where
+    abbrev NoGap : (letter : List ℕ) → Type 0
+    NoGap l = Worth G runs (λ fs. pos (gap l a b fs)) (λ s z. pos 0) (λ v. pos 0) (pos 0)
+
+    lettered-agree : (l : List ℕ) → NoGap l → gap l a b ([] ∷ []) ≡ 0 → (i : ℕ) → hasLetter l (lineAt i (sheet G runs)) ≡ true
+        → a (pieces 32 (lineAt i (sheet G runs))) ≡ b (pieces 32 (lineAt i (sheet G runs)))
+    unfolding hasLetter field gap pieces
+    lettered-agree l worth nothing i h = not-apart _ _ (open-gap (each-none (λ t. gap l a b (pieces 32 t)) nothing (pieces 10 (sheet G runs)) all-closed i))
+      where
+        all-closed : over (λ fs. pos (gap l a b fs)) (sheet G runs) ≡ pos 0
+        all-closed =
+            adds-all (λ fs. pos (gap l a b fs)) (add-sheet G runs (λ fs. pos (gap l a b fs)) named _ _ (pos 0) worth) (ap pos nothing)
+            ∙ rw (none (zones G Generation), none (zones G Demand), none (length (G .nodes))) refl
+
+        open-gap : gap l a b (pieces 32 (lineAt i (sheet G runs))) ≡ 0 → natAbs (a (pieces 32 (lineAt i (sheet G runs))) -ℤ b (pieces 32 (lineAt i (sheet G runs)))) ≡ 0
+        open-gap e = rw h at e
+
+    -- equal on the line of every zone of a side
     abbrev OnEmpty : Side → Type 0
     OnEmpty side = (z : ℕ) → zoneWeight G side z ≡ 0 → a (emptyZone G runs side z) ≡ b (emptyZone G runs side z)
 
     abbrev OnFull : Side → Type 0
     OnFull side = (z : ℕ) → (zoneWeight G side z ≡ 0 → ⊥) → a (fullZone G runs side z) ≡ b (fullZone G runs side z)
 
-    closed : (y z : ℤ) → y ≡ z → natAbs (y -ℤ z) ≡ 0
-    closed y z e = rw e (zero-apart z)
-
-    empty-gap : (side s : Side) → OnEmpty side → (z : ℕ) → zoneWeight G s z ≡ 0 → gap side a b (emptyZone G runs s z) ≡ 0
+    empty-gap : (side s : Side) → OnEmpty side → (z : ℕ) → zoneWeight G s z ≡ 0 → gap (letter side) a b (emptyZone G runs s z) ≡ 0
     unfolding gap sameName letter
     empty-gap Generation Generation h z e = closed _ _ (h z e)
     empty-gap Generation Demand h z e = refl
     empty-gap Demand Generation h z e = refl
     empty-gap Demand Demand h z e = closed _ _ (h z e)
 
-    full-gap : (side s : Side) → OnFull side → (z : ℕ) → (zoneWeight G s z ≡ 0 → ⊥) → gap side a b (fullZone G runs s z) ≡ 0
+    full-gap : (side s : Side) → OnFull side → (z : ℕ) → (zoneWeight G s z ≡ 0 → ⊥) → gap (letter side) a b (fullZone G runs s z) ≡ 0
     unfolding gap sameName letter
     full-gap Generation Generation h z e = closed _ _ (h z e)
     full-gap Generation Demand h z e = refl
     full-gap Demand Generation h z e = refl
     full-gap Demand Demand h z e = closed _ _ (h z e)
 
-    gap-worth : (side : Side) → OnEmpty side → OnFull side → Worth G runs (λ fs. pos (gap side a b fs)) (λ s z. pos 0) (λ v. pos 0) (pos 0)
+    gap-worth : (side : Side) → OnEmpty side → OnFull side → NoGap (letter side)
     unfolding gap sameName letter gridOf
     gap-worth Generation h k =
         record { start = refl; empty = λ s z e. ap pos (empty-gap Generation s h z e); full = λ s z e. ap pos (full-gap Generation s k z e); silent = λ v e. refl; printed = λ v l. refl; last = refl }
@@ -221,53 +238,32 @@ module _ (S : Study) (sound : SoundTables S) (runs : Runs) where
 
     pub lines-agree : (side : Side) → OnEmpty side → OnFull side → (i : ℕ) → hasLetter (letter side) (lineAt i (sheet G runs)) ≡ true
         → a (pieces 32 (lineAt i (sheet G runs))) ≡ b (pieces 32 (lineAt i (sheet G runs)))
-    unfolding hasLetter field gap pieces
-    lines-agree side h k i l = not-apart _ _ (open-gap (each-none (λ t. gap side a b (pieces 32 t)) (no-gap side a b) (pieces 10 (sheet G runs)) all-closed i))
-      where
-        all-closed : over (λ fs. pos (gap side a b fs)) (sheet G runs) ≡ pos 0
-        all-closed =
-            adds-all (λ fs. pos (gap side a b fs)) (add-sheet G runs (λ fs. pos (gap side a b fs)) named _ _ (pos 0) (gap-worth side h k)) (ap pos (no-gap side a b))
-            ∙ rw (none (zones G Generation), none (zones G Demand), none (length (G .nodes))) refl
+    lines-agree side h k = lettered-agree (letter side) (gap-worth side h k) (no-gap side a b)
 
-        open-gap : gap side a b (pieces 32 (lineAt i (sheet G runs))) ≡ 0 → natAbs (a (pieces 32 (lineAt i (sheet G runs))) -ℤ b (pieces 32 (lineAt i (sheet G runs)))) ≡ 0
-        open-gap e = rw l at e
-
-  -- ---- and two that are equal on every node's line are equal on every `L` line
-  module _ (a b : Line → ℤ) where
-    nodeGap : Line → ℕ
-    nodeGap fs = cond (sameName (getD fs 0 []) (text "L")) (natAbs (a fs -ℤ b fs)) 0
-
-    zone-gap : (side : Side) (fs : Line) → nodeGap (letter side ∷ fs) ≡ 0
-    unfolding nodeGap sameName letter
-    zone-gap Generation fs = refl
-    zone-gap Demand fs = refl
-
+    -- equal on the line of every node
     abbrev OnNodes : Type 0
     OnNodes = (v : ℕ) → v < length (S .nodes) → a (nodeLine G runs v) ≡ b (nodeLine G runs v)
 
-    node-gap-worth : OnNodes → Worth G runs (λ fs. pos (nodeGap fs)) (λ s z. pos 0) (λ v. pos 0) (pos 0)
-    unfolding nodeGap sameName gridOf
+    zone-gap : (side : Side) (fs : Line) → gap (text "L") a b (letter side ∷ fs) ≡ 0
+    unfolding gap sameName letter
+    zone-gap Generation fs = refl
+    zone-gap Demand fs = refl
+
+    node-gap-worth : OnNodes → NoGap (text "L")
+    unfolding gap sameName gridOf
     node-gap-worth h = record {
       start = refl;
       empty = λ s z e. ap pos (zone-gap s (drop 1 (emptyZone G runs s z)));
       full = λ s z e. ap pos (zone-gap s (drop 1 (fullZone G runs s z)));
       silent = λ v e. refl;
-      printed = λ v l. ap pos (closed a b _ _ (h v l));
+      printed = λ v l. ap pos (closed _ _ (h v l));
       last = refl;
     }
 
     pub node-lines-agree : OnNodes → (i : ℕ) → hasLetter (text "L") (lineAt i (sheet G runs)) ≡ true
         → a (pieces 32 (lineAt i (sheet G runs))) ≡ b (pieces 32 (lineAt i (sheet G runs)))
-    unfolding hasLetter field nodeGap pieces sameName
-    node-lines-agree h i l = not-apart _ _ (open-gap (each-none (λ t. nodeGap (pieces 32 t)) refl (pieces 10 (sheet G runs)) all-closed i))
-      where
-        all-closed : over (λ fs. pos (nodeGap fs)) (sheet G runs) ≡ pos 0
-        all-closed =
-            adds-all (λ fs. pos (nodeGap fs)) (add-sheet G runs (λ fs. pos (nodeGap fs)) named _ _ (pos 0) (node-gap-worth h)) refl
-            ∙ rw (none (zones G Generation), none (zones G Demand), none (length (G .nodes))) refl
-
-        open-gap : nodeGap (pieces 32 (lineAt i (sheet G runs))) ≡ 0 → natAbs (a (pieces 32 (lineAt i (sheet G runs))) -ℤ b (pieces 32 (lineAt i (sheet G runs)))) ≡ 0
-        open-gap e = rw l at e
+    unfolding gap sameName
+    node-lines-agree h = lettered-agree (text "L") (node-gap-worth h) refl
 
   -- a printed total is its tariff and its residual
   pub total-read : (side : Side) (k : ℕ) → hasLetter (letter side) (lineAt k (sheet G runs)) ≡ true

@@ -124,6 +124,11 @@ in-table circuits c h = go (decLt c (length circuits))
         past : (c < length circuits → ⊥) → length circuits ≤ c
         past k = omega arith
 
+-- by a test: the one where it holds, the other where it does not
+cond-same : {P : Type 0} (b : Bool) {x x′ y y′ : ℤ} → Says b P → (P → x ≡ x′) → ((P → ⊥) → y ≡ y′) → cond b x y ≡ cond b x′ y′
+cond-same true s e f = e (s .0 refl)
+cond-same false s e f = f (λ p. true≢false (sym (s .1 p)))
+
 -- ---- so the offsets of a system are said by circuits, factors and the directions of its circuits
 module _ (S S′ : Study) (runs runs′ : Runs) (rows : Holds sameCircuits S S′ runs runs′) (scales : Holds sameFactors S S′ runs runs′) where
   same-mark : (c : ℕ) → circuit (S .circuits) c .localMark ≡ circuit (S′ .circuits) c .localMark
@@ -140,21 +145,11 @@ module _ (S S′ : Study) (runs runs′ : Runs) (rows : Holds sameCircuits S S�
 
   pub wider-shared : SameDirectionsOf (λ c. c .localMark ≡ 0) S S′ runs runs′ → offset (gridOf S) runs Wider ≡ offset (gridOf S′) runs′ Wider
   unfolding offset gridOf
-  wider-shared headed = fun-ext (λ c. rw (sym (same-mark c)) (by-mark c (eqb (circuit (S .circuits) c .localMark) 0) says-eq))
-    where
-      by-mark : (c : ℕ) (b : Bool) → Says b (circuit (S .circuits) c .localMark ≡ 0)
-          → cond b (lengthOf (gridOf S) runs c) (pos 0) ≡ cond b (lengthOf (gridOf S′) runs′ c) (pos 0)
-      by-mark c true s = same-length (λ c. c .localMark ≡ 0) headed c (s .0 refl)
-      by-mark c false s = refl
+  wider-shared headed = fun-ext (λ c. rw (sym (same-mark c)) (cond-same _ says-eq (same-length (λ c. c .localMark ≡ 0) headed c) (λ m. refl)))
 
   pub local-shared : SameDirectionsOf (λ c. c .localMark ≢ 0) S S′ runs runs′ → offset (gridOf S) runs Local ≡ offset (gridOf S′) runs′ Local
   unfolding offset gridOf
-  local-shared headed = fun-ext (λ c. rw (sym (same-mark c)) (by-mark c (eqb (circuit (S .circuits) c .localMark) 0) says-eq))
-    where
-      by-mark : (c : ℕ) (b : Bool) → Says b (circuit (S .circuits) c .localMark ≡ 0)
-          → cond b (pos 0) (lengthOf (gridOf S) runs c) ≡ cond b (pos 0) (lengthOf (gridOf S′) runs′ c)
-      by-mark c true s = refl
-      by-mark c false s = same-length (λ c. c .localMark ≢ 0) headed c (λ e. true≢false (sym (s .1 e)))
+  local-shared headed = fun-ext (λ c. rw (sym (same-mark c)) (cond-same _ says-eq (λ e. refl) (same-length (λ c. c .localMark ≢ 0) headed c)))
 
   -- and of all systems by those of all circuits
   pub offset-shared : Holds sameDirections S S′ runs runs′ → (system : System) → offset (gridOf S) runs system ≡ offset (gridOf S′) runs′ system

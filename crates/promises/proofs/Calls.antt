@@ -111,20 +111,21 @@ every-two-promised c d keptC keptD = record { agree = agree; hidden = hidden; ei
             ∙ ap₂ (λ (r : Runs) (b : List ℕ). settle (d .file) r b) runs before
             ∙ sym (keptD .contract)
 
+    -- what is so of the two sheets is so of the bytes that the callers find
+    seen : (P : (sheet sheet′ : List ℕ) → Type 0) → IsAccepted c → IsAccepted d → P (sheetOf (c .file) (c .runs)) (sheetOf (d .file) (d .runs)) → P (sheetIn c) (sheetIn d)
+    seen P a b p = subst (λ (l : List ℕ). P l (sheetIn d)) (sym (promised c keptC .sheet a)) (subst (P (sheetOf (c .file) (c .runs))) (sym (promised d keptD .sheet b)) p)
+
     agree : IsAccepted c → IsAccepted d → SameButStations (studyOf (c .file)) (studyOf (d .file))
         → Agree (studyOf (c .file)) (c .runs) (d .runs) (sheetIn c) (sheetIn d)
     agree a b same =
-        subst (λ (l : List ℕ). Agree (studyOf (c .file)) (c .runs) (d .runs) l (sheetIn d)) (sym (promised c keptC .sheet a))
-        (subst (λ (l : List ℕ). Agree (studyOf (c .file)) (c .runs) (d .runs) (sheetOf (c .file) (c .runs)) l) (sym (promised d keptD .sheet b))
-        (solvers-agree (c .file) (d .file) (c .runs) (d .runs) (acceptable c keptC a) (acceptable d keptD b) same))
+        seen (Agree (studyOf (c .file)) (c .runs) (d .runs)) a b
+        (solvers-agree (c .file) (d .file) (c .runs) (d .runs) (acceptable c keptC a) (acceptable d keptD b) same)
 
     directions : IsAccepted c → IsAccepted d → ((a : Asked) → Holds a (studyOf (c .file)) (studyOf (d .file)) (c .runs) (d .runs))
         → DistancesWithin 1 (gridOf (studyOf (c .file))) (gridOf (studyOf (d .file))) (c .runs) (d .runs) (sheetIn c) (sheetIn d)
     directions a b all =
-        let within = DistancesWithin 1 (gridOf (studyOf (c .file))) (gridOf (studyOf (d .file))) (c .runs) (d .runs) in
-        subst (λ (l : List ℕ). within l (sheetIn d)) (sym (promised c keptC .sheet a))
-        (subst (λ (l : List ℕ). within (sheetOf (c .file) (c .runs)) l) (sym (promised d keptD .sheet b))
-        (only-directions-count (c .file) (d .file) (c .runs) (d .runs) (acceptable c keptC a) (acceptable d keptD b) all))
+        seen (DistancesWithin 1 (gridOf (studyOf (c .file))) (gridOf (studyOf (d .file))) (c .runs) (d .runs)) a b
+        (only-directions-count (c .file) (d .file) (c .runs) (d .runs) (acceptable c keptC a) (acceptable d keptD b) all)
 
     hidden : c .runs ≡ d .runs → PassesToFive (c .file) (c .runs) → PassesToFive (d .file) (d .runs)
         → SameButStations (studyOf (c .file)) (studyOf (d .file)) → length (c .before) ≡ length (d .before) → c .answer ≡ d .answer

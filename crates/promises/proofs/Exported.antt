@@ -153,20 +153,20 @@ every-two-told c d keptC keptD = record { agree = agree; hidden = hidden; either
     two : BothPromised (inner c keptC) (inner d keptD)
     two = every-two-promised (inner c keptC) (inner d keptD) (inner-kept c keptC) (inner-kept d keptD)
 
+    -- what is so of the bytes that the inner calls leave is so of these
+    seen : (P : (sheet sheet′ : List ℕ) → Type 0) → c .result ≡ 0 → d .result ≡ 0 → P (sheetIn (inner c keptC)) (sheetIn (inner d keptD))
+        → P (sheetAt c (n c keptC)) (sheetAt d (n d keptD))
+    seen P e f p = subst (λ (l : List ℕ). P l (sheetAt d (n d keptD))) (sheet-in c keptC e) (subst (P (sheetIn (inner c keptC))) (sheet-in d keptD f) p)
+
     agree : c .result ≡ 0 → d .result ≡ 0 → SameButStations (studyOf (c .file)) (studyOf (d .file))
         → Agree (studyOf (c .file)) (c .runs) (d .runs) (sheetAt c (n c keptC)) (sheetAt d (n d keptD))
-    agree e f same =
-        subst (λ (l : List ℕ). Agree (studyOf (c .file)) (c .runs) (d .runs) l (sheetAt d (n d keptD))) (sheet-in c keptC e)
-        (subst (Agree (studyOf (c .file)) (c .runs) (d .runs) (sheetIn (inner c keptC))) (sheet-in d keptD f)
-        (two .agree (is-accepted c keptC e) (is-accepted d keptD f) same))
+    agree e f same = seen (Agree (studyOf (c .file)) (c .runs) (d .runs)) e f (two .agree (is-accepted c keptC e) (is-accepted d keptD f) same)
 
     directions : c .result ≡ 0 → d .result ≡ 0 → ((a : Asked) → Holds a (studyOf (c .file)) (studyOf (d .file)) (c .runs) (d .runs))
         → DistancesWithin 1 (gridOf (studyOf (c .file))) (gridOf (studyOf (d .file))) (c .runs) (d .runs) (sheetAt c (n c keptC)) (sheetAt d (n d keptD))
     directions e f all =
-        let within = DistancesWithin 1 (gridOf (studyOf (c .file))) (gridOf (studyOf (d .file))) (c .runs) (d .runs) in
-        subst (λ (l : List ℕ). within l (sheetAt d (n d keptD))) (sheet-in c keptC e)
-        (subst (within (sheetIn (inner c keptC))) (sheet-in d keptD f)
-        (two .directions (is-accepted c keptC e) (is-accepted d keptD f) all))
+        seen (DistancesWithin 1 (gridOf (studyOf (c .file))) (gridOf (studyOf (d .file))) (c .runs) (d .runs)) e f
+        (two .directions (is-accepted c keptC e) (is-accepted d keptD f) all)
 
     -- one answer is told in one way
     told : inner c keptC .answer ≡ inner d keptD .answer → (c .result ≡ d .result) × (c .numbers ≡ d .numbers)

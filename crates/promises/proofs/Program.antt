@@ -110,20 +110,20 @@ both : (file file′ : List ℕ) → BothPrinted file file′ (prints file) (pri
 unfolding prints
 both file file′ = record { agree = agree; hidden = hidden; either = λ same runs. one-sheet-in-either-version file file′ same .printed runs; directions = directions }
   where
+    -- what is so of the two sheets is so of what is printed
+    seen : (P : (sheet sheet′ : List ℕ) → Type 0) → Acceptable file (runsIn file) → Acceptable file′ (runsIn file′)
+        → P (sheetOf file (runsIn file)) (sheetOf file′ (runsIn file′)) → P (prints file) (prints file′)
+    seen P a b p = subst (λ (l : List ℕ). P l (prints file′)) (sym (accepted-sheet file a)) (subst (P (sheetOf file (runsIn file))) (sym (accepted-sheet file′ b)) p)
+
     agree : Acceptable file (runsIn file) → Acceptable file′ (runsIn file′) → SameButStations (studyOf file) (studyOf file′)
         → Agree (studyOf file) (runsIn file) (runsIn file′) (prints file) (prints file′)
-    agree a b same =
-        subst (λ (l : List ℕ). Agree (studyOf file) (runsIn file) (runsIn file′) l (prints file′)) (sym (accepted-sheet file a))
-        (subst (λ (l : List ℕ). Agree (studyOf file) (runsIn file) (runsIn file′) (sheetOf file (runsIn file)) l) (sym (accepted-sheet file′ b))
-        (solvers-agree file file′ (runsIn file) (runsIn file′) a b same))
+    agree a b same = seen (Agree (studyOf file) (runsIn file) (runsIn file′)) a b (solvers-agree file file′ (runsIn file) (runsIn file′) a b same)
 
     directions : Acceptable file (runsIn file) → Acceptable file′ (runsIn file′) → ((a : Asked) → Holds a (studyOf file) (studyOf file′) (runsIn file) (runsIn file′))
         → DistancesWithin 1 (gridOf (studyOf file)) (gridOf (studyOf file′)) (runsIn file) (runsIn file′) (prints file) (prints file′)
     directions a b all =
-        let within = DistancesWithin 1 (gridOf (studyOf file)) (gridOf (studyOf file′)) (runsIn file) (runsIn file′) in
-        subst (λ (l : List ℕ). within l (prints file′)) (sym (accepted-sheet file a))
-        (subst (λ (l : List ℕ). within (sheetOf file (runsIn file)) l) (sym (accepted-sheet file′ b))
-        (only-directions-count file file′ (runsIn file) (runsIn file′) a b all))
+        seen (DistancesWithin 1 (gridOf (studyOf file)) (gridOf (studyOf file′)) (runsIn file) (runsIn file′)) a b
+        (only-directions-count file file′ (runsIn file) (runsIn file′) a b all)
 
     hidden : runsIn file ≡ runsIn file′ → PassesToFive file (runsIn file) → PassesToFive file′ (runsIn file′)
         → SameButStations (studyOf file) (studyOf file′) → prints file ≡ prints file′
