@@ -9,7 +9,9 @@ use Rattle.meaning.specs.declared.System.the-variants.{Wider, Local}
 use Rattle.meaning.specs.Grid.{gridOf}
 use Rattle.meaning.specs.Systems.{runOf, supply, offset}
 use Rattle.meaning.specs.Figures.{widerMetres, localMetres}
-use Rattle.meaning.specs.OnlyDirections.{Asked, sameCircuits, sameNames, sameFactors, sameReference, sameDirections, Holds, OnlyDirectionsCount, SameDirectionsOf, OwnDirectionsCount}
+use Rattle.meaning.specs.Conditions.{HasLength}
+use Rattle.meaning.specs.Demands.{SameDirections}
+use Rattle.meaning.specs.OnlyDirections.{Asked, sameCircuits, sameNames, sameFactors, sameReference, sameDirections, Holds, OnlyDirectionsCount, OwnDirectionsCount}
 use Rattle.meaning.proofs.Directions.{network-shared, wider-shared, local-shared}
 use Rattle.claims.proofs.Close.{OneSystem, metre-near}
 use Rattle.claims.proofs.Distances.{distances-within}
@@ -37,11 +39,11 @@ module _ (S S′ : Study) (runs runs′ : Runs) (all : (a : Asked) → a ≢ sam
     offsets = offsets;
   }
 
-  wider-one : SameDirectionsOf (λ c. c .localMark ≡ 0) S S′ runs runs′ → OneSystem (gridOf S) (gridOf S′) runs runs′ Wider
+  wider-one : SameDirections (λ c. HasLength c × (c .localMark ≡ 0)) S S′ runs runs′ → OneSystem (gridOf S) (gridOf S′) runs runs′ Wider
   unfolding supply isDirections
   wider-one headed = one-with Wider refl (wider-shared S S′ runs runs′ (all sameCircuits (other _ refl)) (all sameFactors (other _ refl)) headed)
 
-  local-one : SameDirectionsOf (λ c. c .localMark ≢ 0) S S′ runs runs′ → OneSystem (gridOf S) (gridOf S′) runs runs′ Local
+  local-one : SameDirections (λ c. HasLength c × (c .localMark ≢ 0)) S S′ runs runs′ → OneSystem (gridOf S) (gridOf S′) runs runs′ Local
   unfolding supply isDirections
   local-one headed = one-with Local refl (local-shared S S′ runs runs′ (all sameCircuits (other _ refl)) (all sameFactors (other _ refl)) headed)
 
@@ -60,4 +62,4 @@ pub only-directions-count : OnlyDirectionsCount
 only-directions-count file file′ runs runs′ a a′ all =
     let own = own-directions-count file file′ runs runs′ a a′ (λ b n. all b) in
     distances-within 1 (studyOf file) (studyOf file′) (a .study .tables) (a′ .study .tables) (all sameNames) runs runs′
-    (own .wider (λ c k h m. all sameDirections c k h)) (own .local (λ c k h m. all sameDirections c k h))
+    (own .wider (λ c k p. all sameDirections c k (p .0))) (own .local (λ c k p. all sameDirections c k (p .0)))

@@ -22,7 +22,8 @@ use Rattle.meaning.specs.Network.{networkOf}
 use Rattle.meaning.specs.Direction.{overheadFactor, cableFactor, expandedLength, direction, signed, signedLength}
 use Rattle.meaning.specs.Systems.{baseFlow, lengthOf, offset}
 use Rattle.meaning.specs.Conditions.{HasLength}
-use Rattle.meaning.specs.OnlyDirections.{factorsOf, namesOf, Holds, sameCircuits, sameNames, sameFactors, sameReference, sameDirections, SameDirectionsOf}
+use Rattle.meaning.specs.Demands.{SameDirections}
+use Rattle.meaning.specs.OnlyDirections.{factorsOf, namesOf, Holds, sameCircuits, sameNames, sameFactors, sameReference, sameDirections}
 use Rattle.meaning.proofs.Says.{Says, says-eq}
 use Rattle.meaning.proofs.Rows.{lowest-same, rows-at, length-rows}
 
@@ -133,20 +134,20 @@ module _ (S S′ : Study) (runs runs′ : Runs) (rows : Holds sameCircuits S S�
   same-mark : (c : ℕ) → circuit (S .circuits) c .localMark ≡ circuit (S′ .circuits) c .localMark
   same-mark c = ap (λ (l : List Circuit). circuit l c .localMark) rows
 
-  -- of circuits of one kind
-  same-length : (Kind : Circuit → Type 0) → SameDirectionsOf Kind S S′ runs runs′ → (c : ℕ) → Kind (circuit (S .circuits) c)
+  -- of circuits of one kind, where they have a length
+  same-length : (Kind : Circuit → Type 0) → SameDirections (λ c. HasLength c × Kind c) S S′ runs runs′ → (c : ℕ) → Kind (circuit (S .circuits) c)
       → lengthOf (gridOf S) runs c ≡ lengthOf (gridOf S′) runs′ c
   unfolding lengthOf gridOf
   same-length Kind headed c kind =
       length-same (S .settings) (S′ .settings) (circuit (S .circuits) c) _ _ (expanded-same (S .settings) (S′ .settings) (circuit (S .circuits) c) scales)
-      (λ h. headed c (in-table (S .circuits) c h) h kind)
+      (λ h. headed c (in-table (S .circuits) c h) (h, kind))
       ∙ ap (λ (l : List Circuit). signedLength (S′ .settings) (circuit l c) (baseFlow (gridOf S′) runs′ c)) rows
 
-  pub wider-shared : SameDirectionsOf (λ c. c .localMark ≡ 0) S S′ runs runs′ → offset (gridOf S) runs Wider ≡ offset (gridOf S′) runs′ Wider
+  pub wider-shared : SameDirections (λ c. HasLength c × (c .localMark ≡ 0)) S S′ runs runs′ → offset (gridOf S) runs Wider ≡ offset (gridOf S′) runs′ Wider
   unfolding offset gridOf
   wider-shared headed = fun-ext (λ c. rw (sym (same-mark c)) (cond-same _ says-eq (same-length (λ c. c .localMark ≡ 0) headed c) (λ m. refl)))
 
-  pub local-shared : SameDirectionsOf (λ c. c .localMark ≢ 0) S S′ runs runs′ → offset (gridOf S) runs Local ≡ offset (gridOf S′) runs′ Local
+  pub local-shared : SameDirections (λ c. HasLength c × (c .localMark ≢ 0)) S S′ runs runs′ → offset (gridOf S) runs Local ≡ offset (gridOf S′) runs′ Local
   unfolding offset gridOf
   local-shared headed = fun-ext (λ c. rw (sym (same-mark c)) (cond-same _ says-eq (λ e. refl) (same-length (λ c. c .localMark ≢ 0) headed c)))
 
@@ -154,5 +155,5 @@ module _ (S S′ : Study) (runs runs′ : Runs) (rows : Holds sameCircuits S S�
   pub offset-shared : Holds sameDirections S S′ runs runs′ → (system : System) → offset (gridOf S) runs system ≡ offset (gridOf S′) runs′ system
   unfolding offset
   offset-shared headed Base = refl
-  offset-shared headed Wider = wider-shared (λ c k h m. headed c k h)
-  offset-shared headed Local = local-shared (λ c k h m. headed c k h)
+  offset-shared headed Wider = wider-shared (λ c k p. headed c k (p .0))
+  offset-shared headed Local = local-shared (λ c k p. headed c k (p .0))

@@ -8,7 +8,7 @@ use lib.IntN.{ℤ, pos, natAbs, _+ℤ_, _-ℤ_, _*ℤ_}
 use lib.Signed.{_≤ℤ_, _<ℤ_}
 use lib.ListN.{length}
 use Rattle.integers.specs.Numbers.{sum, Σ, nearest}
-use Rattle.meaning.specs.Study.{Station, Study, Runs, circuit}
+use Rattle.meaning.specs.Study.{Circuit, Station, Study, Runs, circuit}
 use Rattle.meaning.specs.File.{studyOf}
 use Rattle.meaning.specs.declared.Side.{Side}
 use Rattle.meaning.specs.declared.Side.the-variants.{Generation, Demand}
@@ -170,10 +170,14 @@ abbrev pub CapacityKept : Type 0
 CapacityKept =
     (S S′ : Study) → StationsRearranged S S′ → (v plantType : ℕ) → capacityOf S v plantType ≡ capacityOf S′ v plantType
 
+-- "Every circuit with a length then has the same direction in both, or is idle in both", of the circuits of one kind
+abbrev pub SameDirections : (Kind : Circuit → Type 0) (S S′ : Study) (runs runs′ : Runs) → Type 0
+SameDirections Kind S S′ runs runs′ =
+    (c : ℕ) → c < length (S .circuits) → Kind (circuit (S .circuits) c) → direction (baseFlow (gridOf S) runs c) ≡ direction (baseFlow (gridOf S′) runs′ c)
+
 -- what two accepted cases then agree on, whatever the proposals
 pub record Agree (S : Study) (runs runs′ : Runs) (sheet sheet′ : List ℕ) : Type 0 where
-  pub directions : (c : ℕ) → c < length (S .circuits) → HasLength (circuit (S .circuits) c)
-      → direction (baseFlow (gridOf S) runs c) ≡ direction (baseFlow (gridOf S) runs′ c)
+  pub directions : SameDirections HasLength S S runs runs′
   pub potentials : (system : System) (v : ℕ) → v < length (S .nodes)
       → natAbs (potential (runOf runs system) v -ℤ potential (runOf runs′ system) v) ≤ 200000000
   -- "each node's wider and local marginal distance differs by at most one metre"

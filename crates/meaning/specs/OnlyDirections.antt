@@ -6,15 +6,14 @@ use Prim.Native.Nat.{ℕ, _≤_, _<_}
 use lib.ListN.{length}
 use Rattle.meaning.specs.Rows.{rows}
 use Rattle.meaning.specs.Name.{Name}
-use Rattle.meaning.specs.Study.{Settings, Node, Circuit, Study, Runs, node, circuit}
+use Rattle.meaning.specs.Study.{Settings, Node, Study, Runs, node}
 use Rattle.meaning.specs.File.{studyOf}
 use Rattle.meaning.specs.Grid.{gridOf}
-use Rattle.meaning.specs.Direction.{direction}
-use Rattle.meaning.specs.Systems.{baseFlow}
 use Rattle.meaning.specs.Figures.{widerMetres, localMetres}
 use Rattle.meaning.specs.Outcome.{sheetOf}
 use Rattle.meaning.specs.Conditions.{Acceptable, HasLength}
 use Rattle.meaning.specs.Distances.{apart, DistancesWithin}
+use Rattle.meaning.specs.Demands.{SameDirections}
 
 -- "factors": the six expansion factors
 abbrev pub factorsOf : Settings → List ℕ
@@ -38,8 +37,7 @@ Holds sameCircuits S S′ runs runs′ = S .circuits ≡ S′ .circuits
 Holds sameNames S S′ runs runs′ = namesOf (S .nodes) ≡ namesOf (S′ .nodes)
 Holds sameFactors S S′ runs runs′ = factorsOf (S .settings) ≡ factorsOf (S′ .settings)
 Holds sameReference S S′ runs runs′ = S .settings .reference ≡ S′ .settings .reference
-Holds sameDirections S S′ runs runs′ =
-    (c : ℕ) → c < length (S .circuits) → HasLength (circuit (S .circuits) c) → direction (baseFlow (gridOf S) runs c) ≡ direction (baseFlow (gridOf S′) runs′ c)
+Holds sameDirections S S′ runs runs′ = SameDirections HasLength S S′ runs runs′
 
 -- "two accepted cases" of which all this holds "differ by at most one metre in every nodal distance, whatever their demand and TEC"
 abbrev pub OnlyDirectionsCount : Type 0
@@ -51,15 +49,9 @@ OnlyDirectionsCount =
     → DistancesWithin 1 (gridOf (studyOf file)) (gridOf (studyOf file′)) runs runs′ (sheetOf file runs) (sheetOf file′ runs′)
 
 -- ---- and more: a wider distance is said by the directions of circuits without local mark, a local one by those of circuits with it
--- of the circuits of one kind that have a length the directions are equal
-abbrev pub SameDirectionsOf : (Kind : Circuit → Type 0) (S S′ : Study) (runs runs′ : Runs) → Type 0
-SameDirectionsOf Kind S S′ runs runs′ =
-    (c : ℕ) → c < length (S .circuits) → HasLength (circuit (S .circuits) c) → Kind (circuit (S .circuits) c)
-    → direction (baseFlow (gridOf S) runs c) ≡ direction (baseFlow (gridOf S′) runs′ c)
-
 pub record OwnDirections (S S′ : Study) (runs runs′ : Runs) : Type 0 where
-  pub wider : SameDirectionsOf (λ c. c .localMark ≡ 0) S S′ runs runs′ → (v : ℕ) → v < length (S .nodes) → apart (widerMetres runs v) (widerMetres runs′ v) ≤ 1
-  pub local : SameDirectionsOf (λ c. c .localMark ≢ 0) S S′ runs runs′ → (v : ℕ) → v < length (S .nodes) → apart (localMetres runs v) (localMetres runs′ v) ≤ 1
+  pub wider : SameDirections (λ c. HasLength c × (c .localMark ≡ 0)) S S′ runs runs′ → (v : ℕ) → v < length (S .nodes) → apart (widerMetres runs v) (widerMetres runs′ v) ≤ 1
+  pub local : SameDirections (λ c. HasLength c × (c .localMark ≢ 0)) S S′ runs runs′ → (v : ℕ) → v < length (S .nodes) → apart (localMetres runs v) (localMetres runs′ v) ≤ 1
 
 abbrev pub OwnDirectionsCount : Type 0
 OwnDirectionsCount =
@@ -86,7 +78,7 @@ pub record FarApart (t : Two) : Type 0 where
   pub isNode : node < length (studyOf (t .file) .nodes)
   pub far : 2 ≤ apart (widerMetres (t .runs) node) (widerMetres (t .runs′) node)
 
--- two accepted cases of which all but this is so; and two of which all is so, but one is not accepted
+-- two accepted cases of which all but this is so; and two of which all is so, the first accepted
 pub record Needed (a : Asked) : Type 0 where
   pub two : Two
   pub accepted : Acceptable (two .file) (two .runs)

@@ -70,7 +70,7 @@ fed-wider : (v : ℕ) → v < 4 → apart (widerMetres tutRuns v) (widerMetres f
 unfolding opened
 fed-wider =
     own-directions-count tut fed tutRuns fedRuns tut-acceptable fed-acceptable tut-fed .wider
-    (four _ (λ h m. refl) (λ h m. refl) (λ h m. refl) (λ h m. absurd (marked m)))
+    (four _ (λ p. refl) (λ p. refl) (λ p. refl) (λ p. absurd (marked (p .1))))
   where
     marked : _≡_ {A = ℕ} 1 0 → ⊥
     marked e = omega arith
