@@ -3,8 +3,9 @@
 
 use crate::charges::nodal_metres;
 use crate::file::{whole_case, Case, CircuitRow, Name};
-use crate::judge::{judge_case, Refusal};
+use crate::judge::judge_case;
 use crate::quantities::Metres;
+use crate::refusal::Refusal;
 use crate::solutions::{flow_direction, Direction};
 use crate::text::{self, shown_name, FACTOR_NAMES};
 

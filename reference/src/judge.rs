@@ -3,25 +3,10 @@
 
 use crate::charges::{sheet, Sheet};
 use crate::file::{whole_case, Case};
+use crate::refusal::Refusal;
 use crate::sheet::print;
 use crate::solutions::{base_system, judge_directions, judge_system, local_system, wider_system};
 use crate::tables::{judge_chargeable, sound_tables, Tables};
-use std::fmt;
-
-/// 01 "What stops a case": number, system and row.
-#[derive(Clone, Copy, Debug, PartialEq, Eq, PartialOrd, Ord)]
-pub struct Refusal {
-    pub number: u32,
-    pub system: u32,
-    pub row: u32,
-}
-
-/// 01 "The sheet": "`refused`, number, system and row".
-impl fmt::Display for Refusal {
-    fn fmt(&self, to: &mut fmt::Formatter) -> fmt::Result {
-        write!(to, "refused {} {} {}", self.number, self.system, self.row)
-    }
-}
 
 /// 01 "What stops a case": what an entry with a lent buffer answers.
 #[derive(Clone, Copy, Debug, PartialEq, Eq)]

@@ -14,6 +14,7 @@ pub mod largest;
 pub mod longest;
 pub mod quantities;
 pub mod random;
+pub mod refusal;
 pub mod replay;
 pub mod sheet;
 pub mod solutions;
@@ -22,4 +23,5 @@ pub mod standard;
 pub mod tables;
 pub mod text;
 
-pub use judge::{judge_case, judge_into, program_output, Answer, Refusal};
+pub use judge::{judge_case, judge_into, program_output, Answer};
+pub use refusal::Refusal;

@@ -1,8 +1,8 @@
 //! 01 steps 2 to 5 and "What stops a case", 8 to 11: what a proposed solution of a system has to be.
 
 use crate::charges::net;
-use crate::judge::Refusal;
 use crate::quantities::*;
+use crate::refusal::Refusal;
 use crate::tables::{Circuit, Tables};
 
 /// 01 step 2: one system of equations, "proved once over supply and offset".

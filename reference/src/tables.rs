@@ -2,8 +2,8 @@
 //! them.
 
 use crate::file::{well_formed, Case, CircuitRow, Name, NodeRow, Settings, StationRow};
-use crate::judge::Refusal;
 use crate::quantities::*;
+use crate::refusal::Refusal;
 
 /// 01 "The case file": the number of interconnectors among the plant types; 02, CR 1: "Type 3".
 pub const INTERCONNECTOR: u32 = 3;
