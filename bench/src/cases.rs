@@ -3,18 +3,30 @@
 use reference::file::{padded, Case, CircuitRow, NodeRow, StationRow};
 use reference::largest::{largest, largest_of_version_2};
 use reference::solver::solved;
+use wirepulley::Solutions;
 
-/// A case as an entry takes it: the file's bytes, and the three runs beside them.
+/// A case as an entry takes it: the file's bytes, and the runs beside them.
 #[derive(Clone)]
 pub struct Input {
     pub file: Vec<u8>,
-    pub runs: [Vec<i64>; 3],
+    pub runs: Solutions,
 }
 
 impl Input {
     pub fn of(case: &Case) -> Input {
-        Input { file: case.bytes(), runs: case.runs.clone() }
+        Input::read(case.bytes())
     }
+
+    /// A file with the runs that stand in it.
+    pub fn read(file: Vec<u8>) -> Input {
+        Input { runs: Solutions::of_file(&file), file }
+    }
+}
+
+/// Whether the two in Rust know a file's edition, which the settings' zero names (02, CR 5): 2 is the one that they don't.
+/// Any other number but 0 is refused as 1, by them too.
+pub fn known(file: &[u8]) -> bool {
+    file.get(52..56) != Some(&2u32.to_le_bytes()[..])
 }
 
 /// The largest case: 256 nodes, 512 circuits, 512 stations, 32 and 32 zones.
@@ -47,9 +59,8 @@ pub fn sized(nodes: usize, circuits: usize, stations: usize) -> Case {
                 ..pattern.stations[k].clone()
             })
             .collect(),
-        version: pattern.version,
         settings: reference::file::Settings { reference: 1, ..pattern.settings },
-        runs: Default::default(),
+        ..pattern
     };
     without_doubt(case)
 }
@@ -115,9 +126,9 @@ pub fn refused() -> Vec<(&'static str, Input)> {
         change(&mut case);
         (label, Input::of(&case))
     };
-    let number = |label, system: usize, row: usize, value: i64| {
+    let number = |label, place: fn(&mut Solutions) -> &mut i64, value: i64| {
         let mut input = whole.clone();
-        input.runs[system][row] += value;
+        *place(&mut input.runs) += value;
         (label, input)
     };
     let mut short = whole.clone();
@@ -130,10 +141,10 @@ pub fn refused() -> Vec<(&'static str, Input)> {
         ("4, last circuit", table("", |case| case.circuits[511].first = padded(b"NOWHERE")).1),
         ("5, last identifier", table("", |case| case.stations[511].identifier = case.stations[0].identifier).1),
         ("7, totals", table("", |case| case.stations[511].tec = 20_000_000).1),
-        number("8, base, last", 0, 767, i64::MAX / 2),
-        number("9, base, last node", 0, 767, 1),
-        number("10, base", 0, 0, 1_000_000_000),
-        number("9, local, last node", 2, 767, 1),
-        number("10, local", 2, 0, 1_000_000_000),
+        number("8, base, last", |runs| &mut runs.base[767], i64::MAX / 2),
+        number("9, base, last node", |runs| &mut runs.base[767], 1),
+        number("10, base", |runs| &mut runs.base[0], 1_000_000_000),
+        number("9, local, last node", |runs| &mut runs.local[767], 1),
+        number("10, local", |runs| &mut runs.local[0], 1_000_000_000),
     ]
 }

@@ -1,5 +1,5 @@
-//! Document 01 as a good Rust programmer writes it without a thought of speed: records in `Vec`, names and zones in `HashMap`, the sheet by
-//! `write!` to a `String`.
+//! Document 01 with requests 1 to 3, as a good Rust programmer writes it without a thought of speed: records in `Vec`, names and zones in `HashMap`, the
+//! sheet by `write!` to a `String`.
 
 use crate::answer::{accepted, refused, Answer};
 use std::collections::{HashMap, HashSet};

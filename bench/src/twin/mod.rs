@@ -1,4 +1,5 @@
-//! The library's algorithms in plain Rust: fixed arrays, names looked for row by row, nested loops, no heap, the same order of checks.
+//! The library's algorithms, as they stood after request 4, in plain Rust: fixed arrays, names looked for row by row, nested loops, no heap, the
+//! same order of checks.
 //!
 //! It is written as a Rust programmer would write it: arrays are lent and not copied, rows of names are gone through by `chunks_exact`, and every
 //! index is checked by the language.
