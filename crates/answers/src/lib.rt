@@ -13,8 +13,8 @@ fn system_number(system: System) -> usize
     ensures { λ r. ⌜ r ≡ systemNumber system ⌝ }
 {
     match system {
-        System::Base => 1,
-        System::Wider => 2,
+        System::Base(_) => 1,
+        System::Wider(_) => 2,
         System::Local => 3,
     }
 }

@@ -3,6 +3,8 @@ use mathlib.Core.Path.{_≡_, refl, sym, _∙_}
 use mathlib.Core.List.{List}
 use Prim.Native.Nat.{ℕ}
 use lib.ListN.{length}
+use Rattle.meaning.specs.declared.Background.the-variants.{YearRound}
+use Rattle.meaning.specs.declared.System.the-variants.{Wider, Local}
 use Rattle.meaning.specs.Study.{Runs}
 use Rattle.meaning.specs.declared.Figures.{Figures}
 use Rattle.meaning.specs.declared.Refusal.{Refusal}
@@ -30,15 +32,15 @@ module _ (file : List ℕ) (runs : Runs) (o : Opened) (j : Judges file runs o) w
   stopped h ef = rw (sym (j .judgement), h, ef) refl
 
   pub charged : {f : Figures} → o .judgement ≡ Passes
-      → f ≡ figuresOver (o .counts .nodes) (o .settings) (o .nodes .«generation_zone») (o .tec .scaling) (o .tec .paying) (o .nodes .«demand_zone») (o .nodes .demand) (runs .wider) (runs .local)
+      → f ≡ figuresOver (o .counts .nodes) (o .settings) (o .nodes .«generation_zone») (o .tec .scaling) (o .tec .paying) (o .nodes .«demand_zone») (o .nodes .demand) (runs (Wider YearRound)) (runs Local)
       → _≡_ {A = Charged} (record { judgement = o .judgement; figures = f }) (chargedOf file runs)
   unfolding chargedOf figuresBy
   charged h ef = rw (ef, figures-of-file file runs (sym (j .judgement) ∙ h) o j, sym (j .judgement), h) refl
 
 -- a case that its frame stops
-pub frame-stopped : (file : List ℕ) (runs : Runs) {r : Refusal} {j : Judgement} {f : Figures} → j ≡ frameStage file (length (runs .base)) (length (runs .wider)) (length (runs .local)) → j ≡ Stops r → f ≡ noFigures
+pub frame-stopped : (file : List ℕ) (runs : Runs) {r : Refusal} {j : Judgement} {f : Figures} → j ≡ frameStage file (λ s. length (runs s)) → j ≡ Stops r → f ≡ noFigures
     → _≡_ {A = Charged} (record { judgement = j; figures = f }) (chargedOf file runs)
 unfolding chargedOf figuresBy judged
 frame-stopped file runs e h ef =
-    let t = frame-stops file _ _ _ (sym e ∙ h) in
+    let t = frame-stops file _ (sym e ∙ h) in
     rw (orElse-stops (proposalsStage (gridOf (studyOf file)) runs) t, t, h, ef) refl

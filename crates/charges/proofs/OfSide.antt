@@ -1,128 +1,133 @@
--- What is made of the zones of a side of a grid, with C, tariffs, incomes and rests, are the figures of that side.
-use mathlib.Core.Path.{_≡_, refl, sym, _∙_, ap, ap₂, subst}
+-- The columns of a side of a grid: what their zones add up to is what the grid's do.
+use mathlib.Core.Path.{_≡_, refl, sym, _∙_, ap, ap₂, fun-ext}
+use mathlib.Core.Bool.{true, cond}
 use mathlib.Core.List.{List}
-use Prim.Native.Nat.{ℕ, suc, _*_, _-_, _≤_, _<_}
+use mathlib.Core.Logic.{_≢_}
+use Prim.Native.Nat.{ℕ, zero, suc, _≤_, _<_}
+use native.Mathlib.Decide.{decLt}
 use native.Mathlib.Omega.{arith}
-use lib.IntN.{ℤ, pos, natAbs, _+ℤ_, _-ℤ_, _*ℤ_}
-use Rattle.integers.specs.Numbers.{Σ}
-use Rattle.integers.proofs.Core.{Z}
-use Rattle.integers.proofs.Sum.{Σ-same}
+use borrow.Author.Tests.{ne-eqb}
+use lib.Dec.{eqb}
+use lib.IntN.{pos, natAbs, _*ℤ_}
+use lib.ListN.{length}
+use Rattle.integers.specs.Numbers.{sum}
+use Rattle.integers.proofs.Sum.{sum-same, sum-none, Σ-same, Σ-none}
+use Rattle.integers.proofs.Laws.{abs-neg}
+use Rattle.meaning.specs.declared.Background.the-variants.{YearRound}
+use Rattle.meaning.specs.declared.System.{System}
+use Rattle.meaning.specs.declared.System.the-variants.{Wider}
 use Rattle.meaning.specs.declared.Kw.{Kw}
-use Rattle.meaning.specs.declared.Metres.{Metres}
-use Rattle.meaning.specs.declared.MicroPerKw.{MicroPerKw}
 use Rattle.meaning.specs.declared.Side.{Side}
 use Rattle.meaning.specs.declared.Side.the-variants.{Generation, Demand}
-use Rattle.meaning.specs.declared.ZoneFigures.{ZoneFigures}
-use Rattle.meaning.specs.declared.SideFigures.{SideFigures}
 use Rattle.meaning.specs.Study.{Runs}
 use Rattle.meaning.specs.Grid.{Grid}
-use Rattle.meaning.specs.Columns.{kilowatts, distance, price, column, noLine}
-use Rattle.meaning.specs.Figures.{tariff, zones, totalPaying, overZones, target, zonalMetres, C, afterC, zoneTariff, localIncome, rest, residual, residualOf, remainder, remainderOf, zoneTotal}
-use Rattle.meaning.proofs.Columns.{column-same}
+use Rattle.meaning.specs.Columns.{kilowatts, numberAt, kwAt}
+use Rattle.meaning.specs.Rows.{rows}
+use Rattle.meaning.specs.Charging.{turned, inZone, weighedIn}
+use Rattle.meaning.specs.Figures.{widerMetres, distance, zones, zoneOf, weight, paying, zoneWeight, zonePaying, totalPaying, zonalMetres, basis}
+use Rattle.meaning.proofs.Rows.{rows-at, rows-past}
+use Rattle.sizes.specs.Bounds.{KilowattsFit, MetresFit}
+use Rattle.sizes.proofs.Ranges.{Ranged}
 use Rattle.zones.specs.declared.ZoneSums.{ZoneSums}
-use Rattle.prices.specs.Prices.{priceOf}
-use Rattle.prices.proofs.Laws.{price-is}
-use Rattle.tariffs.specs.declared.by_zone.Terms.{Terms}
-use Rattle.tariffs.specs.Over.{metresFrom, sumsIn}
-use Rattle.tariffs.specs.Lines.{afterFrom, tariffFrom, incomeFrom, lineFrom}
-use Rattle.tariffs.specs.Sides.{restFrom, sideFrom}
-use Rattle.charges.specs.Case.{zoneFigures, sideFigures}
-use Rattle.charges.proofs.OfGrid.{SideOf, GridFits, sums, weight-at, pays-at, metres-at, below}
+use Rattle.zones.specs.Sums.{noSums, far, counts, weighs, pays, sumsTo, zoneSums}
+use Rattle.zones.proofs.Parts.{counting}
+use Rattle.zones.proofs.Laws.{reached-all}
+use Rattle.tariffs.specs.Sides.{metresFrom, sumsIn, sumsOf, zonesIn}
 
--- steps 8 and 10, by side
-unfoldable pub shiftOf : Side → ℤ → ℤ
-shiftOf Generation c = c
-shiftOf Demand c = pos 0 -ℤ c
+-- the columns of a side of a grid
+pub record SideOf (G : Grid) (side : Side) (n : ℕ) (zone : List ℕ) (weighing payers : List Kw) : Type 0 where
+  pub nodes : n ≡ length (G .nodes)
+  pub inZone : (v : ℕ) → v < n → numberAt zone v ≡ zoneOf G side v
+  pub weighs : (v : ℕ) → v < n → kwAt weighing v ≡ weight G side v
+  pub paid : (v : ℕ) → v < n → kwAt payers v ≡ paying G side v
 
-unfoldable pub targetOf : Side → (p revenue : ℕ) → ℕ
-targetOf Generation p revenue = revenue * (1000 - p) * 1000
-targetOf Demand p revenue = revenue * p * 1000
+-- all that steps 6 to 10 ask of a grid
+pub record GridFits (G : Grid) (runs : Runs) : Type 0 where
+  pub few : length (G .nodes) ≤ 256
+  pub long : (system : System) → length (G .nodes) ≤ length (runs system)
+  pub ranged : Ranged G
+  pub kilowattsFit : KilowattsFit G
+  pub metresFit : MetresFit G runs
 
-unfoldable pub termsOn : Grid → Runs → Side → Terms
-termsOn G runs side =
+distance-near : (runs : Runs) (side : Side) (v : ℕ) → natAbs (widerMetres runs v) ≤ 10000000 → natAbs (turned side (widerMetres runs v)) ≤ 10000000
+distance-near runs Generation v h = h
+distance-near runs Demand v h = rw (abs-neg (widerMetres runs v)) h
+
+-- a term that a zone takes or leaves
+taken : {A : Type 0} {a b : ℕ} {x y : A} (z : ℕ) (none : A) → a ≡ b → x ≡ y → cond (eqb a z) x none ≡ cond (eqb b z) y none
+taken z none p q = ap₂ (λ i x. cond (eqb i z) x none) p q
+
+-- step 7 as meaning has it
+unfoldable sumsOn : Grid → Runs → Side → (zone : ℕ) → ZoneSums
+sumsOn G runs side zone =
     record {
-      shift = distance (shiftOf side (C G runs));
-      constant = G .settings .constant;
-      factor = G .settings .widerFactor;
-      target = targetOf side (G .settings .p) (G .settings .revenue);
+      weight = kilowatts (zoneWeight G side zone);
+      weighed = weighedIn (length (G .nodes)) (zoneOf G side) (distance runs side) (weight G side) zone;
+      paying = kilowatts (zonePaying G side zone);
     }
 
-less-is : (m c : ℤ) → m +ℤ (pos 0 -ℤ c) ≡ m -ℤ c
-less-is m c = simp Z (omega arith)
+module _ (G : Grid) (runs : Runs) (f : GridFits G runs) (side : Side) where
+  -- a zone that no node is in
+  sums-none : (zone : ℕ) → ((v : ℕ) → v < length (G .nodes) → zoneOf G side v ≢ zone) → sumsOn G runs side zone ≡ noSums
+  unfolding sumsOn zoneWeight zonePaying
+  sums-none zone h =
+      let n = length (G .nodes) in
+      let w : inZone n (zoneOf G side) (weight G side) zone ≡ 0 = sum-none n _ (λ v l. rw (ne-eqb (zoneOf G side v) zone (h v l)) refl) in
+      let m : weighedIn n (zoneOf G side) (distance runs side) (weight G side) zone ≡ pos 0 = Σ-none n _ (λ v l. rw (ne-eqb (zoneOf G side v) zone (h v l)) refl) in
+      let p : inZone n (zoneOf G side) (paying G side) zone ≡ 0 = sum-none n _ (λ v l. rw (ne-eqb (zoneOf G side v) zone (h v l)) refl) in
+      rw (w, m, p) refl
 
-shifted-is : (G : Grid) (runs : Runs) (side : Side) (zone : ℕ) → zonalMetres G runs side zone +ℤ shiftOf side (C G runs) ≡ afterC G runs side zone
-unfolding shiftOf afterC
-shifted-is G runs Generation zone = refl
-shifted-is G runs Demand zone = less-is (zonalMetres G runs Demand zone) (C G runs)
+  module _ (n : ℕ) (zone : List ℕ) (weighing payers : List Kw) (o : SideOf G side n zone weighing payers) where
+    abbrev pub sums : List ZoneSums
+    sums = zoneSums side n zone weighing payers (runs (Wider YearRound))
 
-target-is : (G : Grid) (side : Side) → pos (targetOf side (G .settings .p) (G .settings .revenue)) ≡ target G side
-unfolding targetOf target
-target-is G Generation = refl
-target-is G Demand = refl
+    -- every node counts
+    all-count : (v : ℕ) → v < n → counts side zone weighing payers (runs (Wider YearRound)) v ≡ true
+    unfolding widerMetres
+    all-count v h =
+        let l : v < length (G .nodes) = omega (arith, o .nodes) in
+        let z = f .ranged .inZone side v l in
+        counting _ _ _ _ (record {
+          least = omega (arith, z .least, o .inZone v h);
+          most = omega (arith, z .most, f .ranged .zonesMost side, o .inZone v h);
+          weighs = omega (arith, f .kilowattsFit .nodeWeighs side v l, o .weighs v h);
+          pays = omega (arith, f .kilowattsFit .nodePays side v l, o .paid v h);
+          near = distance-near runs side v (f .metresFit .widerNode v l);
+        })
 
-lined : {a b : Kw} {m n p q : Metres} {t u x y : MicroPerKw} → a ≡ b → m ≡ n → p ≡ q → t ≡ u → x ≡ y
-    → _≡_ {A = ZoneFigures} (record { weight = a; metres = m; «after_c» = p; tariff = t; total = x })
-    (record { weight = b; metres = n; «after_c» = q; tariff = u; total = y })
-lined ea em ep et ex = rw (ea, em, ep, et, ex)
+    weighs-is : (v : ℕ) → v < n → weighs side zone weighing payers (runs (Wider YearRound)) v ≡ weight G side v
+    weighs-is v h = rw (all-count v h) (o .weighs v h)
 
-sided : {a b : ℕ} {r q : MicroPerKw} {m n : ℤ} {k l : List ZoneFigures} → a ≡ b → r ≡ q → m ≡ n → k ≡ l
-    → _≡_ {A = SideFigures} (record { zones = a; residual = r; remainder = m; zone = k }) (record { zones = b; residual = q; remainder = n; zone = l })
-sided ea er em ek = rw (ea, er, em, ek)
+    pays-is : (v : ℕ) → v < n → pays side zone weighing payers (runs (Wider YearRound)) v ≡ paying G side v
+    pays-is v h = rw (all-count v h) (o .paid v h)
 
-module _ (G : Grid) (runs : Runs) (f : GridFits G runs) (side : Side) (n : ℕ) (zone : List ℕ) (weighing pays : List Kw) (o : SideOf G side n zone weighing pays) where
-  abbrev t : Terms
-  t = termsOn G runs side
+    -- the sums of a zone, by its number
+    summed : (z : ℕ) → sumsTo side zone weighing payers (runs (Wider YearRound)) n z ≡ sumsOn G runs side z
+    unfolding sumsTo sumsOn zoneWeight zonePaying distance widerMetres
+    summed z =
+        let w = sum-same n _ _ (λ v h. taken z 0 (o .inZone v h) (weighs-is v h)) in
+        let m = Σ-same n _ _ (λ v h. taken z (pos 0) (o .inZone v h) (ap (λ (w : ℕ). far side zone weighing payers (runs (Wider YearRound)) v *ℤ pos w) (weighs-is v h))) in
+        let p = sum-same n _ _ (λ v h. taken z 0 (o .inZone v h) (pays-is v h)) in
+        rw (w, m, p, o .nodes) refl
 
-  abbrev Zs : List ZoneSums
-  Zs = sums G runs f side n zone weighing pays o
+    sums-at : (z : ℕ) → sumsOf sums z ≡ sumsOn G runs side z
+    unfolding zoneSums
+    sums-at zero = sym (sums-none 0 (λ v l e. absurd (omega (arith, f .ranged .inZone side v l .least))))
+    sums-at (suc k) =
+        ap (λ (m : ℕ). sumsIn (rows 32 (λ i. sumsTo side zone weighing payers (runs (Wider YearRound)) m (suc i))) k)
+        (reached-all n (length (runs (Wider YearRound))) (omega (arith, o .nodes, f .few)) (omega (arith, o .nodes, f .long (Wider YearRound))))
+        ∙ go (decLt k 32)
+      where
+        go : Dec (k < 32) → sumsIn (rows 32 (λ i. sumsTo side zone weighing payers (runs (Wider YearRound)) n (suc i))) k ≡ sumsOn G runs side (suc k)
+        go (yes h) = rows-at noSums 32 _ k h ∙ summed (suc k)
+        go (no h) = rows-past noSums 32 _ k (omega arith) ∙ sym (sums-none (suc k) (λ v l e. absurd (omega (arith, f .ranged .inZone side v l .most, f .ranged .zonesMost side))))
 
-  in-zones : (k : ℕ) → k < zones G side → k < 32
-  in-zones = below G runs f side n zone weighing pays o
-
-  metres-is : (k : ℕ) → k < zones G side → metresFrom (sumsIn Zs k) ≡ zonalMetres G runs side (suc k)
-  metres-is k h = metres-at G runs f side n zone weighing pays o k (in-zones k h)
-
-  after-is : (k : ℕ) → k < zones G side → afterFrom t (sumsIn Zs k) ≡ afterC G runs side (suc k)
-  unfolding termsOn
-  after-is k h = ap (λ (m : ℤ). m +ℤ shiftOf side (C G runs)) (metres-is k h) ∙ shifted-is G runs side (suc k)
-
-  tariff-is : (k : ℕ) → k < zones G side → tariffFrom t (sumsIn Zs k) ≡ zoneTariff G runs side (suc k)
-  unfolding tariffFrom zoneTariff termsOn
-  tariff-is k h =
-      ap (λ (m : ℤ). priceOf m (G .settings .constant) (G .settings .widerFactor)) (after-is k h)
-      ∙ price-is (afterC G runs side (suc k)) (G .settings .constant) (G .settings .widerFactor) (f .metresFit .withC side (suc k)) (f .constant) (f .widerFactor)
-
-  income-is : incomeFrom t Zs (zones G side) ≡ overZones G side (zoneTariff G runs side)
-  unfolding incomeFrom overZones
-  income-is =
-      Σ-same (zones G side) _ _
-      (λ k h. ap₂ (λ (x : ℤ) (w : ℕ). x *ℤ pos w) (tariff-is k h) (pays-at G runs f side n zone weighing pays o k (in-zones k h)))
-
-  abbrev restOf : ℤ
-  restOf = restFrom (t .target) (incomeFrom t Zs (zones G side)) (localIncome G runs side)
-
-  rest-is : restOf ≡ rest G runs side
-  unfolding restFrom rest termsOn
-  rest-is = ap₂ (λ (x i : ℤ). x -ℤ i -ℤ localIncome G runs side) (target-is G side) income-is
-
-  line-is : (k : ℕ) → k < zones G side → lineFrom t (price (residual G runs side)) (sumsIn Zs k) ≡ zoneFigures G runs side (suc k)
-  unfolding lineFrom zoneFigures zoneTotal
-  line-is k h =
-      lined (weight-at G runs f side n zone weighing pays o k (in-zones k h)) (ap distance (metres-is k h)) (ap distance (after-is k h)) (ap price (tariff-is k h))
-      (ap (λ (x : ℤ). price (x +ℤ residual G runs side)) (tariff-is k h))
-
-  module _ (kw : Kw) (ek : kw .0 ≡ totalPaying G side) where
-    residual-is : price (residualOf restOf (kw .0)) ≡ price (residual G runs side)
-    unfolding residual
-    residual-is = ap₂ (λ (z : ℤ) (w : ℕ). price (residualOf z w)) rest-is ek
-
-    remainder-is : remainderOf restOf (kw .0) ≡ remainder G runs side
-    unfolding remainder
-    remainder-is = ap₂ remainderOf rest-is ek
-
-    pub side-is : sideFrom Zs (zones G side) kw t (localIncome G runs side) ≡ sideFigures G runs side
-    unfolding sideFrom sideFigures
-    side-is =
-        sided refl residual-is remainder-is
-        (column-same noLine 32 (zones G side) _ (λ k. zoneFigures G runs side (suc k))
-        (λ k h. ap (λ (r : MicroPerKw). lineFrom t r (sumsIn Zs k)) residual-is ∙ line-is k h))
+    -- so the zones are those of the grid
+    pub zones-are : zonesIn sums (zones G side) ≡ basis G runs .side side
+    unfolding sumsOn metresFrom basis zonalMetres
+    zones-are =
+        let w : (λ (z : ℕ). sumsOf sums z .weight .0) ≡ zoneWeight G side = fun-ext (λ z. ap (λ (x : ZoneSums). x .weight .0) (sums-at z)) in
+        let p : (λ (z : ℕ). sumsOf sums z .paying .0) ≡ zonePaying G side = fun-ext (λ z. ap (λ (x : ZoneSums). x .paying .0) (sums-at z)) in
+        let m : (λ (z : ℕ). metresFrom (sumsOf sums z)) ≡ zonalMetres G runs side = fun-ext (λ z. ap metresFrom (sums-at z)) in
+        let t : sum (zones G side) (λ k. sumsIn sums k .paying .0) ≡ totalPaying G side = sum-same (zones G side) _ (λ k. zonePaying G side (suc k)) (λ k h. ap (λ (x : ZoneSums). x .paying .0) (sums-at (suc k))) ∙ f .kilowattsFit .zonesAll side in
+        rw (w, p, m, t) refl

@@ -7,10 +7,11 @@ use Rattle.meaning.specs.declared.Judgement.the-variants.{Passes, Stops}
 use Rattle.meaning.specs.Study.{Runs}
 use Rattle.meaning.specs.File.{studyOf}
 use Rattle.meaning.specs.Grid.{gridOf}
+use Rattle.meaning.specs.Figures.{basis}
 use Rattle.meaning.specs.Outcome.{judged}
 use Rattle.steps.specs.Nothing.{noFigures}
+use Rattle.tariffs.specs.Case.{figuresOf}
 use Rattle.charges.specs.declared.Charged.{Charged}
-use Rattle.charges.specs.Case.{figuresOf}
 
 -- a case that is stopped has no figures
 unfoldable pub figuresBy : Judgement → Figures → Figures
@@ -22,5 +23,5 @@ unfoldable pub chargedOf : (file : List ℕ) → Runs → Charged
 chargedOf file runs =
     record {
       judgement = judged file runs;
-      figures = figuresBy (judged file runs) (figuresOf (gridOf (studyOf file)) runs);
+      figures = figuresBy (judged file runs) (figuresOf (basis (gridOf (studyOf file)) runs));
     }

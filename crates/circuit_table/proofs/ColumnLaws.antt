@@ -4,7 +4,8 @@ use mathlib.Core.List.{List}
 use Prim.Native.Nat.{ℕ, _+_}
 use native.Mathlib.Omega.{arith}
 use Rattle.meaning.specs.declared.Section.{Section}
-use Rattle.meaning.specs.Study.{Settings, Circuit, Study}
+use Rattle.meaning.specs.declared.Settings.{Settings}
+use Rattle.meaning.specs.Study.{Circuit, Study}
 use Rattle.meaning.specs.File.{u32, nameAt, rowAt, circuitAt}
 use Rattle.meaning.specs.Columns.{column}
 use Rattle.meaning.proofs.Frame.{column-read}

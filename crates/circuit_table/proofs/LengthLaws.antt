@@ -8,7 +8,8 @@ use native.Mathlib.Nat.{mul-le-mul}
 use native.Mathlib.Omega.{arith}
 use borrow.Author.Tests.{eq-eqb, ne-eqb}
 use lib.Dec.{leb}
-use Rattle.meaning.specs.Study.{Settings, noCircuit}
+use Rattle.meaning.specs.declared.Settings.{Settings}
+use Rattle.meaning.specs.Study.{noCircuit}
 use Rattle.meaning.specs.File.{u32, factorAt, circuitAt}
 use Rattle.meaning.specs.Direction.{overheadFactor, cableFactor, ownOr, expandedLength}
 use Rattle.meaning.proofs.Says.{_also_, says-le}

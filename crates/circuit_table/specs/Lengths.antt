@@ -2,7 +2,8 @@
 use mathlib.Core.Bool.{Bool, cond, _&&_}
 use Prim.Native.Nat.{ℕ, _+_, _*_}
 use lib.Dec.{leb}
-use Rattle.meaning.specs.Study.{Settings, Circuit}
+use Rattle.meaning.specs.declared.Settings.{Settings}
+use Rattle.meaning.specs.Study.{Circuit}
 use Rattle.meaning.specs.Direction.{overheadFactor, cableFactor, ownOr, expandedLength}
 
 -- 01, Quantities: both lengths and both factors up to their range's end, as in every sound table

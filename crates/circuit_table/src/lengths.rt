@@ -1,18 +1,17 @@
 // 01, step 4: the expanded length of a circuit, by its own factor or by voltage.
 use crate::factor::factor_at;
-use layout::StudySettings;
 use meaning::Section;
+use meaning::Settings;
 ghost use mathlib.Core.Path.{_≡_};
 ghost use Prim.Native.Nat.{_-_, _^_, _≤_};
 ghost use Rattle.meaning.specs.File.{rowAt, circuitAt};
 ghost use Rattle.meaning.specs.Columns.{column};
 ghost use Rattle.meaning.specs.Direction.{overheadFactor, cableFactor, ownOr};
 ghost use Rattle.circuit_table.specs.Lengths.{expandedBy, lengthIfInRange};
-ghost use Rattle.layout.specs.Frame.{settingsIn};
 
 // The factor of overhead line: the row's own, or else that of its voltage. A voltage that no sound row without its own has takes that of 132 kV.
-pub fn overhead_factor(factors: StudySettings, voltage: usize, own: usize) -> usize
-    ensures { λ r. ⌜ r ≡ ownOr own (overheadFactor (settingsIn factors) voltage) ⌝ }
+pub fn overhead_factor(factors: Settings, voltage: usize, own: usize) -> usize
+    ensures { λ r. ⌜ r ≡ ownOr own (overheadFactor factors voltage) ⌝ }
 {
     if own != 0 {
         return own;
@@ -25,8 +24,8 @@ pub fn overhead_factor(factors: StudySettings, voltage: usize, own: usize) -> us
 }
 
 // The factor of cable, in the same way.
-pub fn cable_factor(factors: StudySettings, voltage: usize, own: usize) -> usize
-    ensures { λ r. ⌜ r ≡ ownOr own (cableFactor (settingsIn factors) voltage) ⌝ }
+pub fn cable_factor(factors: Settings, voltage: usize, own: usize) -> usize
+    ensures { λ r. ⌜ r ≡ ownOr own (cableFactor factors voltage) ⌝ }
 {
     if own != 0 {
         return own;
@@ -49,9 +48,9 @@ pub fn expanded(overhead: usize, over: usize, cable: usize, under: usize) -> u64
 }
 
 // The expanded length of the circuit at a place.
-pub fn length_at(file: &[u8], size: u32, at: usize, factors: StudySettings) -> u64
+pub fn length_at(file: &[u8], size: u32, at: usize, factors: Settings) -> u64
     requires { ⌜ at ≤ 2 ^ 64 - 2 ^ 32 ⌝ }
-    ensures { λ r. ⌜ r ≡ lengthIfInRange (settingsIn factors) (circuitAt (now (file .entry)) size at) ⌝ }
+    ensures { λ r. ⌜ r ≡ lengthIfInRange factors (circuitAt (now (file .entry)) size at) ⌝ }
 {
     let voltage = fields::u32_at(file, at + 24);
     let overhead = fields::u32_at(file, at + 32);
@@ -63,8 +62,8 @@ pub fn length_at(file: &[u8], size: u32, at: usize, factors: StudySettings) -> u
 }
 
 // Expanded lengths of the circuits; nothing past the last row, and no more than 512.
-pub fn by_circuit(file: &[u8], rows: Section, factors: StudySettings) -> [u64; 512]
-    ensures { λ r. ⌜ r ≡ column 0 512 (rows .count) (λ i. lengthIfInRange (settingsIn factors) (circuitAt (now (file .entry)) (rows .size) (rowAt rows i))) ⌝ }
+pub fn by_circuit(file: &[u8], rows: Section, factors: Settings) -> [u64; 512]
+    ensures { λ r. ⌜ r ≡ column 0 512 (rows .count) (λ i. lengthIfInRange factors (circuitAt (now (file .entry)) (rows .size) (rowAt rows i))) ⌝ }
 {
     let size = rows.size;
     let mut all = [0u64; 512];

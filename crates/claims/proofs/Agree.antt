@@ -1,13 +1,15 @@
 -- Demand 3: two accepted cases that differ in stations and proposals alone agree. Their directions do, so their distances do by request 12.
 use mathlib.Core.Path.{_≡_, refl, sym, _∙_, ap, ap₂, subst}
-use Rattle.meaning.specs.Study.{Settings, Study, Runs}
+use Rattle.meaning.specs.Study.{Study, Runs}
 use Rattle.meaning.specs.File.{studyOf}
+use Rattle.meaning.specs.declared.Settings.{Settings}
+use Rattle.meaning.specs.declared.Background.the-variants.{YearRound}
 use Rattle.meaning.specs.declared.System.{System}
 use Rattle.meaning.specs.declared.System.the-variants.{Base}
 use Rattle.meaning.specs.Grid.{Grid, gridOf}
 use Rattle.meaning.specs.Network.{networkOf}
 use Rattle.meaning.specs.Direction.{direction}
-use Rattle.meaning.specs.Systems.{runOf, offset, baseFlow}
+use Rattle.meaning.specs.Systems.{offset, baseFlow}
 use Rattle.meaning.specs.Sheet.{sheet}
 use Rattle.meaning.specs.Outcome.{sheetOf}
 use Rattle.meaning.specs.Conditions.{SoundTables}
@@ -28,9 +30,9 @@ module _ (S : Study) (sound : SoundTables S) (runs runs′ : Runs) (s : Solved (
 
   -- the base has no offset, so its flows are close: directions agree
   same-direction : Holds sameDirections S S runs runs′
-  unfolding networkOf gridOf runOf offset
+  unfolding networkOf gridOf offset
   same-direction c k h =
-      directions-agree _ _ _ _ _ (twice S sound (gridOf S) runs runs′ Base (one-with Base refl) (s .each Base) (s′ .each Base)) c k (s .clear .clear c k h) (s′ .clear .clear c k h)
+      directions-agree _ _ _ _ _ (twice S sound (gridOf S) runs runs′ (Base YearRound) (one-with (Base YearRound) refl) (s .each (Base YearRound)) (s′ .each (Base YearRound))) c k (s .clear .clear c k h) (s′ .clear .clear c k h)
 
   -- so signed lengths agree, which are the offsets of the wider and the local system
   one : (system : System) → OneSystem (gridOf S) (gridOf S) runs runs′ system

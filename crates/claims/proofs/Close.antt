@@ -8,8 +8,8 @@ use Rattle.meaning.specs.declared.System.{System}
 use Rattle.meaning.specs.Grid.{Grid, gridOf}
 use Rattle.meaning.specs.Network.{Network, networkOf}
 use Rattle.meaning.specs.Proposal.{potential, flow}
-use Rattle.meaning.specs.Systems.{runOf, supply, offset, proposed}
-use Rattle.meaning.specs.Figures.{metres}
+use Rattle.meaning.specs.Systems.{supply, offset, proposed}
+use Rattle.meaning.specs.Charging.{metres}
 use Rattle.meaning.specs.Conditions.{SoundTables, SolvesSystem}
 use Rattle.meaning.specs.Distances.{apart}
 use Rattle.meaning.proofs.Mirror.{metres-near}
@@ -36,7 +36,7 @@ module _ (S : Study) (sound : SoundTables S) (G′ : Grid) (runs runs′ : Runs)
   N = networkOf (gridOf S)
 
   -- solved twice
-  pub twice : SolvedTwice N 100000000 100000000 (potential (runOf runs system)) (flow N (runOf runs system)) (potential (runOf runs′ system)) (flow N (runOf runs′ system))
+  pub twice : SolvedTwice N 100000000 100000000 (potential (runs system)) (flow N (runs system)) (potential (runs′ system)) (flow N (runs′ system))
   unfolding proposed
   twice = record {
     sound = sound-network S sound;
@@ -47,12 +47,12 @@ module _ (S : Study) (sound : SoundTables S) (G′ : Grid) (runs runs′ : Runs)
   }
 
   -- theorem B, with 01's bound on misses
-  pub potential-near : (v : ℕ) → v < length (S .nodes) → natAbs (potential (runOf runs system) v -ℤ potential (runOf runs′ system) v) ≤ 200000000
+  pub potential-near : (v : ℕ) → v < length (S .nodes) → natAbs (potential (runs system) v -ℤ potential (runs′ system) v) ≤ 200000000
   potential-near v h = potentials-close _ _ _ _ _ _ _ twice v (sound .reached v h)
 
   -- and the metre, which is proved nowhere else
-  pub metre-near : (v : ℕ) → v < length (S .nodes) → apart (metres (potential (runOf runs system) v)) (metres (potential (runOf runs′ system) v)) ≤ 1
+  pub metre-near : (v : ℕ) → v < length (S .nodes) → apart (metres (potential (runs system) v)) (metres (potential (runs′ system) v)) ≤ 1
   metre-near v h =
-      let z = potential (runOf runs system) v in
-      let z′ = potential (runOf runs′ system) v in
+      let z = potential (runs system) v in
+      let z′ = potential (runs′ system) v in
       metres-agree _ _ _ _ _ twice v (sound .reached v h) (metres z) (metres z′) (metres-near z) (metres-near z′)

@@ -6,11 +6,14 @@ use native.Mathlib.Omega.{arith}
 use lib.IntN.{ℤ, negℤ, natAbs, _-ℤ_}
 use lib.ListN.{length}
 use Rattle.integers.proofs.Core.{Z}
-use Rattle.meaning.specs.Study.{Study, Runs}
+use Rattle.meaning.specs.Study.{Study, Runs, OfDistances}
 use Rattle.meaning.specs.Grid.{gridOf, place}
+use Rattle.meaning.specs.declared.Background.the-variants.{YearRound}
+use Rattle.meaning.specs.declared.System.{System}
+use Rattle.meaning.specs.declared.System.the-variants.{Wider, Local}
 use Rattle.meaning.specs.declared.Side.{Side}
 use Rattle.meaning.specs.declared.Side.the-variants.{Generation, Demand}
-use Rattle.meaning.specs.Figures.{distance, widerMetres, localMetres}
+use Rattle.meaning.specs.Figures.{metresBy, widerMetres, localMetres, distance}
 use Rattle.meaning.specs.Sheet.{sheet}
 use Rattle.meaning.specs.Read.{field, padded, lineAt}
 use Rattle.meaning.specs.Conditions.{SoundTables}
@@ -20,8 +23,7 @@ use Rattle.meaning.proofs.Directions.{names-count, place-same}
 use Rattle.claims.proofs.Shown.{zone-shows, rowNamed, local-shows}
 
 module _ (m : ℕ) (S S′ : Study) (sound : SoundTables S) (sound′ : SoundTables S′) (names : namesOf (S .nodes) ≡ namesOf (S′ .nodes)) (runs runs′ : Runs)
-    (wider : (v : ℕ) → v < length (S .nodes) → apart (widerMetres runs v) (widerMetres runs′ v) ≤ m)
-    (local : (v : ℕ) → v < length (S .nodes) → apart (localMetres runs v) (localMetres runs′ v) ≤ m) where
+    (near : (system : System) → OfDistances system → (v : ℕ) → v < length (S .nodes) → apart (metresBy system runs v) (metresBy system runs′ v) ≤ m) where
   abbrev text : List ℕ
   text = sheet (gridOf S) runs
 
@@ -33,16 +35,17 @@ module _ (m : ℕ) (S S′ : Study) (sound : SoundTables S) (sound′ : SoundTab
   one-row k k′ e = ap (λ (f : List ℕ). place (S .nodes) (padded f)) e ∙ place-same (S .nodes) (S′ .nodes) names (padded (field 1 (lineAt k′ text′)))
 
   local-lines : (k k′ : ℕ) → OfOneName (lineAt k text) (lineAt k′ text′) → apart (shownMetres (lineAt k text)) (shownMetres (lineAt k′ text′)) ≤ m
+  unfolding localMetres
   local-lines k k′ o =
       let s = local-shows S sound runs k (o .local) in
       let s′ = local-shows S′ sound′ runs′ k′ (o .local′) in
-      rw (s .1, s′ .1, sym (one-row k k′ (o .name))) (local (rowNamed S sound runs k) (s .0))
+      rw (s .1, s′ .1, sym (one-row k k′ (o .name))) (near Local tt (rowNamed S sound runs k) (s .0))
 
   -- a demand node's distance is the negative
   side-near : (side : Side) (v : ℕ) → v < length (S .nodes) → apart (distance runs side v) (distance runs′ side v) ≤ m
-  unfolding distance
-  side-near Generation v h = wider v h
-  side-near Demand v h = turned (widerMetres runs v) (widerMetres runs′ v) (wider v h)
+  unfolding distance widerMetres
+  side-near Generation v h = near (Wider YearRound) tt v h
+  side-near Demand v h = turned (widerMetres runs v) (widerMetres runs′ v) (near (Wider YearRound) tt v h)
     where
       turned : (y z : ℤ) → natAbs (y -ℤ z) ≤ m → natAbs (negℤ y -ℤ negℤ z) ≤ m
       turned y z h = simp Z (omega (arith, simp Z at h))
@@ -56,4 +59,4 @@ module _ (m : ℕ) (S S′ : Study) (sound : SoundTables S) (sound′ : SoundTab
 
   pub distances-within : DistancesWithin m (gridOf S) (gridOf S′) runs runs′ text text′
   unfolding gridOf
-  distances-within = record { wider = wider; local = local; localLines = local-lines; zoneLines = zone-lines }
+  distances-within = record { nodal = near; localLines = local-lines; zoneLines = zone-lines }

@@ -5,8 +5,11 @@ use mathlib.Core.Path.{_≡_, refl}
 use mathlib.Core.List.{List, [], _∷_, _++_}
 use Prim.Native.Nat.{ℕ, _<_}
 use lib.IntN.{ℤ, pos, negℤ}
+use Rattle.meaning.specs.declared.System.{System}
+use Rattle.meaning.specs.declared.System.the-variants.{Base, Wider, Local}
+use Rattle.meaning.specs.Proposal.{potential}
 use Rattle.meaning.specs.Text.{text}
-use Rattle.meaning.specs.Study.{Study, Runs}
+use Rattle.meaning.specs.Study.{Study, Runs, OfDistances}
 use Rattle.meaning.specs.File.{studyOf}
 use Rattle.meaning.specs.declared.Side.{Side}
 use Rattle.meaning.specs.declared.Side.the-variants.{Generation, Demand}
@@ -72,7 +75,7 @@ imageStudy mark =
     (stationOf "S_2" "MILL" 1000 ∷ stationOf "S_3" "FORD" 1000 ∷ stationOf "S_4" "WEIR" 1500 ∷ [])
 
 abbrev turnedRound : Runs → Runs
-turnedRound runs = record { base = turned (runs .base); wider = turned (runs .wider); local = turned (runs .local) }
+turnedRound runs = λ s. turned (runs s)
 
 abbrev imageRuns : Runs
 imageRuns = turnedRound tarnRuns
@@ -108,13 +111,17 @@ exchanged-with mark wider local = record {
   constants = refl;
   widerFactors = refl;
   localFactors = refl;
-  wider = four _ refl refl refl refl;
-  local = four _ refl refl refl refl;
+  potentials = turned-in;
 }
   where
     either : (side : Side) → zones (gridOf (imageStudy mark)) side ≡ zones (gridOf (tarnStudy mark)) (other side)
     either Generation = refl
     either Demand = refl
+
+    turned-in : (s : System) → OfDistances s → (v : ℕ) → v < 4 → potential (turnedRound (runsWith wider local) s) v ≡ negℤ (potential (runsWith wider local s) v)
+    turned-in (Base b) d = absurd d
+    turned-in (Wider b) d = four _ refl refl refl refl
+    turned-in Local d = four _ refl refl refl refl
 
 tarn-image : MirrorImage tarnGrid (gridOf (studyOf image)) tarnRuns imageRuns
 unfolding opened

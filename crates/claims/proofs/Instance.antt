@@ -7,9 +7,10 @@ use Prim.Native.String.{String}
 use native.Mathlib.Omega.{arith}
 use lib.IntN.{pos}
 use lib.ListN.{getD, replicate, set}
-use Rattle.meaning.specs.Study.{Station, Study, Runs}
+use Rattle.meaning.specs.Study.{Station, Study, Runs, runsOf}
 use Rattle.meaning.specs.File.{u32, versionOf, studyOf, runsIn}
 use Rattle.meaning.specs.Rows.{rows}
+use Rattle.meaning.specs.declared.Background.the-variants.{YearRound}
 use Rattle.meaning.specs.declared.System.the-variants.{Base}
 use Rattle.meaning.specs.declared.Refusal.the-variants.{Unbalanced, MissesTooHigh}
 use Rattle.meaning.specs.declared.Refusal.{Refusal}
@@ -62,7 +63,7 @@ divided =
     ∷ []
 
 abbrev otherRuns : Runs
-otherRuns = record { base = set kilnBase 0 (pos 11000010000000); wider = set kilnWider 0 (pos 32000040000000); local = kilnLocal }
+otherRuns = runsOf (set kilnBase 0 (pos 11000010000000)) (set kilnWider 0 (pos 32000040000000)) kilnLocal
 
 abbrev dividedWith : Runs → List ℕ
 dividedWith runs = fileOf (record { settings = kilnSettings; nodes = kilnNodes; circuits = kilnCircuits; stations = divided }) runs
@@ -122,7 +123,7 @@ one-sheet = solvers-agree kiln twin kilnRuns kilnRuns kiln-acceptable twin-accep
 
 -- ---- one milliwatt more on A-B, with KILN's stations and with the divided ones: one answer, in two buffers
 abbrev leaking : Runs
-leaking = record { base = set kilnBase 3 (pos 45000000001); wider = kilnWider; local = kilnLocal }
+leaking = runsOf (set kilnBase 3 (pos 45000000001)) kilnWider kilnLocal
 
 passes-five : PassesToFive kiln leaking
 unfolding opened
@@ -132,25 +133,25 @@ divided-passes : PassesToFive other leaking
 unfolding opened
 divided-passes = (judge-file other leaking .passes .0 refl .0, judge-rows (studyOf other) .passes .0 refl)
 
-kiln-leaks : settle kiln leaking (replicate 5 7) .answer ≡ Refused (Unbalanced Base 1)
+kiln-leaks : settle kiln leaking (replicate 5 7) .answer ≡ Refused (Unbalanced (Base YearRound) 1)
 unfolding opened
 kiln-leaks = refl
 
-hidden : settle other leaking (replicate 5 1) .answer ≡ Refused (Unbalanced Base 1)
+hidden : settle other leaking (replicate 5 1) .answer ≡ Refused (Unbalanced (Base YearRound) 1)
 hidden = sym (stations-hidden kiln other leaking (replicate 5 7) (replicate 5 1) passes-five divided-passes same refl) ∙ kiln-leaks
 
 -- so 01's order stops it there, at balance and not at a number, a miss or a direction; and a short buffer at 12
-leak-stopped : Stopped kiln leaking (replicate 5 7) (Unbalanced Base 1)
-leak-stopped = refused-exactly-when kiln leaking (replicate 5 7) (Unbalanced Base 1) .exactly .0 kiln-leaks
+leak-stopped : Stopped kiln leaking (replicate 5 7) (Unbalanced (Base YearRound) 1)
+leak-stopped = refused-exactly-when kiln leaking (replicate 5 7) (Unbalanced (Base YearRound) 1) .exactly .0 kiln-leaks
 
-not-missed : Stopped kiln leaking (replicate 5 7) (MissesTooHigh Base) → ⊥
+not-missed : Stopped kiln leaking (replicate 5 7) (MissesTooHigh (Base YearRound)) → ⊥
 unfolding values refusal
-not-missed f = unbalanced≢missed (one-answer kiln leaking (replicate 5 7) .onlyOne (Unbalanced Base 1) (MissesTooHigh Base) leak-stopped f)
+not-missed f = unbalanced≢missed (one-answer kiln leaking (replicate 5 7) .onlyOne (Unbalanced (Base YearRound) 1) (MissesTooHigh (Base YearRound)) leak-stopped f)
   where
-    unbalanced≢missed : Unbalanced Base 1 ≡ MissesTooHigh Base → ⊥
+    unbalanced≢missed : Unbalanced (Base YearRound) 1 ≡ MissesTooHigh (Base YearRound) → ⊥
     unbalanced≢missed e = numbers (ap {B = ℕ} (λ (r : Refusal). values (Refused r) .number) e)
       where
-        numbers : _≡_ {A = ℕ} (values (Refused (Unbalanced Base 1)) .number) (values (Refused (MissesTooHigh Base)) .number) → ⊥
+        numbers : _≡_ {A = ℕ} (values (Refused (Unbalanced (Base YearRound) 1)) .number) (values (Refused (MissesTooHigh (Base YearRound))) .number) → ⊥
         numbers h = omega arith
 
 -- ---- 02, request 1: KILN has no interconnector, and is charged as 01 says; with one, the revenue is recovered from those that pay

@@ -11,7 +11,8 @@ use Rattle.integers.proofs.Sum.{sum-same, Σ-same}
 use Rattle.meaning.specs.Study.{Runs}
 use Rattle.meaning.specs.Grid.{Grid, gridOf, nodeTec, payingTec, totalTec, totalDemand}
 use Rattle.meaning.specs.declared.Side.the-variants.{Generation, Demand}
-use Rattle.meaning.specs.Figures.{zones, zoneOf, weight, paying, zoneWeight, zonePaying, totalPaying, overZones, C, localTariff, localIncome, rest, residual, remainder}
+use Rattle.meaning.specs.Figures.{zones, zoneOf, weight, paying, zoneWeight, zonePaying, totalPaying, overZones, C, localTariff, localIncome, rest, residual, remainder, basis}
+use Rattle.meaning.specs.Charging as charging
 use Rattle.meaning.specs.Demands.{AllButInterconnectorsPay, AllTecPays, NoInterconnectorNoChange}
 use Rattle.meaning.proofs.Plants.{capacity-at, all-weigh, all-but-three-pay}
 
@@ -37,15 +38,14 @@ module _ (G : Grid) (all : (v : ℕ) → v < length (G .nodes) → payingTec G v
   total-demand = refl
 
   over-same : (f : ℕ → ℤ) → overZones G Generation f ≡ Σ (zones G Generation) (λ k. f (suc k) *ℤ pos (zoneWeight G Generation (suc k)))
-  unfolding overZones
   over-same f = Σ-same (zones G Generation) _ _ (λ k h. ap (λ (kw : ℕ). f (suc k) *ℤ pos kw) (zone-same (suc k)))
 
   local-same : (runs : Runs) → localIncome G runs Generation ≡ Σ (length (G .nodes)) (λ v. localTariff G runs v *ℤ pos (nodeTec G v))
-  unfolding localIncome
+  unfolding charging.localIncome basis
   local-same runs = Σ-same (length (G .nodes)) _ _ (λ v h. ap (λ (kw : ℕ). localTariff G runs v *ℤ pos kw) (all v h))
 
   all-tec-pays : (runs : Runs) → AllTecPays G runs
-  unfolding C rest residual remainder
+  unfolding charging.C charging.rest charging.residual charging.remainder charging.priced basis
   all-tec-pays runs = record {
     centre = rw (over-same, total-same, total-demand) refl;
     generationRest = rw (over-same, local-same runs) refl;

@@ -2,13 +2,14 @@
 use mathlib.Core.Path.{_≡_, refl, sym, _∙_, subst}
 use mathlib.Core.Logic.{_⊎_, inl, inr, _≢_}
 use mathlib.Core.List.{List, [], _∷_}
-use mathlib.Core.Bool.{true, false, true≢false}
+use mathlib.Core.Bool.{false, true≢false}
 use Prim.Native.Nat.{ℕ, suc, _+_, _≤_, _<_}
 use lib.Dec.{eqb}
 use lib.ListN.{length}
 use native.Mathlib.Omega.{arith}
-use Rattle.meaning.specs.Study.{Runs}
+use Rattle.meaning.specs.Study.{Runs, flowSystems, distanceSystems}
 use Rattle.meaning.specs.File.{studyOf}
+use Rattle.meaning.specs.declared.Background.the-variants.{YearRound}
 use Rattle.meaning.specs.declared.System.{System}
 use Rattle.meaning.specs.declared.System.the-variants.{Base, Wider, Local}
 use Rattle.meaning.specs.declared.Refusal.{Refusal}
@@ -20,7 +21,7 @@ use Rattle.meaning.proofs.Says.{says-eq}
 use Rattle.meaning.proofs.Order.{first-of-two}
 use Rattle.meaning.specs.Grid.{gridOf}
 use Rattle.meaning.specs.Conditions.{InRange}
-use Rattle.meaning.specs.Refusals.{Condition, whole, eachRow, Unmet, AllMet, FirstUnmet, caseOrder, Stopped}
+use Rattle.meaning.specs.Refusals.{Condition, whole, eachRow, Unmet, AllMet, FirstUnmet, systemsOrder, caseOrder, Stopped}
 use Rattle.meaning.specs.Demands.{SystemListed, base, wider, local, badFile, badSetting, badNode, badCircuit, badStation, unreached, badTotal, noChargeableTec, badNumber, unbalanced, missesTooHigh, inDoubt, shortBuffer, ListedFor}
 
 -- row i is printed as row i + 1
@@ -29,8 +30,8 @@ in-rows h = record { least = omega arith; most = omega arith }
 
 numbered : (s : System) → SystemListed s (systemNumber s)
 unfolding systemNumber
-numbered Base = base
-numbered Wider = wider
+numbered (Base YearRound) = base
+numbered (Wider YearRound) = wider
 numbered Local = local
 
 -- what holds of each refusal that a list of conditions gives holds of the one that stops a case
@@ -70,16 +71,18 @@ module _ (file : List ℕ) (runs : Runs) where
   unfolding values refusal
   misses s = (missesTooHigh s _ (numbered s), refl)
 
+  -- 8, 9 and 10 of these systems, and what comes after
+  systems-rows : (ss : List System) {after : List Condition} → All Row after → All Row (systemsOrder (gridOf (studyOf file)) runs ss after)
+  unfolding gridOf
+  systems-rows [] rest = rest
+  systems-rows (s ∷ ss) rest = number s and balance s and misses s and systems-rows ss rest
+
   case-row : (r : Refusal) → FirstUnmet (caseOrder file runs) r → Row r
   unfolding gridOf values refusal
   case-row = of-first Row (caseOrder file runs)
       ((badFile, refl) and (badSetting, refl) and (λ i h. (badNode (suc i) (in-rows h), refl)) and (λ i h. (badCircuit (suc i) (in-rows h), refl))
       and (λ i h. (badStation (suc i) (in-rows h), refl)) and (λ i h. (unreached (suc i) (in-rows h), refl)) and (badTotal, refl) and (noChargeableTec, refl)
-      and (λ i h. number Base i h) and (λ i h. balance Base i h) and misses Base
-      and (λ i h. (inDoubt (suc i) (in-rows h), refl))
-      and (λ i h. number Wider i h) and (λ i h. balance Wider i h) and misses Wider
-      and (λ i h. number Local i h) and (λ i h. balance Local i h) and misses Local
-      and end)
+      and systems-rows flowSystems ((λ i h. (inDoubt (suc i) (in-rows h), refl)) and systems-rows distanceSystems end))
 
   pub case-listed : (r : Refusal) → FirstUnmet (caseOrder file runs) r → ListedFor (studyOf file) r
   case-listed r f = case-row r f .0

@@ -1,6 +1,5 @@
 -- 02, request 2, on the bytes of a sheet: a generation zone and a demand zone that weigh alike print opposite metres, metres after C and tariffs.
 use mathlib.Core.Path.{_≡_, refl, sym, _∙_, ap, ap₂}
-use mathlib.Core.List.{[]}
 use mathlib.Core.Bool.{Bool, true, false, cond}
 use Prim.Native.Nat.{ℕ, zero, suc}
 use native.Mathlib.Omega.{arith}
@@ -13,41 +12,44 @@ use Rattle.meaning.specs.declared.Side.the-variants.{Generation, Demand}
 use Rattle.meaning.specs.Study.{Study, Runs}
 use Rattle.meaning.specs.File.{studyOf}
 use Rattle.meaning.specs.Grid.{Grid, gridOf}
-use Rattle.meaning.specs.Figures.{zoneWeight, zonalMetres, afterC, zoneTariff}
-use Rattle.meaning.specs.Sheet.{sheet}
-use Rattle.meaning.specs.Read.{field, readNatural, readWhole, lineAt}
+use Rattle.meaning.specs.Figures.{zoneWeight, residual, zoneFigures, basis}
+use Rattle.meaning.specs.Charging as charging
+use Rattle.meaning.specs.Sheet.{zoneNumbers, sheet}
+use Rattle.meaning.specs.Read.{field, readWhole, lineAt}
 use Rattle.meaning.specs.Conditions.{InRange, SoundTables}
 use Rattle.meaning.specs.Mirror.{WeighAlike, LinesAlike, PrintedMirror}
 use Rattle.meaning.proofs.Mirror.{zones-mirror}
-use Rattle.claims.proofs.Digits.{read-decimal}
-use Rattle.claims.proofs.Lines.{emptyZone, fullZone}
-use Rattle.claims.proofs.Shown.{shown, field-read}
+use Rattle.claims.proofs.Lines.{zoneRead}
+use Rattle.claims.proofs.ReadBack.{readOf, field-read}
 
 module _ (S : Study) (sound : SoundTables S) (runs : Runs) where
   abbrev G : Grid
   G = gridOf S
 
-  -- the figure that field k of a zone's line shows
-  module _ (k : ℕ) (figure : Side → ℕ → ℤ) (empty : (side : Side) (z : ℕ) → readWhole (getD (emptyZone G runs side z) k []) ≡ pos 0)
-      (full : (side : Side) (z : ℕ) → readWhole (getD (fullZone G runs side z) k []) ≡ figure side z) where
-    -- zones that weigh alike both have kilowatts or neither has
-    shown-mirror : (g d : ℕ) → WeighAlike G g d → figure Demand d ≡ negℤ (figure Generation g) → shown G figure Demand d ≡ negℤ (shown G figure Generation g)
-    unfolding shown zoneWeight
-    shown-mirror g d h e =
-        ap₂ (λ (w : ℕ) (f : ℤ). cond (eqb w 0) (pos 0) f) (sym (sum-same (length (G .nodes)) _ _ h)) e
-        ∙ turned (eqb (zoneWeight G Generation g) 0) (figure Generation g)
-      where
-        turned : (b : Bool) (f : ℤ) → cond b (pos 0) (negℤ f) ≡ negℤ (cond b (pos 0) f)
-        turned true f = refl
-        turned false f = refl
+  -- number i of the line of a zone
+  abbrev number : ℕ → Side → (zone : ℕ) → ℤ
+  number i side zone = getD (zoneNumbers (residual G runs side) (zoneFigures G runs side zone)) i (pos 0)
 
-    printed-mirror : (i j : ℕ) → LinesAlike G (lineAt i (sheet G runs)) (lineAt j (sheet G runs))
-        → ((g d : ℕ) → WeighAlike G g d → figure Demand d ≡ negℤ (figure Generation g))
-        → readWhole (field k (lineAt j (sheet G runs))) ≡ negℤ (readWhole (field k (lineAt i (sheet G runs))))
-    printed-mirror i j m h =
-        field-read S sound runs k figure empty full Demand j (m .demand)
-        ∙ shown-mirror _ _ (m .alike) (h _ _ (m .alike))
-        ∙ ap negℤ (sym (field-read S sound runs k figure empty full Generation i (m .generation)))
+  abbrev Opposed : ℕ → Type 0
+  Opposed i = (g d : ℕ) → WeighAlike G g d → number i Demand d ≡ negℤ (number i Generation g)
+
+  -- zones that weigh alike both have kilowatts or neither has
+  read-mirror : (i g d : ℕ) → WeighAlike G g d → Opposed i → readOf S sound runs Demand d i ≡ negℤ (readOf S sound runs Generation g i)
+  unfolding zoneRead charging.zoneFigures charging.zoneTotal zoneWeight charging.priced basis
+  read-mirror i g d h e =
+      ap₂ (λ (w : ℕ) (f : ℤ). cond (eqb w 0) (pos 0) f) (sym (sum-same (length (G .nodes)) _ _ h)) (e g d h)
+      ∙ turned (eqb (zoneWeight G Generation g) 0) (number i Generation g)
+    where
+      turned : (b : Bool) (f : ℤ) → cond b (pos 0) (negℤ f) ≡ negℤ (cond b (pos 0) f)
+      turned true f = refl
+      turned false f = refl
+
+  printed-mirror : (i j k : ℕ) → LinesAlike G (lineAt j (sheet G runs)) (lineAt k (sheet G runs)) → Opposed i
+      → readWhole (field (suc (suc i)) (lineAt k (sheet G runs))) ≡ negℤ (readWhole (field (suc (suc i)) (lineAt j (sheet G runs))))
+  printed-mirror i j k m h =
+      field-read S sound runs i Demand k (m .demand)
+      ∙ read-mirror i _ _ (m .alike) h
+      ∙ ap negℤ (sym (field-read S sound runs i Generation j (m .generation)))
 
 -- what holds of fields 2, 3 and 4
 three-fields : (P : ℕ → Type 0) → P 2 → P 3 → P 4 → (k : ℕ) → InRange k 2 4 → P k
@@ -59,7 +61,7 @@ three-fields P a b c (suc (suc (suc (suc zero)))) r = c
 three-fields P a b c (suc (suc (suc (suc (suc k))))) r = absurd (omega (arith, r .most))
 
 pub printed-mirrors : PrintedMirror
-unfolding readWhole readNatural gridOf
+unfolding zoneNumbers charging.zoneFigures charging.zoneTotal charging.priced basis
 printed-mirrors file runs a = record { opposite = λ i j k m. opposite i j m k }
   where
     S : Study
@@ -72,6 +74,6 @@ printed-mirrors file runs a = record { opposite = λ i j k m. opposite i j m k }
         → readWhole (field k (lineAt j (sheet (gridOf S) runs))) ≡ negℤ (readWhole (field k (lineAt i (sheet (gridOf S) runs))))
     opposite i j m =
         three-fields _
-        (printed-mirror S sound runs 2 (zonalMetres (gridOf S) runs) (λ side z. refl) (λ side z. read-decimal _) i j m (λ g d h. zones-mirror (gridOf S) runs g d h .metres))
-        (printed-mirror S sound runs 3 (afterC (gridOf S) runs) (λ side z. refl) (λ side z. read-decimal _) i j m (λ g d h. zones-mirror (gridOf S) runs g d h .withC))
-        (printed-mirror S sound runs 4 (zoneTariff (gridOf S) runs) (λ side z. refl) (λ side z. read-decimal _) i j m (λ g d h. zones-mirror (gridOf S) runs g d h .tariffs))
+        (printed-mirror S sound runs 0 i j m (λ g d h. zones-mirror (gridOf S) runs g d h .metres))
+        (printed-mirror S sound runs 1 i j m (λ g d h. zones-mirror (gridOf S) runs g d h .withC))
+        (printed-mirror S sound runs 2 i j m (λ g d h. zones-mirror (gridOf S) runs g d h .tariffs))

@@ -10,20 +10,22 @@ use Rattle.meaning.specs.Study.{Runs}
 use Rattle.meaning.specs.Grid.{Grid}
 use Rattle.meaning.specs.declared.Side.{Side}
 use Rattle.meaning.specs.declared.Side.the-variants.{Generation, Demand}
-use Rattle.meaning.specs.Figures.{remainderOf, zones, zonePaying, totalPaying, overZones, target, zoneTariff, localIncome, rest, residual, remainder, zoneTotal}
+use Rattle.meaning.specs.Charging.{remainderOf}
+use Rattle.meaning.specs.Figures.{zones, zonePaying, totalPaying, overZones, target, zoneTariff, localIncome, rest, residual, remainder, zoneTotal, basis}
+use Rattle.meaning.specs.Charging as charging
 use Rattle.sizes.specs.Bounds.{KilowattsFit}
 
 module _ (G : Grid) (fit : KilowattsFit G) (runs : Runs) where
   -- the residual is paid by each kilowatt, and the zones have all of them
   income-is : (side : Side)
       → overZones G side (zoneTotal G runs side) ≡ overZones G side (zoneTariff G runs side) +ℤ residual G runs side *ℤ pos (totalPaying G side)
-  unfolding overZones zoneTotal
+  unfolding charging.zoneTotal charging.priced basis
   income-is side =
       Σ-raised (λ k. zoneTariff G runs side (suc k)) (residual G runs side) (λ k. zonePaying G side (suc k)) (zones G side)
       ∙ ap (λ (m : ℕ). overZones G side (zoneTariff G runs side) +ℤ residual G runs side *ℤ pos m) (fit .zonesAll side)
 
   pub side-recovered : (side : Side) → overZones G side (zoneTotal G runs side) +ℤ localIncome G runs side +ℤ remainder G runs side ≡ target G side
-  unfolding remainder remainderOf residual rest
+  unfolding charging.remainder remainderOf charging.residual charging.rest charging.priced basis
   side-recovered side =
       rw (income-is side)
       (cancel (overZones G side (zoneTariff G runs side)) (residual G runs side) (localIncome G runs side) (target G side) (totalPaying G side))
@@ -33,7 +35,6 @@ module _ (G : Grid) (fit : KilowattsFit G) (runs : Runs) where
 
   -- the two targets are the revenue in micro-pounds
   pub targets : G .settings .p ≤ 1000 → target G Generation +ℤ target G Demand ≡ pos (G .settings .revenue * 1000000)
-  unfolding target
   targets h = ap pos (shares (G .settings .revenue) (G .settings .p) h)
     where
       shares : (r p : ℕ) → p ≤ 1000 → r * (1000 - p) * 1000 + r * p * 1000 ≡ r * 1000000

@@ -1,32 +1,35 @@
 -- Read back from its bytes, a sheet brings in the totals of its zones and the local tariffs of its nodes, and shows its two remainders.
 use mathlib.Core.Path.{_≡_, refl, sym, _∙_, ap, ap₂}
 use mathlib.Core.List.{List, [], _∷_}
-use mathlib.Core.Bool.{true, cond}
+use mathlib.Core.Bool.{Bool, true, false, cond}
 use Prim.Native.Nat.{ℕ, suc, _≤_, _<_}
 use native.Mathlib.Omega.{arith}
+use lib.Dec.{eqb}
 use lib.IntN.{ℤ, pos, natAbs, _+ℤ_, _-ℤ_, _*ℤ_}
-use lib.ListN.{length, getD, drop}
+use lib.ListN.{length, getD}
 use Rattle.integers.specs.Numbers.{Σ}
 use Rattle.integers.proofs.Core.{Z}
 use Rattle.integers.proofs.Sum.{Σ-none}
-use Rattle.meaning.specs.Study.{Study, Runs, node}
+use Rattle.meaning.specs.Study.{Study, Runs}
 use Rattle.meaning.specs.Name.{sameName}
 use Rattle.meaning.specs.Grid.{Grid, gridOf, place, nodeTec, payingTec}
 use Rattle.meaning.specs.declared.Side.{Side}
 use Rattle.meaning.specs.declared.Side.the-variants.{Generation, Demand}
-use Rattle.meaning.specs.Figures.{zones, zoneWeight, zonePaying, zoneTariff, residual, zoneTotal, overZones, localIncome, localTariff, remainder}
-use Rattle.meaning.specs.Text.{text, decimal}
-use Rattle.meaning.specs.Sheet.{letter, sheet}
+use Rattle.meaning.specs.Figures.{zones, zoneWeight, zonePaying, zoneTariff, residual, zoneTotal, overZones, localIncome, localTariff, remainder, zoneFigures, localFigures, basis}
+use Rattle.meaning.specs.Charging as charging
+use Rattle.meaning.specs.Text.{text, decimals}
+use Rattle.meaning.specs.Sheet.{constantFields, letter, zoneNumbers, zoneFields, nodeFields, remainderFields, SideShown, Shown, zoneRow, sideOf, shownOf, sheet}
 use Rattle.meaning.specs.Read.{pieces, field, readNatural, readWhole, hasLetter, padded, lineAt, zoneIncome, nodeIncome, lineIncome, sideIncome, remainderField, printedRemainder}
-use Rattle.meaning.specs.Conditions.{WellFormed, SoundTables}
+use Rattle.meaning.specs.Conditions.{SoundTables}
 use Rattle.meaning.proofs.Tables.{place-own, rowwise}
-use Rattle.claims.proofs.Digits.{read-natural, read-decimal}
-use Rattle.claims.proofs.Names.{name-back}
+use Rattle.claims.proofs.Digits.{From, from-lower, read-natural, read-decimal}
+use Rattle.claims.proofs.Names.{name-from, name-back}
 use Rattle.meaning.proofs.Proposals.{not-apart, zero-apart}
 use Rattle.meaning.proofs.Plants.{node-pays}
+use Rattle.meaning.proofs.Says.{says-eq}
 use Rattle.claims.proofs.Pays.{zone-pays}
 use Rattle.claims.proofs.Pieces.{over, adds-all, each-none}
-use Rattle.claims.proofs.Lines.{Line, emptyZone, fullZone, nodeLine, lastLine, Worth, add-sheet}
+use Rattle.claims.proofs.Lines.{Line, Worth, add-sheet, zoneRead, zone-read}
 
 -- ---- what the fields of a line bring in, and the remainder that they show
 module _ (G : Grid) where
@@ -72,10 +75,10 @@ unfolding printedRemainder hasLetter field left
 left-over side t = refl
 
 -- a zone's letter is not the remainders'
-no-letter : (side s : Side) (fs : Line) → left side (letter s ∷ fs) ≡ pos 0
-unfolding left sameName letter
-no-letter side Generation fs = refl
-no-letter side Demand fs = refl
+no-letter : (side s : Side) (t : SideShown) (k : ℕ) → left side (zoneRow s t k) ≡ pos 0
+unfolding left sameName letter zoneFields
+no-letter side Generation t k = refl
+no-letter side Demand t k = refl
 
 -- an empty line
 no-remainder : (side : Side) → left side ([] ∷ []) ≡ pos 0
@@ -86,6 +89,16 @@ no-remainder side = refl
 module _ (S : Study) (sound : SoundTables S) (runs : Runs) where
   abbrev G : Grid
   G = gridOf S
+
+  abbrev page : Shown
+  page = shownOf G runs
+
+  abbrev pub nodeOf : ℕ → Line
+  nodeOf v = nodeFields (page .name v) (page .local v)
+
+  -- number i of a zone's line, as it reads
+  abbrev pub readOf : Side → (zone i : ℕ) → ℤ
+  readOf side zone i = zoneRead (residual G runs side) (zoneFigures G runs side zone) i
 
   zoneWorth : Side → ℕ → ℤ
   zoneWorth side z = zoneTotal G runs side z *ℤ pos (zonePaying G side z)
@@ -104,83 +117,64 @@ module _ (S : Study) (sound : SoundTables S) (runs : Runs) where
   nodeTo Generation v = nodeWorth v
   nodeTo Demand v = pos 0
 
-  full-zone : (side s : Side) (z : ℕ) → ofSide G side (fullZone G runs s z) ≡ zoneTo side s z
-  unfolding ofSide ofZone ofNode sameName letter zoneWorth zoneTo
-  full-zone Generation Generation z = rw (read-decimal (zoneTotal G runs Generation z), read-natural z) (simp Z (omega arith))
-  full-zone Generation Demand z = refl
-  full-zone Demand Generation z = refl
-  full-zone Demand Demand z = rw (read-decimal (zoneTotal G runs Demand z), read-natural z) refl
-
-  empty-zone : (side s : Side) (z : ℕ) → zoneWeight G s z ≡ 0 → ofSide G side (emptyZone G runs s z) ≡ zoneTo side s z
-  unfolding ofSide ofZone ofNode sameName letter zoneWorth zoneTo readWhole
-  empty-zone side s z e = go side s (none (zone-pays G s z))
+  -- a zone's line is worth the same with and without kilowatts
+  zone-worth : (side : Side) (z : ℕ) → readOf side z 4 *ℤ pos (zonePaying G side z) ≡ zoneWorth side z
+  unfolding zoneRead zoneNumbers charging.zoneFigures charging.zoneTotal zoneWorth charging.priced basis
+  zone-worth side z = go (eqb (zoneWeight G side z) 0) (says-eq .0) (zone-pays G side z)
     where
-      none : zonePaying G s z ≤ zoneWeight G s z → zonePaying G s z ≡ 0
-      none h = omega arith
+      go : (b : Bool) → (b ≡ true → zoneWeight G side z ≡ 0) → zonePaying G side z ≤ zoneWeight G side z
+          → cond b (pos 0) (zoneTotal G runs side z) *ℤ pos (zonePaying G side z) ≡ zoneTotal G runs side z *ℤ pos (zonePaying G side z)
+      go true e h = let q : zonePaying G side z ≡ 0 = omega (arith, e refl) in rw q (simp Z (omega arith))
+      go false e h = refl
 
-      go : (side s : Side) → zonePaying G s z ≡ 0 → ofSide G side (emptyZone G runs s z) ≡ zoneTo side s z
-      go Generation Generation h = rw h (simp Z (omega arith))
-      go Generation Demand h = refl
-      go Demand Generation h = refl
-      go Demand Demand h = rw h (simp Z (omega arith))
+  zone-line : (side s : Side) (k : ℕ) → ofSide G side (zoneRow s (sideOf G runs s) k) ≡ zoneTo side s (suc k)
+  unfolding ofSide ofZone ofNode sameName letter zoneFields zoneTo
+  zone-line Generation Generation k = rw (zone-read Generation (suc k) (residual G runs Generation) (zoneFigures G runs Generation (suc k)) 4, read-natural (suc k), zone-worth Generation (suc k)) (simp Z (omega arith))
+  zone-line Generation Demand k = refl
+  zone-line Demand Generation k = refl
+  zone-line Demand Demand k = rw (zone-read Demand (suc k) (residual G runs Demand) (zoneFigures G runs Demand (suc k)) 4, read-natural (suc k)) (zone-worth Demand (suc k))
 
-  node-line : (side : Side) (v : ℕ) → v < length (S .nodes) → ofSide G side (nodeLine G runs v) ≡ nodeTo side v
-  unfolding ofSide ofZone ofNode sameName letter nodeWorth nodeTo gridOf
+  node-line : (side : Side) (v : ℕ) → v < length (S .nodes) → ofSide G side (nodeOf v) ≡ nodeTo side v
+  unfolding ofSide ofZone ofNode sameName letter nodeFields decimals charging.localFigures nodeWorth nodeTo gridOf basis
   node-line Generation v h =
       rw (read-decimal (localTariff G runs v), name-back (sound .nodes v h .name), place-own S (rowwise S sound) v h) (simp Z (omega arith))
   node-line Demand v h = refl
 
-  no-line : (side : Side) (v : ℕ) → nodeTec G v ≡ 0 → pos 0 ≡ nodeTo side v
-  unfolding nodeWorth nodeTo
+  no-line : (side : Side) (v : ℕ) → localFigures G runs v .tec .0 ≡ 0 → pos 0 ≡ nodeTo side v
+  unfolding charging.localFigures nodeWorth nodeTo basis
   no-line Generation v e = rw (none (node-pays G v)) (simp Z (omega arith))
     where
       none : payingTec G v ≤ nodeTec G v → payingTec G v ≡ 0
       none h = omega arith
   no-line Demand v e = refl
 
-  income-worth : (side : Side) → Worth G runs (ofSide G side) (zoneTo side) (nodeTo side) (pos 0)
-  unfolding ofSide ofZone ofNode sameName letter gridOf
-  income-worth Generation =
-      record { start = refl; empty = empty-zone Generation; full = λ s z e. full-zone Generation s z; silent = no-line Generation; printed = node-line Generation; last = refl }
-  income-worth Demand =
-      record { start = refl; empty = empty-zone Demand; full = λ s z e. full-zone Demand s z; silent = no-line Demand; printed = node-line Demand; last = refl }
+  income-worth : (side : Side) → Worth page (ofSide G side) (λ s k. zoneTo side s (suc k)) (nodeTo side) (pos 0)
+  unfolding ofSide ofZone ofNode sameName letter constantFields remainderFields gridOf
+  income-worth Generation = record { start = refl; zones = zone-line Generation; silent = no-line Generation; printed = node-line Generation; last = refl }
+  income-worth Demand = record { start = refl; zones = zone-line Demand; silent = no-line Demand; printed = node-line Demand; last = refl }
 
-  total-added : (side : Side) (z : ℕ)
-      → readWhole (decimal (zoneTotal G runs side z)) ≡ readWhole (decimal (zoneTariff G runs side z)) +ℤ readWhole (decimal (residual G runs side))
-  unfolding zoneTotal
-  total-added side z =
-      read-decimal (zoneTariff G runs side z +ℤ residual G runs side)
-      ∙ sym (ap₂ _+ℤ_ (read-decimal (zoneTariff G runs side z)) (read-decimal (residual G runs side)))
-
-  last-line : (side : Side) → left side (lastLine G runs) ≡ remainder G runs side
-  unfolding left sameName remainderField
+  last-line : (side : Side) → left side (remainderFields (remainder G runs Generation) (remainder G runs Demand)) ≡ remainder G runs side
+  unfolding left sameName remainderField remainderFields decimals
   last-line Generation = read-decimal (remainder G runs Generation)
   last-line Demand = read-decimal (remainder G runs Demand)
 
-  left-worth : (side : Side) → Worth G runs (left side) (λ s z. pos 0) (λ v. pos 0) (remainder G runs side)
-  unfolding left sameName
-  left-worth side = record {
-    start = refl;
-    empty = λ s z e. no-letter side s (drop 1 (emptyZone G runs s z));
-    full = λ s z e. no-letter side s (drop 1 (fullZone G runs s z));
-    silent = λ v e. refl;
-    printed = λ v h. refl;
-    last = last-line side;
-  }
+  left-worth : (side : Side) → Worth page (left side) (λ s k. pos 0) (λ v. pos 0) (remainder G runs side)
+  unfolding left sameName constantFields nodeFields
+  left-worth side = record { start = refl; zones = λ s k. no-letter side s (sideOf G runs s) k; silent = λ v e. refl; printed = λ v h. refl; last = last-line side }
 
   -- ---- the whole sheet
-  named : (v : ℕ) → v < length (G .nodes) → WellFormed (node (G .nodes) v .name)
+  named : (v : ℕ) → v < length (G .nodes) → From 45 (page .name v)
   unfolding gridOf
-  named v h = sound .nodes v h .name
+  named v h = from-lower (omega arith) (name-from (sound .nodes v h .name))
 
   none : (n : ℕ) → Σ n (λ k. pos 0) ≡ pos 0
   none n = Σ-none n _ (λ k h. refl)
 
   pub income-read : (side : Side) → sideIncome G side (sheet G runs) ≡ overZones G side (zoneTotal G runs side) +ℤ localIncome G runs side
-  unfolding overZones localIncome zoneTo nodeTo zoneWorth nodeWorth
+  unfolding sheet charging.localIncome zoneTo nodeTo zoneWorth nodeWorth basis
   income-read side =
       income-over G side (sheet G runs)
-      ∙ adds-all (ofSide G side) (add-sheet G runs (ofSide G side) named (zoneTo side) (nodeTo side) (pos 0) (income-worth side)) (no-income G side)
+      ∙ adds-all (ofSide G side) (add-sheet page named (ofSide G side) (λ s k. zoneTo side s (suc k)) (nodeTo side) (pos 0) (income-worth side)) (no-income G side)
       ∙ of side
     where
       of : (side : Side)
@@ -190,89 +184,88 @@ module _ (S : Study) (sound : SoundTables S) (runs : Runs) where
       of Generation = rw (none (zones G Demand)) (simp Z (omega arith))
       of Demand = rw (none (zones G Generation), none (length (G .nodes))) (simp Z (omega arith))
 
+  pub remainder-read : (side : Side) → printedRemainder side (sheet G runs) ≡ remainder G runs side
+  unfolding sheet
+  remainder-read side =
+      left-over side (sheet G runs)
+      ∙ adds-all (left side) (add-sheet page named (left side) _ _ (remainder G runs side) (left-worth side)) (no-remainder side)
+      ∙ rw (none (zones G Generation), none (zones G Demand), none (length (G .nodes))) (simp Z (omega arith))
+
   -- ---- where the gaps of two numbers on lines with a letter are worth nothing, the two are equal on every such line
   module _ (a b : Line → ℤ) where
     abbrev NoGap : (letter : List ℕ) → Type 0
-    NoGap l = Worth G runs (λ fs. pos (gap l a b fs)) (λ s z. pos 0) (λ v. pos 0) (pos 0)
+    NoGap l = Worth page (λ fs. pos (gap l a b fs)) (λ s k. pos 0) (λ v. pos 0) (pos 0)
 
     lettered-agree : (l : List ℕ) → NoGap l → gap l a b ([] ∷ []) ≡ 0 → (i : ℕ) → hasLetter l (lineAt i (sheet G runs)) ≡ true
         → a (pieces 32 (lineAt i (sheet G runs))) ≡ b (pieces 32 (lineAt i (sheet G runs)))
-    unfolding hasLetter field gap pieces
+    unfolding sheet hasLetter field gap pieces
     lettered-agree l worth nothing i h = not-apart _ _ (open-gap (each-none (λ t. gap l a b (pieces 32 t)) nothing (pieces 10 (sheet G runs)) all-closed i))
       where
         all-closed : over (λ fs. pos (gap l a b fs)) (sheet G runs) ≡ pos 0
         all-closed =
-            adds-all (λ fs. pos (gap l a b fs)) (add-sheet G runs (λ fs. pos (gap l a b fs)) named _ _ (pos 0) worth) (ap pos nothing)
+            adds-all (λ fs. pos (gap l a b fs)) (add-sheet page named (λ fs. pos (gap l a b fs)) _ _ (pos 0) worth) (ap pos nothing)
             ∙ rw (none (zones G Generation), none (zones G Demand), none (length (G .nodes))) refl
 
         open-gap : gap l a b (pieces 32 (lineAt i (sheet G runs))) ≡ 0 → natAbs (a (pieces 32 (lineAt i (sheet G runs))) -ℤ b (pieces 32 (lineAt i (sheet G runs)))) ≡ 0
         open-gap e = rw h at e
 
     -- equal on the line of every zone of a side
-    abbrev OnEmpty : Side → Type 0
-    OnEmpty side = (z : ℕ) → zoneWeight G side z ≡ 0 → a (emptyZone G runs side z) ≡ b (emptyZone G runs side z)
+    abbrev OnZones : Side → Type 0
+    OnZones side = (k : ℕ) → a (zoneRow side (sideOf G runs side) k) ≡ b (zoneRow side (sideOf G runs side) k)
 
-    abbrev OnFull : Side → Type 0
-    OnFull side = (z : ℕ) → (zoneWeight G side z ≡ 0 → ⊥) → a (fullZone G runs side z) ≡ b (fullZone G runs side z)
+    zone-gap : (side s : Side) → OnZones side → (k : ℕ) → gap (letter side) a b (zoneRow s (sideOf G runs s) k) ≡ 0
+    unfolding gap sameName letter zoneFields
+    zone-gap Generation Generation h k = closed _ _ (h k)
+    zone-gap Generation Demand h k = refl
+    zone-gap Demand Generation h k = refl
+    zone-gap Demand Demand h k = closed _ _ (h k)
 
-    empty-gap : (side s : Side) → OnEmpty side → (z : ℕ) → zoneWeight G s z ≡ 0 → gap (letter side) a b (emptyZone G runs s z) ≡ 0
-    unfolding gap sameName letter
-    empty-gap Generation Generation h z e = closed _ _ (h z e)
-    empty-gap Generation Demand h z e = refl
-    empty-gap Demand Generation h z e = refl
-    empty-gap Demand Demand h z e = closed _ _ (h z e)
+    zone-gap-worth : (side : Side) → OnZones side → NoGap (letter side)
+    unfolding gap sameName letter constantFields nodeFields remainderFields
+    zone-gap-worth Generation h = record { start = refl; zones = λ s k. ap pos (zone-gap Generation s h k); silent = λ v e. refl; printed = λ v l. refl; last = refl }
+    zone-gap-worth Demand h = record { start = refl; zones = λ s k. ap pos (zone-gap Demand s h k); silent = λ v e. refl; printed = λ v l. refl; last = refl }
 
-    full-gap : (side s : Side) → OnFull side → (z : ℕ) → (zoneWeight G s z ≡ 0 → ⊥) → gap (letter side) a b (fullZone G runs s z) ≡ 0
-    unfolding gap sameName letter
-    full-gap Generation Generation h z e = closed _ _ (h z e)
-    full-gap Generation Demand h z e = refl
-    full-gap Demand Generation h z e = refl
-    full-gap Demand Demand h z e = closed _ _ (h z e)
-
-    gap-worth : (side : Side) → OnEmpty side → OnFull side → NoGap (letter side)
-    unfolding gap sameName letter gridOf
-    gap-worth Generation h k =
-        record { start = refl; empty = λ s z e. ap pos (empty-gap Generation s h z e); full = λ s z e. ap pos (full-gap Generation s k z e); silent = λ v e. refl; printed = λ v l. refl; last = refl }
-    gap-worth Demand h k =
-        record { start = refl; empty = λ s z e. ap pos (empty-gap Demand s h z e); full = λ s z e. ap pos (full-gap Demand s k z e); silent = λ v e. refl; printed = λ v l. refl; last = refl }
-
-    pub lines-agree : (side : Side) → OnEmpty side → OnFull side → (i : ℕ) → hasLetter (letter side) (lineAt i (sheet G runs)) ≡ true
+    zone-lines-agree : (side : Side) → OnZones side → (i : ℕ) → hasLetter (letter side) (lineAt i (sheet G runs)) ≡ true
         → a (pieces 32 (lineAt i (sheet G runs))) ≡ b (pieces 32 (lineAt i (sheet G runs)))
-    lines-agree side h k = lettered-agree (letter side) (gap-worth side h k) (no-gap side a b)
+    zone-lines-agree side h = lettered-agree (letter side) (zone-gap-worth side h) (no-gap side a b)
 
     -- equal on the line of every node
     abbrev OnNodes : Type 0
-    OnNodes = (v : ℕ) → v < length (S .nodes) → a (nodeLine G runs v) ≡ b (nodeLine G runs v)
+    OnNodes = (v : ℕ) → v < length (S .nodes) → a (nodeOf v) ≡ b (nodeOf v)
 
-    zone-gap : (side : Side) (fs : Line) → gap (text "L") a b (letter side ∷ fs) ≡ 0
-    unfolding gap sameName letter
-    zone-gap Generation fs = refl
-    zone-gap Demand fs = refl
+    zone-apart : (s : Side) (t : SideShown) (k : ℕ) → gap (text "L") a b (zoneRow s t k) ≡ 0
+    unfolding gap sameName letter zoneFields
+    zone-apart Generation t k = refl
+    zone-apart Demand t k = refl
 
     node-gap-worth : OnNodes → NoGap (text "L")
-    unfolding gap sameName gridOf
-    node-gap-worth h = record {
-      start = refl;
-      empty = λ s z e. ap pos (zone-gap s (drop 1 (emptyZone G runs s z)));
-      full = λ s z e. ap pos (zone-gap s (drop 1 (fullZone G runs s z)));
-      silent = λ v e. refl;
-      printed = λ v l. ap pos (closed _ _ (h v l));
-      last = refl;
-    }
+    unfolding gap sameName constantFields nodeFields remainderFields gridOf
+    node-gap-worth h =
+        record { start = refl; zones = λ s k. ap pos (zone-apart s (sideOf G runs s) k); silent = λ v e. refl; printed = λ v l. ap pos (closed _ _ (h v l)); last = refl }
 
     pub node-lines-agree : OnNodes → (i : ℕ) → hasLetter (text "L") (lineAt i (sheet G runs)) ≡ true
         → a (pieces 32 (lineAt i (sheet G runs))) ≡ b (pieces 32 (lineAt i (sheet G runs)))
     unfolding gap sameName
     node-lines-agree h = lettered-agree (text "L") (node-gap-worth h) refl
 
+  -- ---- the numbers behind a zone's read as those of the zone
+  pub field-read : (i : ℕ) (side : Side) (j : ℕ) → hasLetter (letter side) (lineAt j (sheet G runs)) ≡ true
+      → readWhole (field (suc (suc i)) (lineAt j (sheet G runs))) ≡ readOf side (readNatural 0 (field 1 (lineAt j (sheet G runs)))) i
+  unfolding field zoneFields
+  field-read i side =
+      zone-lines-agree (λ fs. readWhole (getD fs (suc (suc i)) [])) (λ fs. readOf side (readNatural 0 (getD fs 1 [])) i) side
+      (λ k. zone-read side (suc k) (residual G runs side) (zoneFigures G runs side (suc k)) i ∙ sym (ap (λ (z : ℕ). readOf side z i) (read-natural (suc k))))
+
   -- a printed total is its tariff and its residual
+  total-added : (side : Side) (z : ℕ) → readOf side z 4 ≡ readOf side z 2 +ℤ readOf side z 3
+  unfolding zoneRead zoneNumbers charging.zoneFigures charging.zoneTotal charging.priced basis
+  total-added side z = go (eqb (zoneWeight G side z) 0)
+    where
+      go : (b : Bool) → cond b (pos 0) (zoneTariff G runs side z +ℤ residual G runs side) ≡ cond b (pos 0) (zoneTariff G runs side z) +ℤ cond b (pos 0) (residual G runs side)
+      go true = refl
+      go false = refl
+
   pub total-read : (side : Side) (k : ℕ) → hasLetter (letter side) (lineAt k (sheet G runs)) ≡ true
       → readWhole (field 6 (lineAt k (sheet G runs))) ≡ readWhole (field 4 (lineAt k (sheet G runs))) +ℤ readWhole (field 5 (lineAt k (sheet G runs)))
-  unfolding field readWhole
-  total-read side = lines-agree (λ fs. readWhole (getD fs 6 [])) (λ fs. readWhole (getD fs 4 []) +ℤ readWhole (getD fs 5 [])) side (λ z e. refl) (λ z e. total-added side z)
-
-  pub remainder-read : (side : Side) → printedRemainder side (sheet G runs) ≡ remainder G runs side
-  remainder-read side =
-      left-over side (sheet G runs)
-      ∙ adds-all (left side) (add-sheet G runs (left side) named _ _ (remainder G runs side) (left-worth side)) (no-remainder side)
-      ∙ rw (none (zones G Generation), none (zones G Demand), none (length (G .nodes))) (simp Z (omega arith))
+  total-read side k h =
+      field-read 4 side k h ∙ total-added side _ ∙ sym (ap₂ _+ℤ_ (field-read 2 side k h) (field-read 3 side k h))

@@ -1,78 +1,59 @@
--- What the lines of a sheet show, read back from their bytes: field k of a zone's line, the metres of a zone whose kilowatts are all at one node, and the local metres of a node's line.
+-- What the lines of a sheet show, read back from their bytes: the metres of a zone whose kilowatts are all at one node, and the local metres of a node's line.
 use mathlib.Core.Path.{_≡_, refl, sym, _∙_, ap}
 use mathlib.Core.List.{[]}
 use mathlib.Core.Bool.{Bool, true, false, cond}
 use Prim.Native.Nat.{ℕ, suc, _≤_, _<_}
 use native.Mathlib.Omega.{arith}
-use lib.Dec.{eqb, ltb}
+use lib.Dec.{ltb}
 use lib.IntN.{ℤ, pos, natAbs}
 use lib.ListN.{length, getD}
 use Rattle.integers.proofs.Sum.{sum-item}
 use Rattle.meaning.specs.declared.Side.{Side}
 use Rattle.meaning.specs.Study.{Study, Runs}
 use Rattle.meaning.specs.Grid.{Grid, gridOf, place}
-use Rattle.meaning.specs.Figures.{zoneWeight, zonalMetres, distance, localMetres}
-use Rattle.meaning.specs.Text.{text}
-use Rattle.meaning.specs.Sheet.{letter, sheet}
+use Rattle.meaning.specs.Figures.{zoneWeight, zonalMetres, distance, localMetres, zoneFigures, localFigures, basis}
+use Rattle.meaning.specs.Charging as charging
+use Rattle.meaning.specs.Text.{text, decimals}
+use Rattle.meaning.specs.Sheet.{zoneNumbers, nodeFields, sheet}
 use Rattle.meaning.specs.Read.{pieces, field, readNatural, readWhole, hasLetter, padded, lineAt}
 use Rattle.meaning.specs.Conditions.{SoundTables}
 use Rattle.meaning.specs.Distances.{weightIn, shownMetres, OfNode}
-use Rattle.meaning.proofs.Says.{Says, says-eq, says-le}
+use Rattle.meaning.proofs.Says.{Says, says-le}
 use Rattle.meaning.proofs.Sides.{zone-of-one}
 use Rattle.meaning.proofs.Tables.{place-own, rowwise}
-use Rattle.claims.proofs.Digits.{differs, read-natural, read-decimal}
+use Rattle.claims.proofs.Digits.{differs, read-decimal}
 use Rattle.claims.proofs.Names.{name-back}
-use Rattle.claims.proofs.Lines.{Line, emptyZone, fullZone, nodeLine}
-use Rattle.claims.proofs.ReadBack.{lines-agree, node-lines-agree}
-
--- a zone's figure as a line shows it: 0 where the zone has no kilowatts
-module _ (G : Grid) (figure : Side → ℕ → ℤ) where
-  unfoldable pub shown : Side → ℕ → ℤ
-  shown side z = cond (eqb (zoneWeight G side z) 0) (pos 0) (figure side z)
-
-  shown-none : (side : Side) (z : ℕ) → zoneWeight G side z ≡ 0 → shown side z ≡ pos 0
-  unfolding shown
-  shown-none side z e = rw (says-eq {m = zoneWeight G side z} {n = 0} .1 e) refl
-
-  shown-some : (side : Side) (z : ℕ) → (zoneWeight G side z ≡ 0 → ⊥) → shown side z ≡ figure side z
-  unfolding shown
-  shown-some side z h = rw (differs (zoneWeight G side z) 0 h) refl
+use Rattle.claims.proofs.Lines.{Line, zoneRead}
+use Rattle.claims.proofs.ReadBack.{nodeOf, readOf, node-lines-agree, field-read}
 
 module _ (S : Study) (sound : SoundTables S) (runs : Runs) where
   abbrev G : Grid
   G = gridOf S
-
-  -- ---- the figure that field k of a zone's line shows
-  pub field-read : (k : ℕ) (figure : Side → ℕ → ℤ) → ((side : Side) (z : ℕ) → readWhole (getD (emptyZone G runs side z) k []) ≡ pos 0)
-      → ((side : Side) (z : ℕ) → readWhole (getD (fullZone G runs side z) k []) ≡ figure side z)
-      → (side : Side) (i : ℕ) → hasLetter (letter side) (lineAt i (sheet G runs)) ≡ true
-      → readWhole (field k (lineAt i (sheet G runs))) ≡ shown G figure side (readNatural 0 (field 1 (lineAt i (sheet G runs))))
-  unfolding field
-  field-read k figure empty full side =
-      lines-agree S sound runs (λ fs. readWhole (getD fs k [])) (λ fs. shown G figure side (readNatural 0 (getD fs 1 []))) side
-      (λ z e. empty side z ∙ sym (ap (shown G figure side) (read-natural z) ∙ shown-none G figure side z e))
-      (λ z e. full side z ∙ sym (ap (shown G figure side) (read-natural z) ∙ shown-some G figure side z e))
 
   -- ---- the line of a zone whose kilowatts are all at node v shows that node's distance
   weighs : (side : Side) (zone v : ℕ) → v < length (G .nodes) → 1 ≤ weightIn G side zone v → zoneWeight G side zone ≡ 0 → ⊥
   unfolding zoneWeight
   weighs side zone v h some e = omega (arith, sum-item (length (G .nodes)) v (weightIn G side zone) h)
 
+  -- the first of a zone's numbers, where it has kilowatts
+  first-read : (side : Side) (zone : ℕ) → (zoneWeight G side zone ≡ 0 → ⊥) → readOf S sound runs side zone 0 ≡ zonalMetres G runs side zone
+  unfolding zoneRead zoneNumbers charging.zoneFigures charging.zoneTotal charging.priced basis
+  first-read side zone h = rw (differs (zoneWeight G side zone) 0 h) refl
+
   pub zone-shows : (side : Side) (v i : ℕ) → v < length (G .nodes) → OfNode G side v (lineAt i (sheet G runs))
       → shownMetres (lineAt i (sheet G runs)) ≡ distance runs side v
-  unfolding readWhole readNatural
   zone-shows side v i h o =
       let zone = readNatural 0 (field 1 (lineAt i (sheet G runs))) in
-      field-read 2 (zonalMetres G runs) (λ side z. refl) (λ side z. read-decimal _) side i (o .zonal)
-      ∙ shown-some G (zonalMetres G runs) side zone (weighs side zone v h (o .some))
+      field-read S sound runs 0 side i (o .zonal)
+      ∙ first-read side zone (weighs side zone v h (o .some))
       ∙ zone-of-one G runs side zone v h (o .some) (o .others)
 
   -- ---- an `L` line has the name of a node, and shows its local metres
   abbrev rowOf : Line → ℕ
   rowOf fs = place (S .nodes) (padded (getD fs 1 []))
 
-  row-own : (v : ℕ) → v < length (S .nodes) → rowOf (nodeLine G runs v) ≡ v
-  unfolding gridOf
+  row-own : (v : ℕ) → v < length (S .nodes) → rowOf (nodeOf S sound runs v) ≡ v
+  unfolding nodeFields gridOf
   row-own v h = ap (place (S .nodes)) (name-back (sound .nodes v h .name)) ∙ place-own S (rowwise S sound) v h
 
   isNode : Line → ℤ
@@ -100,7 +81,7 @@ module _ (S : Study) (sound : SoundTables S) (runs : Runs) where
 
   pub local-shows : (i : ℕ) → hasLetter (text "L") (lineAt i (sheet G runs)) ≡ true
       → (rowNamed i < length (S .nodes)) × (shownMetres (lineAt i (sheet G runs)) ≡ localMetres runs (rowNamed i))
-  unfolding field
+  unfolding field nodeFields decimals charging.localFigures basis
   local-shows i h = (
     local-is-node i h,
     node-lines-agree S sound runs (λ fs. readWhole (getD fs 2 [])) (λ fs. localMetres runs (rowOf fs))

@@ -5,7 +5,8 @@ use Prim.Native.Nat.{ℕ, zero, suc, _<_}
 use Prim.Native.String.{String}
 use native.Mathlib.Omega.{arith}
 use lib.IntN.{ℤ, pos, negℤ}
-use Rattle.meaning.specs.Study.{Settings, Node, Circuit, Station, Study, Runs}
+use Rattle.meaning.specs.declared.Settings.{Settings}
+use Rattle.meaning.specs.Study.{Node, Circuit, Station, Study, Runs, runsOf}
 use Rattle.meaning.specs.declared.Judgement.the-variants.{Passes}
 use Rattle.meaning.specs.Outcome.{judged}
 use Rattle.meaning.specs.Conditions.{Acceptable}
@@ -17,12 +18,12 @@ use Rattle.meaning.proofs.Judged.{judged-pass}
 abbrev settingsWith : (p : ℕ) → Settings
 settingsWith p =
     record {
-      generationZones = 2;
-      demandZones = 2;
+      «generation_zones» = 2;
+      «demand_zones» = 2;
       p = p;
       constant = 50;
-      widerFactor = 1000;
-      localFactor = 1000;
+      «wider_factor» = 1000;
+      «local_factor» = 1000;
       overhead400 = 1000;
       cable400 = 1000;
       overhead275 = 1500;
@@ -63,11 +64,10 @@ tarnStudy mark =
 -- by WEIR's wider and local potential
 abbrev pub runsWith : (wider local : ℤ) → Runs
 runsWith wider local =
-    record {
-      base = pos 1000000000 ∷ pos 0 ∷ negℤ (pos 1000000000) ∷ negℤ (pos 2000000000) ∷ pos 1000000000 ∷ pos 1000000000 ∷ pos 1000000000 ∷ [];
-      wider = pos 4500000000 ∷ pos 0 ∷ negℤ (pos 2500000000) ∷ wider ∷ pos 0 ∷ pos 0 ∷ pos 0 ∷ [];
-      local = pos 0 ∷ pos 0 ∷ pos 0 ∷ local ∷ pos 0 ∷ pos 0 ∷ pos 0 ∷ [];
-    }
+    runsOf
+    (pos 1000000000 ∷ pos 0 ∷ negℤ (pos 1000000000) ∷ negℤ (pos 2000000000) ∷ pos 1000000000 ∷ pos 1000000000 ∷ pos 1000000000 ∷ [])
+    (pos 4500000000 ∷ pos 0 ∷ negℤ (pos 2500000000) ∷ wider ∷ pos 0 ∷ pos 0 ∷ pos 0 ∷ [])
+    (pos 0 ∷ pos 0 ∷ pos 0 ∷ local ∷ pos 0 ∷ pos 0 ∷ pos 0 ∷ [])
 
 abbrev pub tarnRuns : Runs
 tarnRuns = runsWith (negℤ (pos 2500000000)) (negℤ (pos 2500000000))

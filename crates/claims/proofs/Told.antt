@@ -11,7 +11,7 @@ use Rattle.meaning.specs.declared.Values.{Values}
 use Rattle.meaning.specs.declared.Refusal.{Refusal}
 use Rattle.meaning.specs.declared.Answer.the-variants.{Refused}
 use Rattle.meaning.specs.Answers.{values}
-use Rattle.meaning.specs.Outcome.{refusedLine}
+use Rattle.meaning.specs.Outcome.{refusedFields, refusedLine}
 use Rattle.meaning.proofs.Table.{values-tell}
 use Rattle.claims.proofs.Digits.{From, none, more, from-lower, natural-from, read-natural}
 use Rattle.claims.proofs.Pieces.{Fields, end, field, over, adds-line, adds-all}
@@ -28,25 +28,25 @@ word =
 number : (n : ℕ) {fs : List (List ℕ)} → Fields fs → Fields (natural n ∷ fs)
 number n t = field (from-lower (omega arith) (natural-from n)) t
 
-in-line : (k a b c : ℕ) → over (nth k) (line (text "refused" ∷ natural a ∷ natural b ∷ natural c ∷ [])) ≡ nth k (text "refused" ∷ natural a ∷ natural b ∷ natural c ∷ [])
-unfolding nth readNatural
-in-line k a b c = adds-all (nth k) (adds-line (nth k) word (number a (number b (number c end)))) refl
+in-line : (k : ℕ) (v : Values) → over (nth k) (line (refusedFields v)) ≡ nth k (refusedFields v)
+unfolding nth readNatural refusedFields
+in-line k v = adds-all (nth k) (adds-line (nth k) word (number _ (number _ (number _ end)))) refl
 
 module _ (r : Refusal) where
   abbrev v : Values
   v = values (Refused r)
 
   line-number : over (nth 0) (refusedLine r) ≡ pos (v .number)
-  unfolding refusedLine nth
-  line-number = in-line 0 (v .number) (v .system) (v .row) ∙ ap pos (read-natural (v .number))
+  unfolding refusedLine refusedFields nth
+  line-number = in-line 0 v ∙ ap pos (read-natural (v .number))
 
   line-system : over (nth 1) (refusedLine r) ≡ pos (v .system)
-  unfolding refusedLine nth
-  line-system = in-line 1 (v .number) (v .system) (v .row) ∙ ap pos (read-natural (v .system))
+  unfolding refusedLine refusedFields nth
+  line-system = in-line 1 v ∙ ap pos (read-natural (v .system))
 
   line-row : over (nth 2) (refusedLine r) ≡ pos (v .row)
-  unfolding refusedLine nth
-  line-row = in-line 2 (v .number) (v .system) (v .row) ∙ ap pos (read-natural (v .row))
+  unfolding refusedLine refusedFields nth
+  line-row = in-line 2 v ∙ ap pos (read-natural (v .row))
 
 pub line-told : (q r : Refusal) → refusedLine q ≡ refusedLine r → q ≡ r
 line-told q r e =

@@ -1,34 +1,38 @@
 -- What is seen of the stations: two grids with the same settings, nodes and circuits, whose nodes weigh and pay the same, are judged alike and have one sheet.
-use mathlib.Core.Path.{_≡_, refl, sym, _∙_, ap, ap₂}
+use mathlib.Core.Path.{_≡_, refl, sym, _∙_, ap, ap₂, fun-ext}
 use mathlib.Core.List.{List}
-use Prim.Native.Nat.{ℕ, suc, _+_, _*_, _-_, _<_}
+use Prim.Native.Nat.{ℕ, suc, _*_, _-_, _<_}
 use native.Mathlib.Decide.{decLt}
 use native.Mathlib.Omega.{arith}
-use lib.IntN.{ℤ, pos, _-ℤ_, _*ℤ_}
+use lib.IntN.{pos, _-ℤ_, _*ℤ_}
 use lib.ListN.{length}
-use Rattle.integers.specs.Numbers.{sum, nearest}
-use Rattle.integers.proofs.Sum.{sum-same, Σ-same}
-use Rattle.meaning.specs.Study.{Kw, Settings, Node, Circuit, Study, Runs}
+use Rattle.integers.specs.Numbers.{sum}
+use Rattle.integers.proofs.Sum.{sum-same}
+use Rattle.meaning.specs.Study.{Kw, Node, Circuit, Study, Runs}
 use Rattle.meaning.specs.File.{studyOf}
 use Rattle.meaning.specs.Grid.{Grid, gridOf, scales, nodeTec, payingTec, nodeDemand, totalDemand, tecOf, soundTotals, totalsStage, chargeableStage}
 use Rattle.meaning.specs.Network.{networkOf, reachStage}
 use Rattle.meaning.specs.Scaled.{scaled}
 use Rattle.meaning.specs.Proposal.{systemStage}
+use Rattle.meaning.specs.declared.Settings.{Settings}
 use Rattle.meaning.specs.declared.System.{System}
 use Rattle.meaning.specs.declared.System.the-variants.{Base, Wider, Local}
-use Rattle.meaning.specs.Systems.{runOf, limitOf, net, supply, lengthOf, offset, proposed, solutionStage, directionClear, directionStage, proposalsStage}
+use Rattle.meaning.specs.Systems.{limitOf, net, supply, lengthOf, offset, proposed, solutionStage, directionClear, directionStage, ordered, proposalsStage}
 use Rattle.meaning.specs.declared.Judgement.{Judgement}
 use Rattle.meaning.specs.declared.Refusal.the-variants.{BadTotal}
 use Rattle.meaning.specs.Answers.{_orElse_, unless}
 use Rattle.meaning.specs.Outcome.{gridStage, judged, sheetOf, settle}
 use Rattle.meaning.specs.declared.Side.{Side}
 use Rattle.meaning.specs.declared.Side.the-variants.{Generation, Demand}
-use Rattle.meaning.specs.Figures.{zones, zoneOf, weight, paying, totalPaying, overZones, target, zonalMetres, C, afterC, zoneTariff, localTariff, localIncome, residual, remainder, zoneTotal}
-use Rattle.meaning.specs.Sheet.{zoneLine, zoneLines, localLine, sheet}
+use Rattle.meaning.specs.Figures.{zones, zoneOf, weight, paying, basis}
+use Rattle.meaning.specs.Charging.{Priced}
+use Rattle.meaning.specs.Charging as charging
+use Rattle.meaning.specs.Sheet.{sideOf, shownOf, sheet}
 use Rattle.meaning.specs.Demands.{SameTotals, PassesToFive, TypesHidden}
 use Rattle.meaning.proofs.Plants.{tec-past}
-use Rattle.meaning.proofs.Rows.{joined-same}
-use Rattle.meaning.proofs.Sides.{Corresponds, weight-same, zonal-same, total-same, over-same, residual-same, remainder-same}
+use Rattle.meaning.proofs.Sheets.{SameSide, same-sheet}
+use Rattle.meaning.proofs.Sides.{Corresponds, zones-same}
+use Rattle.meaning.proofs.Bases.{Alike, C-same, priced-same, line-same}
 use Rattle.claims.proofs.Hidden.{afterFive, judged-after, answered, settled-answer}
 use Rattle.claims.proofs.Interconnectors.{all-but-interconnectors-pay}
 
@@ -65,65 +69,19 @@ module _ (s : Settings) (ns : List Node) (cs : List Circuit) (k k′ : List (Lis
       distances = λ side v h. refl;
     }
 
-    zonal : (side : Side) (zone : ℕ) → zonalMetres G runs side zone ≡ zonalMetres G′ runs side zone
-    zonal = zonal-same own G′ G runs runs alike
+    bases : Alike (basis G runs) (basis G′ runs)
+    unfolding basis
+    bases = record { settings = refl; side = zones-same own G′ G runs runs alike; nodes = refl; tec = weigh; paying = pay; local = λ v h. refl }
 
-    total-paying : (side : Side) → totalPaying G side ≡ totalPaying G′ side
-    total-paying = total-same own G′ G runs runs alike
-
-    over-zones : (side : Side) → overZones G side (zonalMetres G runs side) ≡ overZones G′ side (zonalMetres G′ runs side)
-    over-zones side = over-same own G′ G runs runs alike side _ _ (zonal side)
-
-    centre : C G runs ≡ C G′ runs
-    unfolding C
-    centre =
-        ap₂ nearest
-        (ap₂ (λ (d g : ℤ). pos (1000 - s .p) *ℤ d -ℤ pos (s .p) *ℤ g) (over-zones Demand) (over-zones Generation))
-        (ap₂ (λ (a b : ℕ). s .p * a + (1000 - s .p) * b) (total-paying Generation) (total-paying Demand))
-
-    after : (side : Side) (zone : ℕ) → afterC G runs side zone ≡ afterC G′ runs side zone
-    unfolding afterC
-    after Generation zone = rw (zonal Generation zone, centre) refl
-    after Demand zone = rw (zonal Demand zone, centre) refl
-
-    price : (side : Side) (zone : ℕ) → zoneTariff G runs side zone ≡ zoneTariff G′ runs side zone
-    unfolding zoneTariff
-    price side zone = rw (after side zone) refl
-
-    local-income : (side : Side) → localIncome G runs side ≡ localIncome G′ runs side
-    unfolding localIncome localTariff
-    local-income Generation = Σ-same (length ns) _ _ (λ v h. ap (λ (w : ℕ). localTariff G runs v *ℤ pos w) (pay v h))
-    local-income Demand = refl
-
-    of-target : (side : Side) → target G side ≡ target G′ side
-    unfolding target
-    of-target Generation = refl
-    of-target Demand = refl
-
-    of-residual : (side : Side) → residual G runs side ≡ residual G′ runs side
-    of-residual = residual-same own G′ G runs runs alike price of-target local-income
-
-    of-remainder : (side : Side) → remainder G runs side ≡ remainder G′ runs side
-    of-remainder = remainder-same own G′ G runs runs alike price of-target local-income
-
-    -- the lines
-    zone-line : (side : Side) (zone : ℕ) → zoneLine G runs side zone ≡ zoneLine G′ runs side zone
-    unfolding zoneLine zoneTotal
-    zone-line side zone = rw (weight-same own G′ G runs runs alike side zone, zonal side zone, after side zone, price side zone, of-residual side) refl
-
-    zone-lines : (side : Side) → zoneLines G runs side ≡ zoneLines G′ runs side
-    unfolding zoneLines zones
-    zone-lines Generation = joined-same _ _ _ (λ i l. zone-line Generation (suc i))
-    zone-lines Demand = joined-same _ _ _ (λ i l. zone-line Demand (suc i))
-
-    local-line : (v : ℕ) → v < length ns → localLine G runs v ≡ localLine G′ runs v
-    unfolding localLine localTariff
-    local-line v h = rw (weigh v h) refl
+    of-side : (side : Side) → SameSide (sideOf G runs side) (sideOf G′ runs side)
+    unfolding zones
+    of-side side =
+        let p = priced-same bases side in
+        record { zones = refl; residual = ap charging.residual p; remainder = ap charging.remainder p; zone = λ k h. ap (λ (S : Priced). charging.zoneFigures S (suc k)) p }
 
     pub one-sheet : sheet G runs ≡ sheet G′ runs
-    unfolding sheet
-    one-sheet =
-        rw (centre, zone-lines Generation, zone-lines Demand, joined-same (length ns) _ _ local-line, of-remainder Generation, of-remainder Demand) refl
+    unfolding sheet basis
+    one-sheet = same-sheet (shownOf G runs) (shownOf G′ runs) (record { c = C-same bases; side = of-side; nodes = refl; name = λ v h. refl; local = line-same bases })
 
   -- ---- 6, 7, 13, and 8 to 11
   module _ (weigh : nodeTec G ≡ nodeTec G′) (pay : (v : ℕ) → v < length ns → payingTec G v ≡ payingTec G′ v) (runs : Runs) where
@@ -133,21 +91,21 @@ module _ (s : Settings) (ns : List Node) (cs : List Circuit) (k k′ : List (Lis
 
     supplies : (system : System) → supply G system ≡ supply G′ system
     unfolding supply net
-    supplies Base = λ i v. pos 1000000 *ℤ (pos (scaled (length ns) (weigh i) (totalDemand G) v) -ℤ pos (nodeDemand G v))
-    supplies Wider = refl
+    supplies (Base b) = λ i v. pos 1000000 *ℤ (pos (scaled (length ns) (weigh i) (totalDemand G) v) -ℤ pos (nodeDemand G v))
+    supplies (Wider b) = refl
     supplies Local = refl
 
     offsets : (system : System) → offset G runs system ≡ offset G′ runs system
     unfolding offset lengthOf networkOf
-    offsets Base = refl
-    offsets Wider = refl
+    offsets (Base b) = refl
+    offsets (Wider b) = refl
     offsets Local = refl
 
     solutions : (system : System) → solutionStage G runs system ≡ solutionStage G′ runs system
     unfolding proposed
     solutions system =
         ap₂ systemStage networks
-        (λ i. record { system = system; limit = limitOf system; supply = supplies system i; offset = offsets system i; run = runOf runs system })
+        (λ i. record { system = system; limit = limitOf system; supply = supplies system i; offset = offsets system i; run = runs system })
 
     directions : directionStage G runs ≡ directionStage G′ runs
     unfolding directionStage directionClear networkOf
@@ -165,7 +123,7 @@ module _ (s : Settings) (ns : List Node) (cs : List Circuit) (k k′ : List (Lis
     unfolding gridStage proposalsStage
     one-judgement =
         ap₂ _orElse_ (ap₂ _orElse_ (ap reachStage networks) (ap₂ _orElse_ totals chargeable))
-        (ap₂ _orElse_ (solutions Base) (ap₂ _orElse_ directions (ap₂ _orElse_ (solutions Wider) (solutions Local))))
+        (ap₂ ordered (fun-ext solutions) directions)
 
 module _ (S S′ : Study) (h : SameTotals S S′) where
   lengths : length (S .nodes) ≡ length (S′ .nodes)

@@ -6,16 +6,16 @@ use mathlib.Core.Path.{_≡_, refl}
 use mathlib.Core.List.{List, [], _∷_, _++_}
 use Prim.Native.Nat.{ℕ, _*_}
 use Prim.Native.String.{String}
-use lib.IntN.{ℤ, pos, negℤ, _+ℤ_}
+use lib.IntN.{pos, negℤ, _+ℤ_}
 use lib.ListN.{length}
 use Rattle.meaning.specs.Rows.{rows}
 use Rattle.meaning.specs.Text.{text}
-use Rattle.meaning.specs.Study.{Settings, Node, Circuit, Station, Study, Runs}
+use Rattle.meaning.specs.Study.{Node, Circuit, Station, Study, Runs, runsOf}
 use Rattle.meaning.specs.File.{runsIn}
 use Rattle.meaning.specs.Scaled.{missing, scaled}
 use Rattle.meaning.specs.Grid.{gridOf, nodeTec, totalDemand}
 use Rattle.meaning.specs.Direction.{direction}
-use Rattle.meaning.specs.declared.Direction.{Direction}
+use Rattle.meaning.specs.declared.Settings.{Settings}
 use Rattle.meaning.specs.declared.Direction.the-variants.{Idle, Forward, Backward}
 use Rattle.meaning.specs.declared.Judgement.the-variants.{Passes}
 use Rattle.meaning.specs.declared.Side.the-variants.{Generation, Demand}
@@ -28,12 +28,12 @@ use Rattle.meaning.proofs.Opened.{opened}
 abbrev daleSettings : Settings
 daleSettings =
     record {
-      generationZones = 3;
-      demandZones = 3;
+      «generation_zones» = 3;
+      «demand_zones» = 3;
       p = 270;
       constant = 1007;
-      widerFactor = 1800;
-      localFactor = 1015;
+      «wider_factor» = 1800;
+      «local_factor» = 1015;
       overhead400 = 1000;
       cable400 = 10630;
       overhead275 = 1240;
@@ -72,11 +72,10 @@ daleStudy =
 
 abbrev daleRuns : Runs
 daleRuns =
-    record {
-      base = pos 2260164479538 ∷ pos 0 ∷ pos 205796662677 ∷ pos 27985500739 ∷ pos 3355466260953 ∷ pos 12418486151 ∷ pos 1905524654 ∷ pos 29773446621 ∷ pos 53921967 ∷ negℤ (pos 2867921967) ∷ negℤ (pos 4773067228) ∷ pos 7205932772 ∷ [];
-      wider = pos 46910180803479 ∷ pos 0 ∷ pos 47421572470026 ∷ pos 18591466561004 ∷ pos 38570593105083 ∷ pos 199473301118 ∷ negℤ (pos 290160717870) ∷ negℤ (pos 254339009660) ∷ pos 35821708210 ∷ negℤ (pos 35821708210) ∷ negℤ (pos 54865708542) ∷ negℤ (pos 54865708542) ∷ [];
-      local = pos 798561266966 ∷ pos 0 ∷ pos 454334724039 ∷ pos 405851500476 ∷ pos 10009787708394 ∷ pos 4387699269 ∷ pos 4206803000 ∷ pos 4988790477 ∷ pos 781987477 ∷ negℤ (pos 781987477) ∷ pos 9376489746 ∷ pos 9376489746 ∷ [];
-    }
+    runsOf
+    (pos 2260164479538 ∷ pos 0 ∷ pos 205796662677 ∷ pos 27985500739 ∷ pos 3355466260953 ∷ pos 12418486151 ∷ pos 1905524654 ∷ pos 29773446621 ∷ pos 53921967 ∷ negℤ (pos 2867921967) ∷ negℤ (pos 4773067228) ∷ pos 7205932772 ∷ [])
+    (pos 46910180803479 ∷ pos 0 ∷ pos 47421572470026 ∷ pos 18591466561004 ∷ pos 38570593105083 ∷ pos 199473301118 ∷ negℤ (pos 290160717870) ∷ negℤ (pos 254339009660) ∷ pos 35821708210 ∷ negℤ (pos 35821708210) ∷ negℤ (pos 54865708542) ∷ negℤ (pos 54865708542) ∷ [])
+    (pos 798561266966 ∷ pos 0 ∷ pos 454334724039 ∷ pos 405851500476 ∷ pos 10009787708394 ∷ pos 4387699269 ∷ pos 4206803000 ∷ pos 4988790477 ∷ pos 781987477 ∷ negℤ (pos 781987477) ∷ pos 9376489746 ∷ pos 9376489746 ∷ [])
 
 -- the 1,036 bytes
 abbrev dale : List ℕ

@@ -4,13 +4,14 @@ use mathlib.Core.List.{List, [], _∷_, _++_}
 use lib.IntN.{ℤ, pos, negℤ}
 use lib.ListN.{take, drop, set, replicate}
 use Rattle.meaning.specs.Text.{text}
-use Rattle.meaning.specs.Study.{Node, Circuit, Station}
+use Rattle.meaning.specs.Study.{Node, Circuit, Station, runsOf}
+use Rattle.meaning.specs.declared.Background.the-variants.{YearRound}
 use Rattle.meaning.specs.declared.System.the-variants.{Base, Local}
 use Rattle.meaning.specs.declared.Judgement.{Judgement}
 use Rattle.meaning.specs.declared.Judgement.the-variants.{Stops}
 use Rattle.meaning.specs.declared.Refusal.the-variants.{BadFile, BadSetting, BadNode, BadCircuit, BadStation, Unreached, BadTotal, BadNumber, Unbalanced}
 use Rattle.meaning.specs.Outcome.{judged, prints}
-use Rattle.meaning.proofs.Write.{name, fileOf}
+use Rattle.meaning.proofs.Write.{fileOf}
 use Rattle.meaning.proofs.Opened.{opened}
 use Rattle.meaning.proofs.Kiln.{kiln, kilnSettings, kilnNodes, kilnCircuits, kilnStations, kilnRuns, kilnBase, kilnWider, kilnLocal, nodeOf, circuitOf, stationOf}
 
@@ -20,7 +21,7 @@ withTables nodes circuits stations =
     judged (fileOf (record { settings = kilnSettings; nodes = nodes; circuits = circuits; stations = stations }) kilnRuns) kilnRuns
 
 abbrev withRuns : (b w l : List ℤ) → Judgement
-withRuns b w l = judged kiln (record { base = b; wider = w; local = l })
+withRuns b w l = judged kiln (runsOf b w l)
 
 -- 1: a byte short, a byte too many, the version (byte 532), a run too short
 not-whole : judged (take 539 kiln) kilnRuns ∷ judged (kiln ++ (0 ∷ [])) kilnRuns ∷ judged (set kiln 532 3) kilnRuns
@@ -80,7 +81,7 @@ unfolding opened
 wild = refl
 
 -- 9: one milliwatt more on A-B
-leak : withRuns (set kilnBase 3 (pos 45000000001)) kilnWider kilnLocal ≡ Stops (Unbalanced Base 1)
+leak : withRuns (set kilnBase 3 (pos 45000000001)) kilnWider kilnLocal ≡ Stops (Unbalanced (Base YearRound) 1)
 unfolding opened
 leak = refl
 

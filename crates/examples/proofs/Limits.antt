@@ -4,10 +4,11 @@ use mathlib.Core.Path.{_≡_, refl}
 use mathlib.Core.List.{List, [], _∷_, _++_}
 use Prim.Native.Nat.{ℕ}
 use Prim.Native.String.{String}
-use lib.IntN.{pos, negℤ}
+use lib.IntN.{ℤ, pos, negℤ}
 use lib.ListN.{replicate, set}
 use Rattle.meaning.specs.Text.{text}
 use Rattle.meaning.specs.Study.{Circuit, Study, Runs, runsOf}
+use Rattle.meaning.specs.declared.Background.the-variants.{YearRound}
 use Rattle.meaning.specs.declared.System.{System}
 use Rattle.meaning.specs.declared.System.the-variants.{Base, Wider, Local}
 use Rattle.meaning.specs.declared.Refusal.the-variants.{BadNumber}
@@ -28,12 +29,12 @@ abbrev studyOf : (reference : ℕ) → List Circuit → Study
 studyOf reference circuits =
     record {
       settings = record {
-        generationZones = 1;
-        demandZones = 1;
+        «generation_zones» = 1;
+        «demand_zones» = 1;
         p = 500;
         constant = 10000;
-        widerFactor = 5000;
-        localFactor = 5000;
+        «wider_factor» = 5000;
+        «local_factor» = 5000;
         overhead400 = 1000;
         cable400 = 1000;
         overhead275 = 20000;
@@ -86,28 +87,28 @@ low-prints : prints (fileOf low lowRuns)
 unfolding opened
 low-prints = refl
 
--- ---- one beyond: a potential, or a flow (rows after the seven nodes), of each system
-abbrev beyond : Study → Runs → System → Judgement
-beyond S runs system = solutionStage (gridOf S) runs system
+-- ---- one beyond: a potential, or a flow (rows after the seven nodes), of each system, whose own run alone 8 looks at
+abbrev beyond : Study → Runs → System → (row : ℕ) → ℤ → Judgement
+beyond S runs system row z = solutionStage (gridOf S) (λ s. set (runs s) row z) system
 
-highs-beyond : beyond high (runsOf (set (highRuns .base) 0 (pos 2000000000000000001)) (highRuns .wider) (highRuns .local)) Base
-    ∷ beyond high (runsOf (set (highRuns .base) 7 (pos 100000000000001)) (highRuns .wider) (highRuns .local)) Base
-    ∷ beyond high (runsOf (highRuns .base) (set (highRuns .wider) 0 (pos 10000000000000001)) (highRuns .local)) Wider
-    ∷ beyond high (runsOf (highRuns .base) (set (highRuns .wider) 7 (pos 100000000000001)) (highRuns .local)) Wider
-    ∷ beyond high (runsOf (highRuns .base) (highRuns .wider) (set (highRuns .local) 1 (pos 10000000000000001))) Local
-    ∷ beyond high (runsOf (highRuns .base) (highRuns .wider) (set (highRuns .local) 12 (pos 100000000000001))) Local
+highs-beyond : beyond high highRuns (Base YearRound) 0 (pos 2000000000000000001)
+    ∷ beyond high highRuns (Base YearRound) 7 (pos 100000000000001)
+    ∷ beyond high highRuns (Wider YearRound) 0 (pos 10000000000000001)
+    ∷ beyond high highRuns (Wider YearRound) 7 (pos 100000000000001)
+    ∷ beyond high highRuns Local 1 (pos 10000000000000001)
+    ∷ beyond high highRuns Local 12 (pos 100000000000001)
     ∷ []
-    ≡ Stops (BadNumber Base 1) ∷ Stops (BadNumber Base 8) ∷ Stops (BadNumber Wider 1) ∷ Stops (BadNumber Wider 8) ∷ Stops (BadNumber Local 2) ∷ Stops (BadNumber Local 13) ∷ []
+    ≡ Stops (BadNumber (Base YearRound) 1) ∷ Stops (BadNumber (Base YearRound) 8) ∷ Stops (BadNumber (Wider YearRound) 1) ∷ Stops (BadNumber (Wider YearRound) 8) ∷ Stops (BadNumber Local 2) ∷ Stops (BadNumber Local 13) ∷ []
 unfolding opened
 highs-beyond = refl
 
-lows-beyond : beyond low (runsOf (set (lowRuns .base) 6 (negℤ (pos 2000000000000000001))) (lowRuns .wider) (lowRuns .local)) Base
-    ∷ beyond low (runsOf (set (lowRuns .base) 8 (negℤ (pos 100000000000001))) (lowRuns .wider) (lowRuns .local)) Base
-    ∷ beyond low (runsOf (lowRuns .base) (set (lowRuns .wider) 6 (negℤ (pos 10000000000000001))) (lowRuns .local)) Wider
-    ∷ beyond low (runsOf (lowRuns .base) (set (lowRuns .wider) 8 (negℤ (pos 100000000000001))) (lowRuns .local)) Wider
-    ∷ beyond low (runsOf (lowRuns .base) (lowRuns .wider) (set (lowRuns .local) 2 (negℤ (pos 10000000000000001)))) Local
-    ∷ beyond low (runsOf (lowRuns .base) (lowRuns .wider) (set (lowRuns .local) 11 (negℤ (pos 100000000000001)))) Local
+lows-beyond : beyond low lowRuns (Base YearRound) 6 (negℤ (pos 2000000000000000001))
+    ∷ beyond low lowRuns (Base YearRound) 8 (negℤ (pos 100000000000001))
+    ∷ beyond low lowRuns (Wider YearRound) 6 (negℤ (pos 10000000000000001))
+    ∷ beyond low lowRuns (Wider YearRound) 8 (negℤ (pos 100000000000001))
+    ∷ beyond low lowRuns Local 2 (negℤ (pos 10000000000000001))
+    ∷ beyond low lowRuns Local 11 (negℤ (pos 100000000000001))
     ∷ []
-    ≡ Stops (BadNumber Base 7) ∷ Stops (BadNumber Base 9) ∷ Stops (BadNumber Wider 7) ∷ Stops (BadNumber Wider 9) ∷ Stops (BadNumber Local 3) ∷ Stops (BadNumber Local 12) ∷ []
+    ≡ Stops (BadNumber (Base YearRound) 7) ∷ Stops (BadNumber (Base YearRound) 9) ∷ Stops (BadNumber (Wider YearRound) 7) ∷ Stops (BadNumber (Wider YearRound) 9) ∷ Stops (BadNumber Local 3) ∷ Stops (BadNumber Local 12) ∷ []
 unfolding opened
 lows-beyond = refl

@@ -4,8 +4,9 @@ use mathlib.Core.List.{List, [], _∷_}
 use Prim.Native.Nat.{_*_, _-_}
 use lib.IntN.{pos}
 use lib.ListN.{set}
-use Rattle.meaning.specs.Study.{Station, Runs}
+use Rattle.meaning.specs.Study.{Station, Runs, runsOf}
 use Rattle.meaning.specs.File.{studyOf}
+use Rattle.meaning.specs.declared.Background.the-variants.{YearRound}
 use Rattle.meaning.specs.declared.System.the-variants.{Base}
 use Rattle.meaning.specs.declared.Refusal.the-variants.{BadTotal, NoChargeableTec, BadNumber}
 use Rattle.meaning.specs.declared.Judgement.{Judgement}
@@ -26,7 +27,7 @@ half-income = refl
 -- ---- 13 after 7 and before 8: KILN with interconnectors alone, and potential 1 at the reference
 abbrev linked : List Station → Judgement
 linked stations =
-    let runs : Runs = record { base = set kilnBase 2 (pos 1); wider = kilnWider; local = kilnLocal } in
+    let runs : Runs = runsOf (set kilnBase 2 (pos 1)) kilnWider kilnLocal in
     judged (fileOf (kilnWith stations) runs) runs
 
 -- too little TEC; enough, all of type 3; the same beside 0 kW that would pay; and beside 1 kW that pays
@@ -35,6 +36,6 @@ in-place : linked (linkOf "GEN_1" "NODA" 100000 ∷ linkOf "GEN_2" "NODB" 49999 
     ∷ linked (linkOf "GEN_1" "NODA" 200000 ∷ stationOf "GEN_2" "NODB" 0 ∷ [])
     ∷ linked (linkOf "GEN_1" "NODA" 200000 ∷ stationOf "GEN_2" "NODB" 1 ∷ [])
     ∷ []
-    ≡ Stops BadTotal ∷ Stops NoChargeableTec ∷ Stops NoChargeableTec ∷ Stops (BadNumber Base 3) ∷ []
+    ≡ Stops BadTotal ∷ Stops NoChargeableTec ∷ Stops NoChargeableTec ∷ Stops (BadNumber (Base YearRound) 3) ∷ []
 unfolding opened
 in-place = refl

@@ -4,7 +4,9 @@ use mathlib.Core.List.{List, [], _∷_}
 use Prim.Native.Nat.{ℕ}
 use lib.IntN.{ℤ, pos}
 use lib.ListN.{set, replicate}
-use Rattle.meaning.specs.Study.{Settings, Node, Circuit, Station, Runs}
+use Rattle.meaning.specs.declared.Settings.{Settings}
+use Rattle.meaning.specs.Study.{Node, Circuit, Station, Runs, runsOf}
+use Rattle.meaning.specs.declared.Background.the-variants.{YearRound}
 use Rattle.meaning.specs.declared.System.the-variants.{Base, Wider, Local}
 use Rattle.meaning.specs.declared.Refusal.the-variants.{BadFile, BadSetting, BadNode, BadCircuit, BadStation, Unreached, BadTotal, BadNumber, Unbalanced, MissesTooHigh, ShortBuffer, NoChargeableTec}
 use Rattle.meaning.specs.declared.Answer.{Answer}
@@ -18,12 +20,12 @@ use Rattle.meaning.proofs.Links.{linkOf}
 -- the faults: reference row 4 of 3; rows 2 and 3 without a name; an unknown end, and then no circuit at NODB; a repeated identifier, and then too little TEC, and then none that pays
 abbrev lostReference : Settings
 lostReference = record {
-  generationZones = 1;
-  demandZones = 1;
+  «generation_zones» = 1;
+  «demand_zones» = 1;
   p = 500;
   constant = 1000;
-  widerFactor = 1800;
-  localFactor = 1000;
+  «wider_factor» = 1800;
+  «local_factor» = 1000;
   overhead400 = 1000;
   cable400 = 1000;
   overhead275 = 1000;
@@ -93,14 +95,14 @@ local₈ = lifted local₉
 -- a case in a buffer of 5 bytes
 abbrev answer : Settings → List Node → List Circuit → List Station → (b w l : List ℤ) → Answer
 answer settings nodes circuits stations b w l =
-    let runs : Runs = record { base = b; wider = w; local = l } in
+    let runs : Runs = runsOf b w l in
     settle (fileOf (record { settings = settings; nodes = nodes; circuits = circuits; stations = stations }) runs) runs (replicate 5 7) .answer
 
 abbrev inFive : (b w l : List ℤ) → Answer
 inFive b w l = answer kilnSettings kilnNodes kilnCircuits kilnStations b w l
 
 -- the same with version 3 (byte 532)
-version : (let runs : Runs = record { base = base₈; wider = wider₈; local = local₈ } in
+version : (let runs : Runs = runsOf base₈ wider₈ local₈ in
     settle (set (fileOf (record { settings = lostReference; nodes = nameless; circuits = unknownEnd; stations = repeated }) runs) 532 3) runs (replicate 5 7) .answer)
     ≡ Refused BadFile
 unfolding opened
@@ -121,12 +123,12 @@ tables = refl
 
 -- 8, 9, 10 of base, wider and local; then 12
 proposals : inFive base₈ wider₈ local₈ ∷ inFive base₉ wider₈ local₈ ∷ inFive base₁₀ wider₈ local₈ ∷ []
-    ≡ Refused (BadNumber Base 3) ∷ Refused (Unbalanced Base 1) ∷ Refused (MissesTooHigh Base) ∷ []
+    ≡ Refused (BadNumber (Base YearRound) 3) ∷ Refused (Unbalanced (Base YearRound) 1) ∷ Refused (MissesTooHigh (Base YearRound)) ∷ []
 unfolding opened
 proposals = refl
 
 wider : inFive kilnBase wider₈ local₈ ∷ inFive kilnBase wider₉ local₈ ∷ inFive kilnBase wider₁₀ local₈ ∷ []
-    ≡ Refused (BadNumber Wider 3) ∷ Refused (Unbalanced Wider 1) ∷ Refused (MissesTooHigh Wider) ∷ []
+    ≡ Refused (BadNumber (Wider YearRound) 3) ∷ Refused (Unbalanced (Wider YearRound) 1) ∷ Refused (MissesTooHigh (Wider YearRound)) ∷ []
 unfolding opened
 wider = refl
 

@@ -17,6 +17,7 @@ use Rattle.integers.proofs.Laws.{abs-neg}
 use Rattle.meaning.specs.declared.Direction.{Direction}
 use Rattle.meaning.specs.declared.Direction.the-variants.{Idle, Forward, Backward, InDoubt}
 use Rattle.meaning.specs.Direction.{direction, signed}
+use Rattle.meaning.specs.declared.Background.{Background}
 use Rattle.meaning.specs.declared.System.{System}
 use Rattle.meaning.specs.declared.System.the-variants.{Base, Wider, Local}
 use Rattle.meaning.proofs.Columns.{column-at}
@@ -59,15 +60,15 @@ module _ (long : ℕ) (flow : ℤ) where
 
 -- ---- by the mark
 module _ (system : System) (long mark : ℕ) (flow : ℤ) where
-  pub base-none : system ≡ Base → pos 0 ≡ offsetIn system long mark flow
+  pub base-none : {b : Background} → system ≡ Base b → pos 0 ≡ offsetIn system long mark flow
   unfolding offsetIn
   base-none s = rw s refl
 
-  pub wider-unmarked : system ≡ Wider → mark ≡ 0 → signedBy long flow ≡ offsetIn system long mark flow
+  pub wider-unmarked : {b : Background} → system ≡ Wider b → mark ≡ 0 → signedBy long flow ≡ offsetIn system long mark flow
   unfolding offsetIn
   wider-unmarked s e = rw (s, eq-eqb mark 0 e) refl
 
-  pub wider-marked : system ≡ Wider → mark ≢ 0 → pos 0 ≡ offsetIn system long mark flow
+  pub wider-marked : {b : Background} → system ≡ Wider b → mark ≢ 0 → pos 0 ≡ offsetIn system long mark flow
   unfolding offsetIn
   wider-marked s e = rw (s, ne-eqb mark 0 e) refl
 
@@ -96,8 +97,8 @@ signed-small long flow = go (decLe long 30000000000)
 
 pub offset-small : (system : System) (long mark : ℕ) (flow : ℤ) → natAbs (offsetIn system long mark flow) ≤ 30000000000000000
 unfolding offsetIn
-offset-small Base long mark flow = omega arith
-offset-small Wider long mark flow = go (eqb mark 0)
+offset-small (Base b) long mark flow = omega arith
+offset-small (Wider b) long mark flow = go (eqb mark 0)
   where
     go : (b : Bool) → natAbs (cond b (signedBy long flow) (pos 0)) ≤ 30000000000000000
     go true = signed-small long flow

@@ -62,8 +62,8 @@ signedBy length flow = cond (leb length 30000000000) (signed (direction flow) (p
 
 -- "the signed length of circuits without local mark, 0 for others", and "the mark turned round"
 unfoldable pub offsetIn : System → (length mark : ℕ) (flow : ℤ) → ℤ
-offsetIn Base length mark flow = pos 0
-offsetIn Wider length mark flow = cond (eqb mark 0) (signedBy length flow) (pos 0)
+offsetIn (Base b) length mark flow = pos 0
+offsetIn (Wider b) length mark flow = cond (eqb mark 0) (signedBy length flow) (pos 0)
 offsetIn Local length mark flow = cond (eqb mark 0) (pos 0) (signedBy length flow)
 
 -- the offset of circuit c in a system, by its flow in the base run

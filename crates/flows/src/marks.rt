@@ -25,8 +25,8 @@ pub fn offset_of(system: System, long: u64, mark: u64, flow: i64) -> i64
     ensures { λ r. ⌜ r ≡ offsetIn system long mark flow ⌝ }
 {
     match system {
-        System::Base => 0,
-        System::Wider => {
+        System::Base(_) => 0,
+        System::Wider(_) => {
             if mark == 0 {
                 return signed_length(long, flow);
             }

@@ -51,7 +51,7 @@ module _ (file : List ℕ) where
   unfolding sectionStart
   start-zero = refl
 
-  pub start-more : (k : ℕ) → sectionStart file (k + 1) ≡ sectionStart file k + recordSize (versionOf file) k * sectionCount file k
+  start-more : (k : ℕ) → sectionStart file (k + 1) ≡ sectionStart file k + recordSize (versionOf file) k * sectionCount file k
   unfolding sectionStart
   start-more k = let e : k + 1 ≡ suc k = omega arith in rw e refl
 

@@ -1,6 +1,6 @@
 -- What a readable file says, row by row: each row is read at its place in the file.
 use mathlib.Core.Path.{_≡_, refl}
-use mathlib.Core.List.{List}
+use mathlib.Core.List.{List, []}
 use mathlib.Core.Bool.{Bool, true, false, cond, _&&_}
 use Prim.Native.Nat.{ℕ, _+_, _≤_, _<_}
 use native.Mathlib.Omega.{arith}
@@ -8,30 +8,30 @@ use borrow.Author.Tests.{lt-ltb}
 use lib.Dec.{ltb}
 use lib.ListN.{length}
 use Rattle.meaning.specs.declared.Section.{Section}
+use Rattle.meaning.specs.declared.Settings.{Settings}
 use Rattle.meaning.specs.Rows.{rows}
-use Rattle.meaning.specs.Study.{Settings, Study, noNode, noCircuit, noStation}
-use Rattle.meaning.specs.File.{u32, u64, sections, recordSize, sectionCount, section, rowAt, table, settingsAt, nodeAt, circuitAt, stationAt, fileWhole, studyOf, runsIn}
+use Rattle.meaning.specs.Study.{Study, noNode, noCircuit, noStation}
+use Rattle.meaning.specs.File.{u32, sections, recordSize, sectionCount, section, rowAt, table, settingsAt, nodeAt, circuitAt, stationAt, fileWhole, studyOf, runsIn}
 use Rattle.meaning.proofs.Rows.{length-rows}
 use Rattle.meaning.proofs.Says.{_also_, says-lt, says-true}
 use Rattle.meaning.proofs.Frame.{ReadFrom, table-read, row-inside, circuits-most}
 use Rattle.meaning.proofs.Whole.{whole-file}
 use Rattle.layout.proofs.FileLaws.{start-zero}
-use Rattle.layout.specs.Readable.{noStudy, readable, noSection, sectionIn}
-use Rattle.layout.specs.Frame.{countsOf, settingsIn}
+use Rattle.layout.specs.Readable.{readable, noSection, sectionIn}
+use Rattle.layout.specs.Frame.{countsOf}
 use Rattle.layout.specs.declared.RowCounts.{RowCounts}
 
 -- counts in their ranges
 pub record Few (r : RowCounts) : Type 0 where
   pub nodes-low : r .nodes ≤ 256
   pub circuits-low : r .circuits ≤ 512
-  pub stations-low : r .stations ≤ 512
 
 module _ (file : List ℕ) where
   pub readable-whole : fileWhole file ≡ true → readable file ≡ studyOf file
   unfolding readable
   readable-whole e = rw e refl
 
-  pub readable-none : fileWhole file ≡ false → readable file ≡ noStudy
+  readable-none : fileWhole file ≡ false → readable file ≡ studyOf []
   unfolding readable
   readable-none e = rw e refl
 
@@ -44,7 +44,7 @@ module _ (file : List ℕ) where
   counts-whole e h = rw (readable-whole h) e
 
   pub counts-none : fileWhole file ≡ false → record { nodes = 0; circuits = 0; stations = 0 } ≡ countsOf (readable file)
-  unfolding countsOf noStudy
+  unfolding countsOf studyOf section sectionCount u32 rows
   counts-none e = rw (readable-none e)
 
   pub counts-are : {r : RowCounts} → r ≡ countsOf (readable file)
@@ -53,35 +53,13 @@ module _ (file : List ℕ) where
   counts-are e = rw e (refl, refl, refl)
 
   -- ---- settings
-  pub settings-read : (g d p k w l a b e f i j r : ℕ) (v : ℕ) → g ≡ u32 file 0 → d ≡ u32 file 4 → p ≡ u32 file 8 → k ≡ u32 file 12 → w ≡ u32 file 16
-      → l ≡ u32 file 20 → a ≡ u32 file 24 → b ≡ u32 file 28 → e ≡ u32 file 32 → f ≡ u32 file 36 → i ≡ u32 file 40 → j ≡ u32 file 44 → r ≡ u32 file 48
-      → v ≡ u64 file 56
-      → settingsIn (record {
-        «generation_zones» = g;
-        «demand_zones» = d;
-        p = p;
-        constant = k;
-        «wider_factor» = w;
-        «local_factor» = l;
-        overhead400 = a;
-        cable400 = b;
-        overhead275 = e;
-        cable275 = f;
-        overhead132 = i;
-        cable132 = j;
-        reference = r;
-        revenue = v;
-      }) ≡ settingsAt file 0
-  unfolding settingsIn settingsAt
-  settings-read g d p k w l a b e f i j r v x0 x1 x2 x3 x4 x5 x6 x7 x8 x9 x10 x11 x12 x13 =
-      rw (x0, x1, x2, x3, x4, x5, x6, x7, x8, x9, x10, x11, x12, x13) refl
-
   pub settings-whole : {s : Settings} → s ≡ settingsAt file 0 → fileWhole file ≡ true → s ≡ readable file .settings
   unfolding studyOf
   settings-whole e h = rw (readable-whole h, start-zero file) e
 
-  pub settings-none : {s : Settings} → s ≡ noStudy .settings → fileWhole file ≡ false → s ≡ readable file .settings
-  settings-none e h = rw (readable-none h) e
+  pub settings-none : {s : Settings} → s ≡ settingsAt [] 0 → fileWhole file ≡ false → s ≡ readable file .settings
+  unfolding studyOf
+  settings-none e h = rw (readable-none h, start-zero []) e
 
   -- ---- the tables: how many rows, and where
   abbrev S : Study
@@ -93,7 +71,7 @@ module _ (file : List ℕ) where
   in-whole s h e = rw (lt-ltb s sections h, e) refl
 
   -- what holds of a whole file's section, and of one without rows
-  pub either-section : (P : Section → Type 0) (s : ℕ) → (s < sections → fileWhole file ≡ true → P (section file s)) → P noSection → P (sectionIn file s)
+  either-section : (P : Section → Type 0) (s : ℕ) → (s < sections → fileWhole file ≡ true → P (section file s)) → P noSection → P (sectionIn file s)
   unfolding sectionIn
   either-section P s w n = go (ltb s sections && fileWhole file) refl
     where
@@ -110,26 +88,26 @@ module _ (file : List ℕ) where
 
   -- ---- tables: a row is read at its place
   nodes-read : S .nodes ≡ table (nodeAt file) (sectionIn file 1)
-  unfolding readable studyOf noStudy sectionIn rows
+  unfolding readable studyOf section sectionCount u32 sectionIn rows
   nodes-read = go (fileWhole file)
     where
-      go : (b : Bool) → cond b (studyOf file) noStudy .nodes ≡ table (nodeAt file) (cond b (section file 1) noSection)
+      go : (b : Bool) → studyOf (cond b file []) .nodes ≡ table (nodeAt file) (cond b (section file 1) noSection)
       go true = refl
       go false = refl
 
   circuits-read : S .circuits ≡ table (circuitAt file (sectionIn file 2 .size)) (sectionIn file 2)
-  unfolding readable studyOf noStudy sectionIn rows
+  unfolding readable studyOf section sectionCount u32 sectionIn rows
   circuits-read = go (fileWhole file)
     where
-      go : (b : Bool) → cond b (studyOf file) noStudy .circuits ≡ table (circuitAt file (cond b (section file 2) noSection .size)) (cond b (section file 2) noSection)
+      go : (b : Bool) → studyOf (cond b file []) .circuits ≡ table (circuitAt file (cond b (section file 2) noSection .size)) (cond b (section file 2) noSection)
       go true = refl
       go false = refl
 
   stations-read : S .stations ≡ table (stationAt file) (sectionIn file 3)
-  unfolding readable studyOf noStudy sectionIn rows
+  unfolding readable studyOf section sectionCount u32 sectionIn rows
   stations-read = go (fileWhole file)
     where
-      go : (b : Bool) → cond b (studyOf file) noStudy .stations ≡ table (stationAt file) (cond b (section file 3) noSection)
+      go : (b : Bool) → studyOf (cond b file []) .stations ≡ table (stationAt file) (cond b (section file 3) noSection)
       go true = refl
       go false = refl
 
@@ -167,5 +145,4 @@ module _ (file : List ℕ) where
       record {
         nodes-low = omega (arith, counts-are e .0, nodes-from refl .count, nodes-few refl);
         circuits-low = omega (arith, counts-are e .1, circuits-from refl .count, circuits-few refl);
-        stations-low = omega (arith, counts-are e .2, stations-from refl .count, stations-few refl);
       }

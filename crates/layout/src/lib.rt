@@ -5,8 +5,9 @@ mod trailer;
 ghost use mathlib.Core.Path.{_≡_};
 ghost use Rattle.meaning.specs.File.{fileWhole};
 ghost use Rattle.layout.specs.Readable.{readable, sectionIn};
-ghost use Rattle.layout.specs.Frame.{countsOf, settingsIn};
+ghost use Rattle.layout.specs.Frame.{countsOf};
 use meaning::Section;
+use meaning::Settings;
 
 // The sections that hold rows, by number.
 pub const NODES: usize = 1;
@@ -26,24 +27,6 @@ pub struct RowCounts {
     pub nodes: usize,
     pub circuits: usize,
     pub stations: usize,
-}
-
-// 01, The case file: the settings, in its order.
-pub struct StudySettings {
-    pub generation_zones: usize,
-    pub demand_zones: usize,
-    pub p: usize,
-    pub constant: usize,
-    pub wider_factor: usize,
-    pub local_factor: usize,
-    pub overhead400: usize,
-    pub cable400: usize,
-    pub overhead275: usize,
-    pub cable275: usize,
-    pub overhead132: usize,
-    pub cable132: usize,
-    pub reference: usize,
-    pub revenue: u64,
 }
 
 // Whether the file is not refused as 1: length, version, counts, chain, the settings' zero.
@@ -89,12 +72,12 @@ pub fn counts(file: &[u8]) -> RowCounts
     }
 }
 
-// The settings.
-pub fn settings(file: &[u8]) -> StudySettings
-    ensures { λ r. ⌜ settingsIn r ≡ readable (now (file .entry)) .settings ⌝ }
+// The settings; all 0 where the file is not whole.
+pub fn settings(file: &[u8]) -> Settings
+    ensures { λ r. ⌜ r ≡ readable (now (file .entry)) .settings ⌝ }
 {
     if whole(file) {
         return settings_row::settings(file);
     }
-    settings_row::no_settings()
+    settings_row::settings(&file[0..0])
 }

@@ -1,15 +1,13 @@
 // The settings' section, which begins the file.
-use crate::StudySettings;
 ghost use mathlib.Core.Path.{_≡_};
 ghost use Rattle.meaning.specs.File.{settingsAt};
-ghost use Rattle.layout.specs.Readable.{noStudy};
-ghost use Rattle.layout.specs.Frame.{settingsIn};
+use meaning::Settings;
 
 // What stands there.
-pub fn settings(file: &[u8]) -> StudySettings
-    ensures { λ r. ⌜ settingsIn r ≡ settingsAt (now (file .entry)) 0 ⌝ }
+pub fn settings(file: &[u8]) -> Settings
+    ensures { λ r. ⌜ r ≡ settingsAt (now (file .entry)) 0 ⌝ }
 {
-    StudySettings {
+    Settings {
         generation_zones: fields::u32_at(file, 0),
         demand_zones: fields::u32_at(file, 4),
         p: fields::u32_at(file, 8),
@@ -24,27 +22,5 @@ pub fn settings(file: &[u8]) -> StudySettings
         cable132: fields::u32_at(file, 44),
         reference: fields::u32_at(file, 48),
         revenue: fields::u64_at(file, 56),
-    }
-}
-
-// All settings 0.
-pub fn no_settings() -> StudySettings
-    ensures { λ r. ⌜ settingsIn r ≡ noStudy .settings ⌝ }
-{
-    StudySettings {
-        generation_zones: 0,
-        demand_zones: 0,
-        p: 0,
-        constant: 0,
-        wider_factor: 0,
-        local_factor: 0,
-        overhead400: 0,
-        cable400: 0,
-        overhead275: 0,
-        cable275: 0,
-        overhead132: 0,
-        cable132: 0,
-        reference: 0,
-        revenue: 0,
     }
 }

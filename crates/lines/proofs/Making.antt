@@ -1,5 +1,5 @@
 -- Writings one after the other, and texts taken byte by byte.
-use Prim.Native.Nat.{ℕ, suc, _+_, _-_, _≤_, _<_}
+use Prim.Native.Nat.{ℕ, suc, _+_, _≤_, _<_}
 use mathlib.Core.Path.{_≡_, refl, sym, ap, _∙_}
 use mathlib.Core.List.{List, [], _∷_, _++_}
 use native.Mathlib.Numerals.{add-one}
@@ -7,8 +7,10 @@ use native.Mathlib.Nat.{add-zero, zero-add, add-suc, suc-add}
 use native.Mathlib.Omega.{arith}
 use lib.ListN.{length, getD, set, take, drop, length-append}
 use lib.Seq.{sets, sets-eq, length-sets, take-suc, take-append-seam}
+use Rattle.meaning.specs.Rows.{joined}
+use Rattle.meaning.proofs.Rows.{joined-none, joined-more}
 use Rattle.lines.specs.declared.Line.{Line}
-use Rattle.lines.specs.Making.{Put, Holds, zeros}
+use Rattle.lines.specs.Making.{Put, Holds, width, zeros}
 
 module _ {ℓ} {A : Type ℓ} where
   -- a run of stores that is cut in two
@@ -48,6 +50,15 @@ longer p h = within p (omega (arith, p .short, h))
 pub kept : {v : ℕ} {old : List ℕ} {at : ℕ} {t new : List ℕ} {r : ℕ} → Put v old at t new r → length new ≡ length old
 kept {v} {old} {at} {t} p = ap length (p .list) ∙ length-sets old at t
 
+-- a loop that writes text after text: none yet, and the next
+pub rows-start : (old : List ℕ) (from : ℕ) (f : ℕ → List ℕ) → Put 0 old from (joined 0 f) old from
+rows-start old from f = rw (joined-none f) (put-none old from)
+
+pub rows-more : {n w : ℕ} {old : List ℕ} {from : ℕ} (f : ℕ → List ℕ) (k : ℕ) {out : List ℕ} {at : ℕ} {new : List ℕ} {r : ℕ} → Put n old from (joined k f) out at
+    → Put w out at (f k) new r
+    → Put (n + w) old from (joined (k + 1) f) new r
+rows-more f k p q = rw (joined-more k f) (both p q)
+
 -- a text taken byte by byte: one byte more, at a loop's `i + 1`
 pub take-more : (l : List ℕ) (i : ℕ) → i < length l → take (i + 1) l ≡ take i l ++ (getD l i 0 ∷ [])
 take-more l i h = rw (add-one i) (take-suc l i 0 h)
@@ -72,19 +83,19 @@ module _ {v : ℕ} {old t new : List ℕ} {r : ℕ} (p : Put v old 0 t new r) (h
       rw (e, whole) (take-append-seam t (drop (length t) old))
 
 -- a line that holds a text
-module _ {most : ℕ} {t : List ℕ} (l : Line) (h : Holds most t l) (fits : most ≤ 128) where
-  wide : length zeros ≡ 128
+module _ {most : ℕ} {t : List ℕ} (l : Line) (h : Holds most t l) (fits : most ≤ width) where
+  wide : length zeros ≡ width
   unfolding zeros
   wide = refl
 
-  held-length : length (l .bytes) ≡ 128
+  held-length : length (l .bytes) ≡ width
   held-length = kept h ∙ wide
 
   held-short : l .len ≤ most
   held-short = omega (arith, h .next, h .short)
 
   -- what a copy of it asks, where there is room for it
-  pub ready : (at : ℕ) {n : ℕ} → at + most ≤ n → (l .len ≤ 128) × (l .len ≤ length (l .bytes)) × (at + l .len ≤ n)
+  pub ready : (at : ℕ) {n : ℕ} → at + most ≤ n → (l .len ≤ width) × (l .len ≤ length (l .bytes)) × (at + l .len ≤ n)
   ready at room = (omega (arith, held-short), omega (arith, held-short, held-length), omega (arith, held-short))
 
   -- its copy is the text's

@@ -1,15 +1,16 @@
 -- The decimal digits of a number by their last digit, and how many there are.
 use Prim.Native.Nat.{ℕ, _+_, _/_, _%_, _^_, _≤_, _<_}
-use mathlib.Core.Path.{_≡_, refl, ap, _∙_}
-use mathlib.Core.List.{List, _++_}
+use mathlib.Core.Path.{_≡_, refl, sym, ap, _∙_}
+use mathlib.Core.List.{List, [], _∷_, _++_, append-assoc}
 use native.Mathlib.Omega.{arith}
 use lib.IntN.{ℤ, pos, negsuc, natAbs}
-use lib.ListN.{length, length-append, set}
+use lib.ListN.{length, length-append, getD, set}
 use lib.Signed.{_<ℤ_, _≤ℤ_}
 use mir.Syntax.{w64}
 use mir.Val.{SFits}
 use Rattle.integers.proofs.Core.{Z}
-use Rattle.meaning.specs.Text.{text, natural, decimal}
+use Rattle.meaning.specs.Rows.{joined}
+use Rattle.meaning.specs.Text.{text, natural, decimal, decimals, ends}
 use Rattle.sizes.proofs.Widths.{natural-one, natural-more, natural-length, decimal-length}
 use Rattle.lines.specs.Making.{Put}
 use Rattle.lines.proofs.Making.{both, put-one, within}
@@ -39,6 +40,17 @@ decimal-above (negsuc n) h = absurd (h .le)
 -- an i64 has at most 20 bytes
 pub decimal-i64 : (z : ℤ) → SFits w64 z → length (decimal z) ≤ 20
 decimal-i64 z h = let k = simp Z at h in decimal-length 18 18 20 z (omega arith) (omega arith) (simp Z (omega arith)) (simp Z (omega arith))
+
+-- ---- numbers behind the fields of a line: number k, each behind a space, and then the line's end
+unfoldable pub spaced : List ℤ → ℕ → List ℕ
+spaced zs k = text " " ++ decimal (getD zs k (pos 0))
+
+pub ends-spaced : (zs : List ℤ) → ends (decimals zs) ≡ joined (length zs) (spaced zs) ++ text "\n"
+unfolding ends decimals joined spaced
+ends-spaced [] = refl
+ends-spaced (z ∷ zs) =
+    ap (λ (l : List ℕ). text " " ++ (decimal z ++ l)) (ends-spaced zs)
+    ∙ sym (append-assoc (text " " ++ decimal z) (joined (length zs) (spaced zs)) (text "\n"))
 
 -- ---- one digit is written, and the last digit after the others
 pub put-first : (old : List ℕ) (at n : ℕ) → n < 10 → Put (length (natural n)) old at (natural n) (set old at (48 + n)) (at + 1)

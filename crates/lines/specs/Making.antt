@@ -16,9 +16,12 @@ pub record Put (most : ℕ) (old : List ℕ) (at : ℕ) (text : List ℕ) (new :
 abbrev pub Adds : (most : ℕ) → Line → List ℕ → Line → Type 0
 Adds most line text longer = Put most (line .bytes) (line .len) text (longer .bytes) (longer .len)
 
--- the bytes of a line with no text
+-- room for any line, and the bytes of a line with no text
+abbrev pub width : ℕ
+width = 128
+
 unfoldable pub zeros : List ℕ
-zeros = replicate 128 0
+zeros = replicate width 0
 
 -- the line is the text, with zeros behind it
 abbrev pub Holds : (most : ℕ) → List ℕ → Line → Type 0

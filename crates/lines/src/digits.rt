@@ -1,15 +1,16 @@
 // Lines with numbers, for this crate alone.
 use crate::Line;
+use crate::WIDTH;
 use crate::words::with_byte;
 ghost use mathlib.Core.List.{_++_};
-ghost use Prim.Native.Nat.{_+_, _≤_};
+ghost use Prim.Native.Nat.{_+_, _*_, _≤_};
 ghost use lib.ListN.{length};
-ghost use Rattle.meaning.specs.Text.{text, natural, decimal};
-ghost use Rattle.lines.specs.Making.{Put, Adds};
+ghost use Rattle.meaning.specs.Text.{text, natural, decimal, decimals, ends};
+ghost use Rattle.lines.specs.Making.{Put, Adds, width};
 
 // Writes a number without sign: all digits but the last, then the last. The answer is the place after it.
-pub fn put_natural(out: &mut [u8; 128], at: usize, n: u64) -> usize
-    requires { ⌜ at + length (natural n) ≤ 128 ⌝ }
+pub fn put_natural(out: &mut [u8; WIDTH], at: usize, n: u64) -> usize
+    requires { ⌜ at + length (natural n) ≤ width ⌝ }
     ensures { λ r. ⌜ Put (length (natural n)) (now (out .entry)) at (natural n) (now (out .exit)) r ⌝ }
 {
     if n < 10 {
@@ -23,8 +24,8 @@ pub fn put_natural(out: &mut [u8; 128], at: usize, n: u64) -> usize
 }
 
 // Writes a space and a number, with a minus sign only below zero.
-pub fn put_number(out: &mut [u8; 128], at: usize, z: i64) -> usize
-    requires { ⌜ at + 21 ≤ 128 ⌝ }
+pub fn put_number(out: &mut [u8; WIDTH], at: usize, z: i64) -> usize
+    requires { ⌜ at + 21 ≤ width ⌝ }
     ensures { λ r. ⌜ Put 21 (now (out .entry)) at (text " " ++ decimal z) (now (out .exit)) r ⌝ }
 {
     let n = integers::magnitude(z);
@@ -38,7 +39,7 @@ pub fn put_number(out: &mut [u8; 128], at: usize, z: i64) -> usize
 
 // A line with a space and a number more.
 pub fn with_number(line: Line, z: i64) -> Line
-    requires { ⌜ line .len + 21 ≤ 128 ⌝ }
+    requires { ⌜ line .len + 21 ≤ width ⌝ }
     ensures { λ r. ⌜ Adds 21 line (text " " ++ decimal z) r ⌝ }
 {
     let mut bytes = line.bytes;
@@ -49,9 +50,24 @@ pub fn with_number(line: Line, z: i64) -> Line
     }
 }
 
+// A line with these numbers more, and its end.
+pub fn with_numbers(line: Line, numbers: &[i64]) -> Line
+    requires { ⌜ line .len + 21 * length (now numbers) + 1 ≤ width ⌝ }
+    ensures { λ r. ⌜ Adds (21 * length (now (numbers .entry)) + 1) line (ends (decimals (now (numbers .entry)))) r ⌝ }
+{
+    let mut longer = line;
+    let mut i: usize = 0;
+    while i < numbers.len() {
+        let z = numbers[i];
+        longer = with_number(longer, z);
+        i += 1;
+    }
+    with_byte(longer, b'\n')
+}
+
 // A line with a space and a count more.
 pub fn with_count(line: Line, n: usize) -> Line
-    requires { ⌜ line .len + 21 ≤ 128 ⌝ }
+    requires { ⌜ line .len + 21 ≤ width ⌝ }
     ensures { λ r. ⌜ Adds 21 line (text " " ++ natural n) r ⌝ }
 {
     let spaced = with_byte(line, b' ');

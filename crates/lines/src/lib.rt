@@ -2,14 +2,15 @@
 mod digits;
 mod words;
 
+ghost use mathlib.Core.Path.{_≡_};
 ghost use lib.ListN.{take};
 ghost use Rattle.meaning.specs.Name.{unpadded};
-ghost use Rattle.meaning.specs.Sheet.{letter};
-ghost use Rattle.lines.specs.Making.{Adds, Holds};
-ghost use Rattle.lines.specs.LineText.{zoneText, figuresText, localText, constantText, remainderText, refusedText};
-ghost use Prim.Native.Nat.{_+_, _≤_};
+ghost use Rattle.meaning.specs.Text.{line};
+ghost use Rattle.meaning.specs.Sheet.{constantFields, letter, zoneNumbers, zoneFields, nodeLine, remainderFields};
+ghost use Rattle.meaning.specs.Outcome.{refusedFields};
+ghost use Rattle.lines.specs.Making.{Holds, width};
 use digits::with_count;
-use digits::with_number;
+use digits::with_numbers;
 use meaning::LocalFigures;
 use meaning::Metres;
 use meaning::MicroPerKw;
@@ -21,19 +22,21 @@ use words::with_byte;
 use words::with_name;
 use words::with_word;
 
+// Room for any line: a zone's is the longest.
+const WIDTH: usize = 128;
+
 // The text of a line, zeros behind it, and its length.
 pub struct Line {
-    pub bytes: [u8; 128],
+    pub bytes: [u8; WIDTH],
     pub len: usize,
 }
 
 // The line of C.
 pub fn constant_line(c: Metres) -> Line
-    ensures { λ r. ⌜ Holds 23 (constantText c) r ⌝ }
+    ensures { λ r. ⌜ Holds 23 (line (constantFields (c .0))) r ⌝ }
 {
     let word = line_of(b"C");
-    let full = with_number(word, c.0);
-    with_byte(full, b'\n')
+    with_numbers(word, &[c.0])
 }
 
 // The letter of a side.
@@ -46,22 +49,16 @@ fn letter_of(side: Side) -> Line
     }
 }
 
-// The figures of a zone with kilowatts, to the end of its line.
-fn with_figures(line: Line, residual: MicroPerKw, z: ZoneFigures) -> Line
-    requires { ⌜ line .len + 106 ≤ 128 ⌝ }
-    ensures { λ r. ⌜ Adds 106 line (figuresText residual z) r ⌝ }
+// The numbers of a zone's line.
+fn zone_numbers(residual: MicroPerKw, z: ZoneFigures) -> [i64; 5]
+    ensures { λ r. ⌜ r ≡ zoneNumbers (residual .0) z ⌝ }
 {
-    let l1 = with_number(line, z.metres.0);
-    let l2 = with_number(l1, z.after_c.0);
-    let l3 = with_number(l2, z.tariff.0);
-    let l4 = with_number(l3, residual.0);
-    let l5 = with_number(l4, z.total.0);
-    with_byte(l5, b'\n')
+    [z.metres.0, z.after_c.0, z.tariff.0, residual.0, z.total.0]
 }
 
 // The line of a zone: `-` with no kilowatts.
 pub fn zone_line(side: Side, zone: usize, residual: MicroPerKw, z: ZoneFigures) -> Line
-    ensures { λ r. ⌜ Holds 128 (zoneText side zone residual z) r ⌝ }
+    ensures { λ r. ⌜ Holds width (line (zoneFields side zone (residual .0) z)) r ⌝ }
 {
     let lettered = letter_of(side);
     let numbered = with_count(lettered, zone);
@@ -69,40 +66,37 @@ pub fn zone_line(side: Side, zone: usize, residual: MicroPerKw, z: ZoneFigures) 
     if w.0 == 0 {
         return with_word(numbered, b" -\n");
     }
-    with_figures(numbered, residual, z)
+    let numbers = zone_numbers(residual, z);
+    with_numbers(numbered, &numbers)
 }
 
 // The line of a node, whose name stands at the front of these bytes: none without TEC.
 pub fn node_line(name: &[u8], l: LocalFigures) -> Line
-    ensures { λ r. ⌜ Holds 57 (localText (unpadded (take 12 (now (name .entry)))) l) r ⌝ }
+    ensures { λ r. ⌜ Holds 57 (nodeLine (unpadded (take 12 (now (name .entry)))) l) r ⌝ }
 {
     let tec = l.tec;
     if tec.0 == 0 {
         return Line {
-            bytes: [0; 128],
+            bytes: [0; WIDTH],
             len: 0,
         };
     }
     let word = line_of(b"L ");
     let named = with_name(word, name);
-    let l1 = with_number(named, l.metres.0);
-    let l2 = with_number(l1, l.tariff.0);
-    with_byte(l2, b'\n')
+    with_numbers(named, &[l.metres.0, l.tariff.0])
 }
 
 // The line of the two remainders.
 pub fn remainder_line(generation: i64, demand: i64) -> Line
-    ensures { λ r. ⌜ Holds 44 (remainderText generation demand) r ⌝ }
+    ensures { λ r. ⌜ Holds 44 (line (remainderFields generation demand)) r ⌝ }
 {
     let word = line_of(b"R");
-    let l1 = with_number(word, generation);
-    let l2 = with_number(l1, demand);
-    with_byte(l2, b'\n')
+    with_numbers(word, &[generation, demand])
 }
 
 // `refused` with any number, system and row, whether or not a refusal carries them: that they are a refusal's is what `text::refuse` promises.
 pub fn refused_line(v: Values) -> Line
-    ensures { λ r. ⌜ Holds 71 (refusedText (v .number) (v .system) (v .row)) r ⌝ }
+    ensures { λ r. ⌜ Holds 71 (line (refusedFields v)) r ⌝ }
 {
     let word = line_of(b"refused");
     let l1 = with_count(word, v.number);

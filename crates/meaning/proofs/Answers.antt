@@ -52,6 +52,12 @@ stops-first b e s = sym s ∙ e ∙ sym (orElse-stops b (sym e ∙ s))
 pub passes-first : {a x y : Judgement} (b : Judgement) → x ≡ a → x ≡ Passes → y ≡ b → y ≡ a orElse b
 passes-first b e s f = f ∙ sym (orElse-passes b (sym e ∙ s))
 
+-- nothing comes after the last stage
+pub orElse-none : (a : Judgement) → a orElse Passes ≡ a
+unfolding _orElse_
+orElse-none Passes = refl
+orElse-none (Stops r) = refl
+
 pub passes-orElse : (a b : Judgement) → (a orElse b ≡ Passes) ↔ (a ≡ Passes) × (b ≡ Passes)
 unfolding _orElse_
 passes-orElse Passes b = (λ h. (refl, h), λ h. h .1)

@@ -11,7 +11,8 @@ use Rattle.meaning.specs.Study.{Runs}
 use Rattle.meaning.specs.Grid.{Grid}
 use Rattle.meaning.specs.declared.Side.{Side}
 use Rattle.meaning.specs.declared.Side.the-variants.{Generation, Demand}
-use Rattle.meaning.specs.Figures.{zones, zonePaying, totalPaying, overZones, zonalMetres, C, afterC}
+use Rattle.meaning.specs.Figures.{zones, zonePaying, totalPaying, overZones, zonalMetres, C, afterC, basis}
+use Rattle.meaning.specs.Charging as charging
 use Rattle.meaning.specs.Demands.{Balances}
 
 -- over plain numbers: the zones' sums a and b, moved by c
@@ -26,14 +27,12 @@ settled p q k l a b c h = rw (same p q k l a b c) h
 module _ (G : Grid) (runs : Runs) (all : (side : Side) → sum (zones G side) (λ k. zonePaying G side (suc k)) ≡ totalPaying G side) where
   moved : (side : Side) (c : ℤ)
       → overZones G side (λ zone. zonalMetres G runs side zone +ℤ c) ≡ overZones G side (zonalMetres G runs side) +ℤ c *ℤ pos (totalPaying G side)
-  unfolding overZones
   moved side c =
       Σ-raised (λ k. zonalMetres G runs side (suc k)) c (λ k. zonePaying G side (suc k)) (zones G side)
       ∙ ap (λ (m : ℕ). overZones G side (zonalMetres G runs side) +ℤ c *ℤ pos m) (all side)
 
   demand-moved : (c : ℤ)
       → overZones G Demand (λ zone. zonalMetres G runs Demand zone -ℤ c) ≡ overZones G Demand (zonalMetres G runs Demand) -ℤ c *ℤ pos (totalPaying G Demand)
-  unfolding overZones
   demand-moved c =
       Σ-same (zones G Demand) _ _ (λ k h. lowered (zonalMetres G runs Demand (suc k)) c (zonePaying G Demand (suc k)))
       ∙ moved Demand (negℤ c)
@@ -46,7 +45,7 @@ module _ (G : Grid) (runs : Runs) (all : (side : Side) → sum (zones G side) (�
       raised a c w = simp Z (omega arith)
 
   pub balances : 1 ≤ G .settings .p * totalPaying G Generation + (1000 - G .settings .p) * totalPaying G Demand → Balances G runs
-  unfolding afterC C
+  unfolding charging.afterC charging.C charging.priced basis
   balances h =
       let p = G .settings .p in
       let a = overZones G Demand (zonalMetres G runs Demand) in

@@ -12,7 +12,8 @@ use lib.IntN.{ℤ, pos}
 use lib.ListN.{length, getD, List·getD-eq-default}
 use Rattle.meaning.specs.Name.{Name, sameName}
 use Rattle.meaning.specs.Rows.{lowest}
-use Rattle.meaning.specs.Study.{Settings, Node, Circuit, Study, Runs, node, circuit, noCircuit}
+use Rattle.meaning.specs.declared.Settings.{Settings}
+use Rattle.meaning.specs.Study.{Node, Circuit, Study, Runs, node, circuit, noCircuit}
 use Rattle.meaning.specs.declared.System.{System}
 use Rattle.meaning.specs.declared.System.the-variants.{Base, Wider, Local}
 use Rattle.meaning.specs.declared.Direction.{Direction}
@@ -23,7 +24,7 @@ use Rattle.meaning.specs.Direction.{overheadFactor, cableFactor, expande
 use Rattle.meaning.specs.Systems.{baseFlow, lengthOf, offset}
 use Rattle.meaning.specs.Conditions.{HasLength}
 use Rattle.meaning.specs.Demands.{SameDirections}
-use Rattle.meaning.specs.OnlyDirections.{factorsOf, namesOf, Holds, sameCircuits, sameNames, sameFactors, sameReference, sameDirections}
+use Rattle.meaning.specs.OnlyDirections.{factorsOf, namesOf, Own, Holds, sameCircuits, sameNames, sameFactors, sameReference, sameDirections}
 use Rattle.meaning.proofs.Says.{Says, says-eq}
 use Rattle.meaning.proofs.Rows.{lowest-same, rows-at, length-rows}
 
@@ -63,12 +64,12 @@ network-shared S S′ runs runs′ c n r = λ i. record {
 abbrev onlyFactors : List ℕ → Settings
 onlyFactors l =
     record {
-      generationZones = 0;
-      demandZones = 0;
+      «generation_zones» = 0;
+      «demand_zones» = 0;
       p = 0;
       constant = 0;
-      widerFactor = 0;
-      localFactor = 0;
+      «wider_factor» = 0;
+      «local_factor» = 0;
       overhead400 = getD l 0 0;
       cable400 = getD l 1 0;
       overhead275 = getD l 2 0;
@@ -143,17 +144,13 @@ module _ (S S′ : Study) (runs runs′ : Runs) (rows : Holds sameCircuits S S�
       (λ h. headed c (in-table (S .circuits) c h) (h, kind))
       ∙ ap (λ (l : List Circuit). signedLength (S′ .settings) (circuit l c) (baseFlow (gridOf S′) runs′ c)) rows
 
-  pub wider-shared : SameDirections (λ c. HasLength c × (c .localMark ≡ 0)) S S′ runs runs′ → offset (gridOf S) runs Wider ≡ offset (gridOf S′) runs′ Wider
+  -- of its own circuits
+  pub offset-own : (system : System) → SameDirections (λ c. HasLength c × Own system c) S S′ runs runs′ → offset (gridOf S) runs system ≡ offset (gridOf S′) runs′ system
   unfolding offset gridOf
-  wider-shared headed = fun-ext (λ c. rw (sym (same-mark c)) (cond-same _ says-eq (same-length (λ c. c .localMark ≡ 0) headed c) (λ m. refl)))
+  offset-own (Base b) headed = refl
+  offset-own (Wider b) headed = fun-ext (λ c. rw (sym (same-mark c)) (cond-same _ says-eq (same-length (Own (Wider b)) headed c) (λ m. refl)))
+  offset-own Local headed = fun-ext (λ c. rw (sym (same-mark c)) (cond-same _ says-eq (λ e. refl) (same-length (Own Local) headed c)))
 
-  pub local-shared : SameDirections (λ c. HasLength c × (c .localMark ≢ 0)) S S′ runs runs′ → offset (gridOf S) runs Local ≡ offset (gridOf S′) runs′ Local
-  unfolding offset gridOf
-  local-shared headed = fun-ext (λ c. rw (sym (same-mark c)) (cond-same _ says-eq (λ e. refl) (same-length (λ c. c .localMark ≢ 0) headed c)))
-
-  -- and of all systems by those of all circuits
+  -- and so of all
   pub offset-shared : Holds sameDirections S S′ runs runs′ → (system : System) → offset (gridOf S) runs system ≡ offset (gridOf S′) runs′ system
-  unfolding offset
-  offset-shared headed Base = refl
-  offset-shared headed Wider = wider-shared (λ c k p. headed c k (p .0))
-  offset-shared headed Local = local-shared (λ c k p. headed c k (p .0))
+  offset-shared headed system = offset-own system (λ c k p. headed c k (p .0))

@@ -1,8 +1,8 @@
 -- The stages of 01, one after the other, judge the conditions of 01's order.
-use mathlib.Core.Path.{_≡_, refl, sym, _∙_, ap, subst}
+use mathlib.Core.Path.{_≡_, subst}
 use mathlib.Core.Logic.{_↔_}
 use mathlib.Core.List.{List, [], _∷_, _++_}
-use Prim.Native.Nat.{ℕ, _<_, _≤_}
+use Prim.Native.Nat.{ℕ, _<_}
 use lib.ListN.{length}
 use Rattle.meaning.specs.Study.{Study, Runs}
 use Rattle.meaning.specs.File.{studyOf}
@@ -27,12 +27,12 @@ module _ (file : List ℕ) (runs : Runs) where
   abbrev S : Study
   S = studyOf file
 
-  judge-tables : Judges (tablesStage file (length (runs .base)) (length (runs .wider)) (length (runs .local)))
+  judge-tables : Judges (tablesStage file (λ s. length (runs s)))
       ((whole (WholeFile file runs) BadFile ∷ []) ++ (rowsOrder S ++ gridOrder (gridOf S)))
   unfolding tablesStage
   judge-tables =
       subst (λ (j : Judgement). Judges j ((whole (WholeFile file runs) BadFile ∷ []) ++ (rowsOrder S ++ gridOrder (gridOf S))))
-      (orElse-assoc (fileStage file) (runsStage file (length (runs .base)) (length (runs .wider)) (length (runs .local))) (rowsStage S orElse gridStage (gridOf S)))
+      (orElse-assoc (fileStage file) (runsStage file (λ s. length (runs s))) (rowsStage S orElse gridStage (gridOf S)))
       (judge-file file runs before λ _. judge-rows S before λ m. judge-grid S (rowwise-met S .0 m))
 
   -- the reference is a node, where 2 is met

@@ -6,8 +6,10 @@ use Prim.Native.String.{String}
 use lib.IntN.{ℤ, pos, negℤ}
 use lib.ListN.{length, replicate, set}
 use Rattle.meaning.specs.Text.{text}
-use Rattle.meaning.specs.Study.{Settings, Node, Circuit, Station, Study, Runs}
+use Rattle.meaning.specs.declared.Settings.{Settings}
+use Rattle.meaning.specs.Study.{Node, Circuit, Station, Study, Runs, runsOf}
 use Rattle.meaning.specs.File.{studyOf}
+use Rattle.meaning.specs.declared.Background.the-variants.{YearRound}
 use Rattle.meaning.specs.declared.System.the-variants.{Wider}
 use Rattle.meaning.specs.declared.Refusal.the-variants.{BadNumber, ShortBuffer}
 use Rattle.meaning.specs.declared.Judgement.the-variants.{Passes, Stops}
@@ -22,12 +24,12 @@ use Rattle.meaning.proofs.Opened.{opened}
 abbrev pub kilnSettings : Settings
 kilnSettings =
     record {
-      generationZones = 1;
-      demandZones = 1;
+      «generation_zones» = 1;
+      «demand_zones» = 1;
       p = 500;
       constant = 1000;
-      widerFactor = 1800;
-      localFactor = 1000;
+      «wider_factor» = 1800;
+      «local_factor» = 1000;
       overhead400 = 1000;
       cable400 = 1000;
       overhead275 = 1000;
@@ -71,7 +73,7 @@ abbrev pub kilnLocal : List ℤ
 kilnLocal = replicate 6 (pos 0)
 
 abbrev pub kilnRuns : Runs
-kilnRuns = record { base = kilnBase; wider = kilnWider; local = kilnLocal }
+kilnRuns = runsOf kilnBase kilnWider kilnLocal
 
 -- the 540 bytes
 abbrev pub kiln : List ℕ
@@ -114,7 +116,7 @@ unfolding opened
 kiln-remainders = (refl, refl)
 
 -- 8: the reference's potential is 1 in the wider run
-ground : judged kiln (record { base = kilnBase; wider = set kilnWider 2 (pos 1); local = kilnLocal }) ≡ Stops (BadNumber Wider 3)
+ground : judged kiln (runsOf kilnBase (set kilnWider 2 (pos 1)) kilnLocal) ≡ Stops (BadNumber (Wider YearRound) 3)
 unfolding opened
 ground = refl
 

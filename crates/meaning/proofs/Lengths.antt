@@ -8,7 +8,8 @@ use native.Mathlib.Decide.{decLe}
 use native.Mathlib.Omega.{arith}
 use borrow.Author.Tests.{le-leb, ne-eqb}
 use lib.Dec.{eqb, leb}
-use Rattle.meaning.specs.Study.{Settings, Circuit, Study, circuit}
+use Rattle.meaning.specs.declared.Settings.{Settings}
+use Rattle.meaning.specs.Study.{Circuit, Study, circuit}
 use Rattle.meaning.specs.Direction.{overheadFactor, cableFactor, ownOr, expandedLength, hasLength}
 use Rattle.meaning.specs.Conditions.{InRange, SoundSettings, SoundCircuit}
 

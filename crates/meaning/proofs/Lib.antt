@@ -3,6 +3,7 @@ pub mod Rows
 pub mod Columns
 pub mod First
 pub mod Says
+pub mod Systems
 pub mod Answers
 pub mod Table
 pub mod Kept
@@ -13,6 +14,8 @@ pub mod Networks
 pub mod Plants
 pub mod Shares
 pub mod Sides
+pub mod Bases
+pub mod Sheets
 pub mod Mirror
 pub mod Centre
 pub mod Frame

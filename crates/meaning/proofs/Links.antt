@@ -6,7 +6,7 @@ use Prim.Native.String.{String}
 use lib.IntN.{pos}
 use lib.ListN.{replicate}
 use Rattle.meaning.specs.Text.{text}
-use Rattle.meaning.specs.Study.{Station, Study}
+use Rattle.meaning.specs.Study.{Station, Study, runsOf}
 use Rattle.meaning.specs.Outcome.{prints}
 use Rattle.meaning.proofs.Write.{name, fileOf}
 use Rattle.meaning.proofs.Opened.{opened}
@@ -37,12 +37,12 @@ abbrev towed : Study
 towed =
     record {
       settings = record {
-        generationZones = 3;
-        demandZones = 1;
+        «generation_zones» = 3;
+        «demand_zones» = 1;
         p = 270;
         constant = 1007;
-        widerFactor = 1800;
-        localFactor = 1000;
+        «wider_factor» = 1800;
+        «local_factor» = 1000;
         overhead400 = 1000;
         cable400 = 1000;
         overhead275 = 1000;
@@ -59,11 +59,10 @@ towed =
 
 -- the local tariff is 10 x 1,007 x 1,000 / 100,000, 100.7, so 101; 730,000 less 101 x 300 is 699,700, which is 2,332 x 300 + 100; 270,000 is 336 x 802 + 528
 towed-prints : prints (fileOf towed
-    (record {
-      base = pos 401000000 ∷ pos 0 ∷ pos 401000000 ∷ [];
-      wider = replicate 3 (pos 0);
-      local = pos 10000000000 ∷ pos 0 ∷ pos 0 ∷ [];
-    }))
+    (runsOf
+    (pos 401000000 ∷ pos 0 ∷ pos 401000000 ∷ [])
+    (replicate 3 (pos 0))
+    (pos 10000000000 ∷ pos 0 ∷ pos 0 ∷ [])))
     ≡ text "C 0\nG 1 0 0 0 2332 2332\nG 2 0 0 0 2332 2332\nG 3 -\nD 1 0 0 0 336 336\nL A 10 101\nL B 0 0\nR 100 528\n"
 unfolding opened
 towed-prints = refl

@@ -11,13 +11,17 @@ use Rattle.integers.proofs.Core.{Z}
 use Rattle.integers.proofs.Laws.{neg-neg, neg-mul}
 use Rattle.integers.proofs.Sum.{Σ-same, Σ-neg}
 use Rattle.integers.proofs.Div.{floor-exact, nearest-error, nearest-mirror, nearest-moved}
+use Rattle.meaning.specs.declared.Background.the-variants.{YearRound}
+use Rattle.meaning.specs.declared.System.the-variants.{Wider, Local}
 use Rattle.meaning.specs.declared.Side.{Side}
 use Rattle.meaning.specs.declared.Side.the-variants.{Generation, Demand}
 use Rattle.meaning.specs.Study.{Metres, Runs}
 use Rattle.meaning.specs.Grid.{Grid}
-use Rattle.meaning.specs.Figures.{metres, tariff, widerMetres, localMetres, distance, totalPaying, overZones, target, zonalMetres, C, afterC, zoneTariff, localTariff, localIncome}
+use Rattle.meaning.specs.Charging.{metres, tariff}
+use Rattle.meaning.specs.Figures.{widerMetres, localMetres, distance, totalPaying, overZones, target, zonalMetres, C, afterC, zoneTariff, localTariff, localIncome, basis}
+use Rattle.meaning.specs.Charging as charging
 use Rattle.meaning.specs.Distances.{weightIn}
-use Rattle.meaning.specs.Mirror.{NearestMirrors, halfUp, NegativeHalf, OnlyNegativeHalvesMove, wider, local, zonal, centre, zoneTariffs, localTariffs, FiguresMove, average, AveragesMirror, WeighAlike, ZonesMirror, other, Exchanged, MirrorImage, SidesMirror, MoneyMirrors}
+use Rattle.meaning.specs.Mirror.{NearestMirrors, halfUp, NegativeHalf, OnlyNegativeHalvesMove, nodal, zonal, centre, zoneTariffs, localTariffs, FiguresMove, average, AveragesMirror, WeighAlike, ZonesMirror, other, Exchanged, MirrorImage, SidesMirror, MoneyMirrors}
 use Rattle.meaning.proofs.Sides.{average-same, zonal-average, Corresponds, zonal-same, total-same, over-same, residual-same, remainder-same, zone-total-same}
 
 -- ---- one division
@@ -74,20 +78,20 @@ zone-mirror G runs g d h =
     ∙ ap negℤ (sym (zonal-average G runs Generation g))
 
 centre-mirror : (G : Grid) (runs : Runs) (g d : ℕ) → WeighAlike G g d → afterC G runs Demand d ≡ negℤ (afterC G runs Generation g)
-unfolding afterC
+unfolding charging.afterC charging.priced basis
 centre-mirror G runs g d h = rw (zone-mirror G runs g d h) (moved (zonalMetres G runs Generation g) (C G runs))
   where
     moved : (m c : ℤ) → negℤ m -ℤ c ≡ negℤ (m +ℤ c)
     moved m c = simp Z (omega arith)
 
 pub zones-mirror : ZonesMirror
-unfolding zoneTariff
+unfolding charging.zoneTariff charging.priced basis
 zones-mirror G runs g d h = record {
   metres = zone-mirror G runs g d h;
   withC = centre-mirror G runs g d h;
   tariffs =
-      ap (λ (m : Metres). tariff m (G .settings .constant) (G .settings .widerFactor)) (centre-mirror G runs g d h)
-      ∙ tariff-mirror (afterC G runs Generation g) (G .settings .constant) (G .settings .widerFactor);
+      ap (λ (m : Metres). tariff m (G .settings .constant) (G .settings .«wider_factor»)) (centre-mirror G runs g d h)
+      ∙ tariff-mirror (afterC G runs Generation g) (G .settings .constant) (G .settings .«wider_factor»);
 }
 
 -- ---- a case and its mirror image
@@ -108,8 +112,8 @@ turned-C p p′ k l a b e =
 module _ (G G′ : Grid) (runs runs′ : Runs) (x : Exchanged G G′ runs runs′) where
   distance-turned : (side : Side) (v : ℕ) → v < length (G .nodes) → distance runs′ side v ≡ distance runs (other side) v
   unfolding distance widerMetres
-  distance-turned Generation v h = ap metres (x .wider v h) ∙ metres-mirror _
-  distance-turned Demand v h = ap (λ (z : ℤ). negℤ (metres z)) (x .wider v h) ∙ ap negℤ (metres-mirror _) ∙ neg-neg _
+  distance-turned Generation v h = ap metres (x .potentials (Wider YearRound) tt v h) ∙ metres-mirror _
+  distance-turned Demand v h = ap (λ (z : ℤ). negℤ (metres z)) (x .potentials (Wider YearRound) tt v h) ∙ ap negℤ (metres-mirror _) ∙ neg-neg _
 
   corresponds : Corresponds other G G′ runs runs′
   corresponds = record {
@@ -131,37 +135,37 @@ module _ (G G′ : Grid) (runs runs′ : Runs) (x : Exchanged G G′ runs runs�
   total-turned = total-same other G G′ runs runs′ corresponds
 
   C-turned : C G′ runs′ ≡ negℤ (C G runs)
-  unfolding C
+  unfolding charging.C basis
   C-turned =
       rw (over-turned Demand, over-turned Generation, total-turned Demand, total-turned Generation)
       (turned-C (G .settings .p) (G′ .settings .p) (totalPaying G Generation) (totalPaying G Demand) (overZones G Demand (zonalMetres G runs Demand))
       (overZones G Generation (zonalMetres G runs Generation)) (x .shares))
 
   after-turned : (side : Side) (zone : ℕ) → afterC G′ runs′ side zone ≡ afterC G runs (other side) zone
-  unfolding afterC
+  unfolding charging.afterC charging.priced basis
   after-turned Generation zone = rw (zonal-turned Generation zone, C-turned) refl
   after-turned Demand zone = rw (zonal-turned Demand zone, C-turned, neg-neg (C G runs)) refl
 
-  priced : (m m′ : Metres) (c c′ f f′ : ℕ) → m ≡ m′ → c ≡ c′ → f ≡ f′ → tariff m c f ≡ tariff m′ c′ f′
-  priced m m′ c c′ f f′ a b d = rw (a, b, d) refl
+  same-tariff : (m m′ : Metres) (c c′ f f′ : ℕ) → m ≡ m′ → c ≡ c′ → f ≡ f′ → tariff m c f ≡ tariff m′ c′ f′
+  same-tariff m m′ c c′ f f′ a b d = rw (a, b, d) refl
 
   tariff-turned : (side : Side) (zone : ℕ) → zoneTariff G′ runs′ side zone ≡ zoneTariff G runs (other side) zone
-  unfolding zoneTariff
-  tariff-turned side zone = priced _ _ _ _ _ _ (after-turned side zone) (x .constants) (x .widerFactors)
+  unfolding charging.zoneTariff charging.priced basis
+  tariff-turned side zone = same-tariff _ _ _ _ _ _ (after-turned side zone) (x .constants) (x .widerFactors)
 
   local-turned : (v : ℕ) → v < length (G .nodes) → localMetres runs′ v ≡ negℤ (localMetres runs v)
   unfolding localMetres
-  local-turned v h = ap metres (x .local v h) ∙ metres-mirror _
+  local-turned v h = ap metres (x .potentials Local tt v h) ∙ metres-mirror _
 
   image : MirrorImage G G′ runs runs′
-  unfolding localTariff
+  unfolding charging.localTariff basis
   image = record {
     centre = C-turned;
     metres = zonal-turned;
     withC = after-turned;
     tariffs = tariff-turned;
     localDistances = local-turned;
-    localTariffs = λ v h. priced _ _ _ _ _ _ (local-turned v h) (x .constants) (x .localFactors) ∙ tariff-mirror _ _ _;
+    localTariffs = λ v h. same-tariff _ _ _ _ _ _ (local-turned v h) (x .constants) (x .localFactors) ∙ tariff-mirror _ _ _;
   }
 
 pub sides-mirror : SidesMirror
@@ -171,13 +175,12 @@ sides-mirror G G′ runs runs′ x = image G G′ runs runs′ x
 -- a target by p is the other side's by 1000 - p
 target-turned : (G G′ : Grid) → G′ .settings .p + G .settings .p ≡ 1000 → G′ .settings .revenue ≡ G .settings .revenue
     → (side : Side) → target G′ side ≡ target G (other side)
-unfolding target
 target-turned G G′ e r Generation = let q : 1000 - G′ .settings .p ≡ G .settings .p = omega arith in rw (r, q) refl
 target-turned G G′ e r Demand = let q : 1000 - G .settings .p ≡ G′ .settings .p = omega arith in rw (r, q) refl
 
 local-none : (G G′ : Grid) (runs runs′ : Runs) → localIncome G runs Generation ≡ pos 0 → localIncome G′ runs′ Generation ≡ pos 0
     → (side : Side) → localIncome G′ runs′ side ≡ localIncome G runs (other side)
-unfolding localIncome
+unfolding charging.localIncome basis
 local-none G G′ runs runs′ e e′ Generation = e′
 local-none G G′ runs runs′ e e′ Demand = sym e
 
@@ -196,9 +199,8 @@ money-mirrors G G′ runs runs′ m =
 
 -- ---- what moved, figure by figure: each is the nearest of its division
 pub figures-move : FiguresMove
-unfolding widerMetres localMetres metres zonalMetres C zoneTariff localTariff tariff
-figures-move G runs z d f (wider v) p = only-negative-halves-move _ _ p
-figures-move G runs z d f (local v) p = only-negative-halves-move _ _ p
+unfolding metres zonalMetres charging.C charging.zoneTariff charging.localTariff tariff charging.priced basis
+figures-move G runs z d f (nodal s _ v) p = only-negative-halves-move _ _ p
 figures-move G runs z d f (zonal side zone) p = only-negative-halves-move _ _ p
 figures-move G runs z d f centre p = only-negative-halves-move _ _ p
 figures-move G runs z d f (zoneTariffs side zone) p = only-negative-halves-move _ _ p

@@ -3,16 +3,16 @@ use mathlib.Core.Path.{_≡_, refl, sym, _∙_, ap, subst}
 use mathlib.Core.Logic.{_⊎_, inl, inr, _↔_}
 use mathlib.Core.List.{List, [], _∷_, _++_}
 use mathlib.Core.Bool.{Bool, true, false, not, true≢false}
-use mathlib.Core.Option.{Option, none, some}
-use Prim.Native.Nat.{ℕ, suc, _<_}
-use Rattle.meaning.specs.Rows.{lowest, failing}
+use mathlib.Core.Option.{Option}
+use Prim.Native.Nat.{ℕ, suc}
+use Rattle.meaning.specs.Rows.{failing}
 use Rattle.meaning.specs.declared.Refusal.{Refusal}
 use Rattle.meaning.specs.declared.Judgement.{Judgement}
 use Rattle.meaning.specs.declared.Judgement.the-variants.{Passes, Stops}
 use Rattle.meaning.specs.Answers.{_orElse_, unless, at}
 use Rattle.meaning.specs.Refusals.{Condition, whole, eachRow, Met, LowestUnmet, Unmet, AllMet, FirstUnmet}
 use Rattle.meaning.proofs.Rows.{Lowest, nothing, first, lowest-is, lowest-stops}
-use Rattle.meaning.proofs.Answers.{stops≢passes, stops-same, passes-orElse, passes-unless, passes-rows, not-false}
+use Rattle.meaning.proofs.Answers.{stops≢passes, stops-same, passes-rows, not-false}
 use Rattle.meaning.proofs.Says.{Says, says-not}
 
 pub record Judges (j : Judgement) (cs : List Condition) : Type 0 where
@@ -90,6 +90,10 @@ _before_ {a} {b} {cs} {ds} s t = go a s
         early : (r : Refusal) → FirstUnmet cs r ⊎ AllMet cs × FirstUnmet ds r → Stops q ≡ Stops r
         early r (inl f) = s .stops r .1 f
         early r (inr (m, f)) = absurd (stops≢passes (s .passes .1 m))
+
+-- nothing is asked
+pub judges-none : Judges Passes []
+judges-none = record { passes = (λ e. tt, λ m. refl); stops = λ r. (λ e. absurd (stops≢passes (sym e)), λ f. absurd f) }
 
 -- a whole test
 pub judges-whole : {b : Bool} {P : Type 0} (r : Refusal) → Says b P → Judges (unless b r) (whole P r ∷ [])

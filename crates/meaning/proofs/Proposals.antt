@@ -1,7 +1,7 @@
 -- Refusals 8 to 10 judge whether a proposal solves its system, and 11 whether a direction is in doubt.
-use mathlib.Core.Path.{_≡_, refl, sym, ap}
-use mathlib.Core.Logic.{_⊎_, inl, inr, _↔_, _≢_}
-use mathlib.Core.List.{List, [], _∷_, _++_}
+use mathlib.Core.Path.{_≡_, refl, sym, ap, subst}
+use mathlib.Core.Logic.{_⊎_, inl, inr, ⊎-elim, _↔_, _≢_}
+use mathlib.Core.List.{List, [], _∷_, _++_, List·Memᴰ, List·Memᴰ·head, List·Memᴰ·tail, List·Memᴰ·not-nil, List·Memᴰ·cases-cons, List·Memᴰ·append-cases}
 use mathlib.Core.Bool.{Bool, true, false, not, cond, _&&_, _||_, true≢false}
 use Prim.Native.Nat.{ℕ, suc, _+_, _-_, _≤_, _<_}
 use native.Mathlib.Omega.{arith}
@@ -10,21 +10,22 @@ use lib.Dec.{ltb, eqb, leb}
 use lib.IntN.{ℤ, pos, natAbs, _-ℤ_}
 use lib.ListN.{length, getD}
 use Rattle.integers.proofs.Core.{Z}
-use Rattle.meaning.specs.Study.{Runs, circuit}
+use Rattle.meaning.specs.Study.{Runs, flowSystems, distanceSystems}
 use Rattle.meaning.specs.declared.System.{System}
-use Rattle.meaning.specs.declared.System.the-variants.{Base, Wider, Local}
 use Rattle.meaning.specs.declared.Direction.{Direction}
 use Rattle.meaning.specs.declared.Direction.the-variants.{Idle, Forward, Backward, InDoubt}
+use Rattle.meaning.specs.declared.Judgement.{Judgement}
 use Rattle.meaning.specs.declared.Refusal.the-variants.{BadNumber, Unbalanced, MissesTooHigh, DirectionInDoubt}
 use Rattle.meaning.specs.Grid.{Grid}
 use Rattle.meaning.specs.Network.{Network, networkOf}
 use Rattle.meaning.specs.Direction.{direction, inDoubt, hasLength}
-use Rattle.meaning.specs.Proposal.{flow, same, flowOut, flowIn, numberInRange, balanced, Proposed, rangeStage, balanceStage, missStage, systemStage}
-use Rattle.meaning.specs.Systems.{baseFlow, proposed, solutionStage, directionClear, directionStage, proposalsStage}
+use Rattle.meaning.specs.Proposal.{flow, same, numberInRange, balanced, Proposed, rangeStage, balanceStage, missStage, systemStage}
+use Rattle.meaning.specs.Systems.{baseFlow, proposed, solutionStage, directionClear, directionStage, inOrder, ordered, proposalsStage}
 use Rattle.meaning.specs.Conditions.{SolvesSystem, NoDoubt}
-use Rattle.meaning.specs.Refusals.{SoundNumber, Balanced, MissesLow, whole, eachRow, AllMet, systemOrder, directionOrder, proposalsOrder}
+use Rattle.meaning.specs.Refusals.{SoundNumber, Balanced, MissesLow, Condition, whole, eachRow, AllMet, systemOrder, systemsOrder, directionOrder, proposalsOrder}
 use Rattle.meaning.proofs.Says.{Says, says-as, _also_, _either_, says-not, says-le, says-eq}
-use Rattle.meaning.proofs.Order.{Judges, _before_, judges-whole, judges-rows}
+use Rattle.meaning.proofs.Order.{Judges, _before_, judges-none, judges-whole, judges-rows}
+use Rattle.meaning.proofs.Systems.{listed}
 
 -- two numbers that differ by 0 are equal
 pub not-apart : (y z : ℤ) → natAbs (y -ℤ z) ≡ 0 → y ≡ z
@@ -131,35 +132,47 @@ module _ (G : Grid) (runs : Runs) where
     unfolding networkOf proposed
     judge-solution system = judge-system (networkOf G) ref (proposed G runs system)
 
-    pub judge-proposals : Judges (proposalsStage G runs) (proposalsOrder G runs)
-    unfolding proposalsStage
-    judge-proposals =
-        judge-solution Base before λ _. judge-direction before λ _. judge-solution Wider before λ _. judge-solution Local
+    judge-systems : (ss : List System) {after : Judgement} {rest : List Condition} → Judges after rest
+        → Judges (inOrder (solutionStage G runs) ss after) (systemsOrder G runs ss rest)
+    unfolding inOrder
+    judge-systems [] j = j
+    judge-systems (s ∷ ss) j = judge-solution s before λ _. judge-systems ss j
 
-    pub solved-met : AllMet (proposalsOrder G runs) ↔ Solved
+    pub judge-proposals : Judges (proposalsStage G runs) (proposalsOrder G runs)
+    unfolding proposalsStage ordered
+    judge-proposals = judge-systems flowSystems (judge-direction before λ _. judge-systems distanceSystems judges-none)
+
+    abbrev Of : System → Type 0
+    Of s = SolvesSystem (networkOf G) (proposed G runs s)
+
+    -- what is asked of these systems is that each is solved
+    systems-met : (ss : List System) (rest : List Condition) → AllMet (systemsOrder G runs ss rest) ↔ ((s : System) → List·Memᴰ s ss → Of s) × AllMet rest
     unfolding networkOf
-    solved-met = (
+    systems-met [] rest = (λ m. (λ s i. absurd (List·Memᴰ·not-nil i), m), λ p. p .1)
+    systems-met (q ∷ ss) rest = (
       λ m.
-          let w = m .1 .1 .1 .1 in
-          let l = w .1 .1 .1 in
-          record { each = three (of Base .0 (m .0, m .1 .0, m .1 .1 .0)) (of Wider .0 (w .0, w .1 .0, w .1 .1 .0)) (of Local .0 (l .0, l .1 .0, l .1 .1 .0)); clear = record { clear = m .1 .1 .1 .0 } },
-      λ s.
-          let b = of Base .1 (s .each Base) in
-          let w = of Wider .1 (s .each Wider) in
-          let l = of Local .1 (s .each Local) in
-          (b .0, (b .1, (b .2, (s .clear .clear, (w .0, (w .1, (w .2, (l .0, (l .1, (l .2, tt)))))))))),
+          let h = systems-met ss rest .0 (m .1 .1 .1) in
+          (λ s i. ⊎-elim (λ e. subst Of (sym e) (of .0 (m .0, m .1 .0, m .1 .1 .0))) (h .0 s) (List·Memᴰ·cases-cons i), h .1),
+      λ p.
+          let m = of .1 (p .0 q (List·Memᴰ·head refl)) in
+          (m .0, (m .1, (m .2, systems-met ss rest .1 (λ s i. p .0 s (List·Memᴰ·tail i), p .1)))),
     )
       where
-        Of : System → Type 0
-        Of system = SolvesSystem (networkOf G) (proposed G runs system)
+        of : ((i : ℕ) → i < length (G .nodes) + length (G .circuits) → SoundNumber (networkOf G) (proposed G runs q) i)
+            × ((v : ℕ) → v < length (G .nodes) → Balanced (networkOf G) (proposed G runs q) v)
+            × MissesLow (networkOf G) (proposed G runs q)
+            ↔ Of q
+        of = system-met (networkOf G) ref (proposed G runs q)
 
-        of : (system : System) → ((i : ℕ) → i < networkOf G .nodes + networkOf G .circuits → SoundNumber (networkOf G) (proposed G runs system) i)
-            × ((v : ℕ) → v < networkOf G .nodes → Balanced (networkOf G) (proposed G runs system) v)
-            × MissesLow (networkOf G) (proposed G runs system)
-            ↔ Of system
-        of system = system-met (networkOf G) ref (proposed G runs system)
+    -- 11, and the systems behind it
+    abbrev behind : List Condition
+    behind = directionOrder G runs ++ systemsOrder G runs distanceSystems []
 
-        three : Of Base → Of Wider → Of Local → (system : System) → Of system
-        three b w l Base = b
-        three b w l Wider = w
-        three b w l Local = l
+    pub solved-met : AllMet (proposalsOrder G runs) ↔ Solved
+    solved-met = (
+      λ m.
+          let b = systems-met flowSystems behind .0 m in
+          let d = systems-met distanceSystems [] .0 (b .1 .1) in
+          record { each = λ s. ⊎-elim (b .0 s) (d .0 s) (List·Memᴰ·append-cases flowSystems (listed s)); clear = record { clear = b .1 .0 } },
+      λ s. systems-met flowSystems behind .1 (λ q i. s .each q, (s .clear .clear, systems-met distanceSystems [] .1 (λ q i. s .each q, tt))),
+    )

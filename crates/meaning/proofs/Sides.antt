@@ -1,5 +1,5 @@
 -- Two cases whose sides correspond, each side to itself (what is hidden of stations) or to the other (the mirror image): what is added up over nodes and zones corresponds too, and the money where prices do.
-use mathlib.Core.Path.{_≡_, refl, sym, _∙_, ap, ap₂}
+use mathlib.Core.Path.{_≡_, refl, sym, _∙_, ap, ap₂, fun-ext}
 use mathlib.Core.Logic.{_≢_}
 use mathlib.Core.Bool.{Bool, true, false, cond}
 use Prim.Native.Nat.{ℕ, suc, _≤_, _<_}
@@ -15,7 +15,9 @@ use Rattle.integers.proofs.Group.{sum-only, Σ-only}
 use Rattle.meaning.specs.declared.Side.{Side}
 use Rattle.meaning.specs.Study.{Kw, Metres, Runs}
 use Rattle.meaning.specs.Grid.{Grid}
-use Rattle.meaning.specs.Figures.{residualOf, remainderOf, distance, zones, zoneOf, weight, paying, zoneWeight, zonePaying, totalPaying, overZones, target, zonalMetres, zoneTariff, localIncome, rest, residual, remainder, zoneTotal}
+use Rattle.meaning.specs.Charging.{residualOf, remainderOf}
+use Rattle.meaning.specs.Figures.{distance, zones, zoneOf, weight, paying, zoneWeight, zonePaying, totalPaying, overZones, target, zonalMetres, zoneTariff, localIncome, rest, residual, remainder, zoneTotal, basis}
+use Rattle.meaning.specs.Charging as charging
 use Rattle.meaning.specs.Distances.{weightIn}
 use Rattle.meaning.specs.Mirror.{average}
 
@@ -84,9 +86,14 @@ module _ (to : Side → Side) (G G′ : Grid) (runs runs′ : Runs) (x : Corresp
       ∙ average-same n _ _ _ _ (x .distances side) (λ v h. in-zone zone (x .zonesOf side v h) (x .weights side v h))
       ∙ sym (zonal-average G runs (to side) zone)
 
+  -- and so step 7 hands on the same
+  pub zones-same : (side : Side) → basis G′ runs′ .side side ≡ basis G runs .side (to side)
+  unfolding basis
+  zones-same side =
+      rw (x .zoneCounts side, fun-ext (weight-same side), fun-ext (paying-same side), fun-ext (zonal-same side), total-same side) refl
+
   -- a figure of each zone, over the kilowatts that pay
   pub over-same : (side : Side) (f f′ : ℕ → ℤ) → ((zone : ℕ) → f′ zone ≡ f zone) → overZones G′ side f′ ≡ overZones G (to side) f
-  unfolding overZones
   over-same side f f′ e =
       rw (x .zoneCounts side) (Σ-same (zones G (to side)) _ _ (λ k h. ap₂ (λ (m : ℤ) (w : ℕ). m *ℤ pos w) (e (suc k)) (paying-same side (suc k))))
 
@@ -95,17 +102,17 @@ module _ (to : Side → Side) (G G′ : Grid) (runs runs′ : Runs) (x : Corresp
       (targets : (side : Side) → target G′ side ≡ target G (to side))
       (locals : (side : Side) → localIncome G′ runs′ side ≡ localIncome G runs (to side)) where
     pub rest-same : (side : Side) → rest G′ runs′ side ≡ rest G runs (to side)
-    unfolding rest
+    unfolding charging.rest charging.priced basis
     rest-same side = rw (targets side, over-same side _ _ (prices side), locals side) refl
 
     pub residual-same : (side : Side) → residual G′ runs′ side ≡ residual G runs (to side)
-    unfolding residual
+    unfolding charging.residual charging.priced basis
     residual-same side = ap₂ residualOf (rest-same side) (total-same side)
 
     pub remainder-same : (side : Side) → remainder G′ runs′ side ≡ remainder G runs (to side)
-    unfolding remainder
+    unfolding charging.remainder charging.priced basis
     remainder-same side = ap₂ remainderOf (rest-same side) (total-same side)
 
     pub zone-total-same : (side : Side) (zone : ℕ) → zoneTotal G′ runs′ side zone ≡ zoneTotal G runs (to side) zone
-    unfolding zoneTotal
+    unfolding charging.zoneTotal charging.priced basis
     zone-total-same side zone = ap₂ _+ℤ_ (prices side zone) (residual-same side)

@@ -8,7 +8,8 @@ use lib.IntN.{ℤ, pos, negℤ}
 use lib.ListN.{replicate}
 use Rattle.meaning.specs.Rows.{rows}
 use Rattle.meaning.specs.Text.{text}
-use Rattle.meaning.specs.Study.{Circuit, Study, Runs}
+use Rattle.meaning.specs.Study.{Circuit, Study, Runs, runsOf}
+use Rattle.meaning.specs.declared.Background.the-variants.{YearRound}
 use Rattle.meaning.specs.declared.System.{System}
 use Rattle.meaning.specs.declared.System.the-variants.{Base, Wider, Local}
 use Rattle.meaning.specs.declared.Refusal.the-variants.{BadNumber, Unbalanced, MissesTooHigh, DirectionInDoubt}
@@ -35,12 +36,12 @@ abbrev pairOf : (k : ℕ) → Circuit → Study
 pairOf k circuit =
     record {
       settings = record {
-        generationZones = 2;
-        demandZones = 1;
+        «generation_zones» = 2;
+        «demand_zones» = 1;
         p = 270;
         constant = 1007;
-        widerFactor = 1800;
-        localFactor = 1000;
+        «wider_factor» = 1800;
+        «local_factor» = 1000;
         overhead400 = 1000;
         cable400 = 2000;
         overhead275 = 3000;
@@ -61,18 +62,17 @@ pairStudy k mark = pairOf k (record { first = name "A"; second = name "B"; volta
 abbrev pair : (k m : ℕ) → (potential : ℤ) → Settled
 pair k m potential =
     settled (pairStudy k 0)
-    (record {
-      base = pos (1000000 * k + m) ∷ pos 0 ∷ pos (1000000 * k) ∷ [];
-      wider = potential ∷ pos 0 ∷ pos 0 ∷ [];
-      local = pos 0 ∷ pos 0 ∷ pos 0 ∷ [];
-    })
+    (runsOf
+    (pos (1000000 * k + m) ∷ pos 0 ∷ pos (1000000 * k) ∷ [])
+    (potential ∷ pos 0 ∷ pos 0 ∷ [])
+    (pos 0 ∷ pos 0 ∷ pos 0 ∷ []))
 
 -- 10: "Misses summing to 100,000,000 pass; one more is 10."
 passing : pair 200 100000000 (pos 0) ≡ written (text "C 0\nG 1 0 0 0 3650 3650\nG 2 -\nD 1 0 0 0 1350 1350\nL A 0 0\nR 0 0\n") before
 unfolding opened
 passing = refl
 
-missed : pair 200 100000001 (pos 0) ≡ refused (MissesTooHigh Base) before
+missed : pair 200 100000001 (pos 0) ≡ refused (MissesTooHigh (Base YearRound)) before
 unfolding opened
 missed = refl
 
@@ -86,7 +86,7 @@ unfolding opened
 doubt₄₀₀ = refl
 
 -- 11 after 10 of the base, and before 8 of the wider system
-missed-first : pair 201 100000001 (pos 10000000000000001) ≡ refused (MissesTooHigh Base) before
+missed-first : pair 201 100000001 (pos 10000000000000001) ≡ refused (MissesTooHigh (Base YearRound)) before
 unfolding opened
 missed-first = refl
 
@@ -96,7 +96,7 @@ doubt-first = refl
 
 -- 8 and 9 of the base before 11; 11 before 9 and 10 of the wider system, and before 8, 9 and 10 of the local one. The base flow of 201 kW is in doubt throughout
 abbrev doubted : (base wider local : List ℤ) → Judgement
-doubted b w l = proposalsStage (gridOf (pairStudy 201 0)) (record { base = b; wider = w; local = l })
+doubted b w l = proposalsStage (gridOf (pairStudy 201 0)) (runsOf b w l)
 
 abbrev ofBase : (base : List ℤ) → Judgement
 ofBase b = doubted b (pos 0 ∷ pos 0 ∷ pos 0 ∷ []) (pos 0 ∷ pos 0 ∷ pos 0 ∷ [])
@@ -105,7 +105,7 @@ abbrev base₂₀₁ : List ℤ
 base₂₀₁ = pos 201000000 ∷ pos 0 ∷ pos 201000000 ∷ []
 
 beside-eleven : ofBase (pos 201000000 ∷ pos 1 ∷ pos 201000000 ∷ []) ∷ ofBase (pos 300000000 ∷ pos 0 ∷ pos 300000000 ∷ []) ∷ ofBase base₂₀₁ ∷ []
-    ≡ Stops (BadNumber Base 2) ∷ Stops (Unbalanced Base 1) ∷ Stops (DirectionInDoubt 1) ∷ []
+    ≡ Stops (BadNumber (Base YearRound) 2) ∷ Stops (Unbalanced (Base YearRound) 1) ∷ Stops (DirectionInDoubt 1) ∷ []
 unfolding opened
 beside-eleven = refl
 
@@ -126,11 +126,10 @@ directed = refl
 -- the same circuit with a local mark: its 10 m stand in the local solution, and pay a local tariff. By hand: 10 x 1,007 x 1,000 / 100,000 is 100.7, so 101;
 -- 730,000 less 101 x 401 is 689,499, which is 1,719 x 401 + 180; and 270,000 is 673 x 401 + 127
 local-mark : settled (pairStudy 401 1)
-    (record {
-      base = pos 401000000 ∷ pos 0 ∷ pos 401000000 ∷ [];
-      wider = pos 0 ∷ pos 0 ∷ pos 0 ∷ [];
-      local = pos 10000000000 ∷ pos 0 ∷ pos 0 ∷ [];
-    })
+    (runsOf
+    (pos 401000000 ∷ pos 0 ∷ pos 401000000 ∷ [])
+    (pos 0 ∷ pos 0 ∷ pos 0 ∷ [])
+    (pos 10000000000 ∷ pos 0 ∷ pos 0 ∷ []))
     ≡ written (text "C 0\nG 1 0 0 0 1719 1719\nG 2 -\nD 1 0 0 0 673 673\nL A 10 101\nR 180 127\n") before
 unfolding opened
 local-mark = refl
@@ -139,7 +138,7 @@ local-mark = refl
 abbrev lengthAt : (voltage : ℕ) → (first second : String) → (flow : ℤ) → ℤ
 lengthAt voltage first second z =
     let S = pairOf 401 (record { first = name first; second = name second; voltage = voltage; x = 1; overhead = 1; cable = 10; localMark = 0; factor = 0 }) in
-    lengthOf (gridOf S) (record { base = pos 401000000 ∷ pos 0 ∷ z ∷ []; wider = []; local = [] }) 0
+    lengthOf (gridOf S) (runsOf (pos 401000000 ∷ pos 0 ∷ z ∷ []) [] []) 0
 
 lengths : lengthAt 400 "A" "B" (pos 401000000) ∷ lengthAt 275 "A" "B" (pos 401000000) ∷ lengthAt 132 "A" "B" (pos 401000000) ∷ []
     ≡ pos 21000000000 ∷ pos 43000000000 ∷ pos 75000000000 ∷ []
@@ -154,18 +153,18 @@ backward = refl
 abbrev numbers : System → (potential flow : ℤ) → Judgement
 numbers system potential flow =
     let run : List ℤ = potential ∷ pos 0 ∷ flow ∷ [] in
-    rangeStage (networkOf (gridOf (pairStudy 200 0))) (proposed (gridOf (pairStudy 200 0)) (record { base = run; wider = run; local = run }) system)
+    rangeStage (networkOf (gridOf (pairStudy 200 0))) (proposed (gridOf (pairStudy 200 0)) (λ s. run) system)
 
-at-limits : numbers Base (pos 2000000000000000000) (negℤ (pos 100000000000000))
-    ∷ numbers Wider (negℤ (pos 10000000000000000)) (pos 100000000000000)
+at-limits : numbers (Base YearRound) (pos 2000000000000000000) (negℤ (pos 100000000000000))
+    ∷ numbers (Wider YearRound) (negℤ (pos 10000000000000000)) (pos 100000000000000)
     ∷ numbers Local (pos 10000000000000000) (negℤ (pos 100000000000000))
     ∷ []
     ≡ Passes ∷ Passes ∷ Passes ∷ []
 unfolding opened
 at-limits = refl
 
-past-limits : numbers Base (negℤ (pos 2000000000000000001)) (pos 0) ∷ numbers Wider (pos 10000000000000001) (pos 0) ∷ numbers Local (pos 0) (negℤ (pos 100000000000001)) ∷ []
-    ≡ Stops (BadNumber Base 1) ∷ Stops (BadNumber Wider 1) ∷ Stops (BadNumber Local 3) ∷ []
+past-limits : numbers (Base YearRound) (negℤ (pos 2000000000000000001)) (pos 0) ∷ numbers (Wider YearRound) (pos 10000000000000001) (pos 0) ∷ numbers Local (pos 0) (negℤ (pos 100000000000001)) ∷ []
+    ≡ Stops (BadNumber (Base YearRound) 1) ∷ Stops (BadNumber (Wider YearRound) 1) ∷ Stops (BadNumber Local 3) ∷ []
 unfolding opened
 past-limits = refl
 
@@ -179,12 +178,12 @@ abbrev aloneStudy : Study
 aloneStudy =
     record {
       settings = record {
-        generationZones = 1;
-        demandZones = 1;
+        «generation_zones» = 1;
+        «demand_zones» = 1;
         p = 0;
         constant = 1;
-        widerFactor = 1000;
-        localFactor = 1000;
+        «wider_factor» = 1000;
+        «local_factor» = 1000;
         overhead400 = 1000;
         cable400 = 1000;
         overhead275 = 1000;
@@ -199,7 +198,7 @@ aloneStudy =
       stations = stationOf "A" "A" 3 ∷ [];
     }
 
-one-node : settled aloneStudy (record { base = pos 0 ∷ []; wider = pos 0 ∷ []; local = pos 0 ∷ [] })
+one-node : settled aloneStudy (runsOf (pos 0 ∷ []) (pos 0 ∷ []) (pos 0 ∷ []))
     ≡ written (text "C 0\nG 1 0 0 0 0 0\nD 1 0 0 0 0 0\nL A 0 0\nR 0 0\n") before
 unfolding opened
 one-node = refl

@@ -7,6 +7,7 @@ use Prim.Native.Nat.{ℕ}
 use native.Mathlib.Omega.{arith}
 use lib.Dec.{eqb}
 use lib.ListN.{getD}
+use Rattle.meaning.specs.declared.Background.the-variants.{YearRound}
 use Rattle.meaning.specs.declared.System.{System}
 use Rattle.meaning.specs.declared.System.the-variants.{Base, Wider, Local}
 use Rattle.meaning.specs.declared.Refusal.{Refusal}
@@ -16,12 +17,12 @@ use Rattle.meaning.specs.Answers.{systemNumber, refusal, values}
 
 -- the refusal of a number, a system and a row
 systemOf : ℕ → System
-systemOf n = cond (eqb n 1) Base (cond (eqb n 2) Wider Local)
+systemOf n = cond (eqb n 1) (Base YearRound) (cond (eqb n 2) (Wider YearRound) Local)
 
 system-told : (s : System) → systemOf (systemNumber s) ≡ s
 unfolding systemOf systemNumber
-system-told Base = refl
-system-told Wider = refl
+system-told (Base YearRound) = refl
+system-told (Wider YearRound) = refl
 system-told Local = refl
 
 refusalOf : (number system row : ℕ) → Refusal

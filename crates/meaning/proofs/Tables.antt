@@ -11,7 +11,8 @@ use lib.ListN.{length}
 use borrow.Author.Tests.{lt-ltb, le-ltb}
 use Rattle.meaning.specs.Rows.{found}
 use Rattle.meaning.specs.Name.{Name, sameName}
-use Rattle.meaning.specs.Study.{Settings, Node, Study, node, circuit, station}
+use Rattle.meaning.specs.declared.Settings.{Settings}
+use Rattle.meaning.specs.Study.{Node, Study, node, circuit, station}
 use Rattle.meaning.specs.declared.Refusal.the-variants.{BadSetting, BadNode, BadCircuit, BadStation, Unreached, BadTotal, NoChargeableTec}
 use Rattle.meaning.specs.declared.Judgement.the-variants.{Passes}
 use Rattle.meaning.specs.Tables.{seenEarlier, known, soundScales, soundSettings, soundNodeRow, newVoltage, soundVoltage, soundFactor, soundCircuitRow, soundStationRow, soundNode, soundCircuit, soundStation, settingsStage, nodesStage, circuitsStage, stationsStage}

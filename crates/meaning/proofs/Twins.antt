@@ -11,10 +11,12 @@ use lib.ListN.{length, getD, take, drop, length-drop}
 use lib.Seq.{getD-drop}
 use Rattle.meaning.specs.declared.Section.{Section}
 use Rattle.meaning.specs.Rows.{rows}
-use Rattle.meaning.specs.File.{u32, u64, nameAt, sections, trailerSize, circuitSize, recordSize, mostCircuits, versionOf, statedLength, sectionCount, sectionOffset, sectionStart, section, rowAt, table, settingsAt, nodeAt, factorAt, circuitAt, stationAt, studyOf, i64, runIn, runsIn}
+use Rattle.meaning.specs.Study.{runsOf}
+use Rattle.meaning.specs.File.{u32, u64, nameAt, trailerSize, circuitSize, recordSize, mostCircuits, versionOf, statedLength, sectionCount, sectionOffset, sectionStart, section, solutionCount, rowAt, table, settingsAt, nodeAt, factorAt, circuitAt, stationAt, studyOf, i64, runIn, runsIn}
 use Rattle.meaning.specs.Conditions.{InRange, WholeFile}
 use Rattle.meaning.specs.Versions.{EveryCaseInVersionTwo}
 use Rattle.meaning.proofs.Rows.{rows-at, rows-past, rows-same, length-rows}
+use Rattle.meaning.proofs.Whole.{own-lengths}
 use Rattle.meaning.proofs.Frame.{starts-rise, row-inside, file-short, counts}
 
 -- ---- n bytes that are the same in two files, at two places
@@ -320,18 +322,20 @@ module _ (file : List ℕ) (whole : WholeFile file (runsIn file)) (one : version
 
   same-solutions : runsIn file ≡ runsIn twin
   unfolding runsIn
-  same-solutions = λ i. record {
-    base = sym (same-run 4 (record { least = omega arith; most = omega arith })) i;
-    wider = sym (same-run 5 (record { least = omega arith; most = omega arith })) i;
-    local = sym (same-run 6 (record { least = omega arith; most = omega arith })) i;
-  }
+  same-solutions = λ i. runsOf (own 0 (omega arith) i) (own 1 (omega arith) i) (own 2 (omega arith) i)
+    where
+      own : (k : ℕ) → k < 3 → runIn file (4 + k) ≡ runIn twin (4 + k)
+      own k h = sym (same-run (4 + k) (record { least = omega arith; most = omega arith }))
 
   same-first : studyOf twin .settings ≡ studyOf file .settings
   unfolding studyOf sectionStart
   same-first = same-settings (front-at 0 64 (places .front))
 
+  twin-counts : (s : ℕ) → InRange s 4 6 → sectionCount twin s ≡ solutionCount twin
+  twin-counts s r = rw (count-is s (omega (arith, r .most)), count-is 1 (omega arith), count-is 2 (omega arith)) (whole .solutions s r)
+
   twin-whole : WholeFile twin (runsIn twin)
-  unfolding mostCircuits runsIn runIn section
+  unfolding mostCircuits
   twin-whole =
       record {
         long = rw twin-long (omega (arith, whole .long));
@@ -341,13 +345,11 @@ module _ (file : List ℕ) (whole : WholeFile file (runsIn file)) (one : version
         nodes = rw (count-is 1 (omega arith)) (whole .nodes);
         circuits = rw (version-two, count-is 2 (omega arith)) few;
         stations = rw (count-is 3 (omega arith)) (whole .stations);
-        solutions = λ s r. rw (count-is s (omega (arith, r .most)), count-is 1 (omega arith), count-is 2 (omega arith)) (whole .solutions s r);
+        solutions = twin-counts;
         chain = λ s h. offset-is s h ∙ sym (start-is s (omega arith));
         end = rw (start-is 7 (omega arith), twin-long) (omega (arith, whole .end));
         settingsZero = same-u32 (front-at 52 4 (omega (arith, places .front))) ∙ whole .settingsZero;
-        baseRun = length-rows (sectionCount twin 4) _;
-        widerRun = length-rows (sectionCount twin 5) _;
-        localRun = length-rows (sectionCount twin 6) _;
+        lengths = own-lengths twin twin-counts;
       }
 
   -- ---- its bytes are bytes

@@ -5,18 +5,22 @@ use Prim.Native.Nat.{ℕ, suc, _+_, _*_, _-_, _<_}
 use native.Mathlib.Decide.{decLt}
 use native.Mathlib.Omega.{arith}
 use borrow.Author.Tests.{ne-eqb}
+use lib.Dec.{eqb}
 use lib.ListN.{length}
+use Rattle.meaning.specs.Rows.{every}
+use Rattle.meaning.specs.declared.System.{System}
+use Rattle.meaning.specs.declared.Refusal.the-variants.{BadFile}
 use Rattle.meaning.specs.declared.Judgement.{Judgement}
 use Rattle.meaning.specs.declared.Judgement.the-variants.{Passes}
-use Rattle.meaning.specs.Study.{Circuit, Study, Runs, circuit, noCircuit}
-use Rattle.meaning.specs.File.{u32, circuitSize, recordSize, versionOf, sectionStart, section, sectionCount, rowAt, factorAt, circuitAt, runsWhole, studyOf, runsIn}
-use Rattle.meaning.specs.Answers.{_orElse_}
+use Rattle.meaning.specs.Study.{Circuit, Study, Runs, systems, circuit, noCircuit}
+use Rattle.meaning.specs.File.{u32, circuitSize, recordSize, versionOf, sectionStart, section, sectionCount, solutionCount, rowAt, factorAt, circuitAt, runsWhole, studyOf, runsIn}
+use Rattle.meaning.specs.Answers.{_orElse_, unless}
 use Rattle.meaning.specs.Grid.{gridOf}
 use Rattle.meaning.specs.Direction.{ownOr, expandedLength}
 use Rattle.meaning.specs.Systems.{proposalsStage}
 use Rattle.meaning.specs.Sheet.{sheet}
 use Rattle.meaning.specs.Outcome.{fileStage, runsStage, rowsStage, gridStage, tablesStage, judged, sheetOf, bufferStage, answeredBy, answerOf, settledBy, settle, printedBy, prints}
-use Rattle.meaning.specs.Conditions.{InRange, WholeFile}
+use Rattle.meaning.specs.Conditions.{WholeFile}
 use Rattle.meaning.specs.Versions.{SayTheSame, OneCase, OneSheetInEitherVersion, VersionOneByVoltage, FactorLast, NewVoltagesInVersionTwo, OwnFactorForBothLengths, NoFactorNoChange}
 use Rattle.meaning.proofs.Rows.{length-rows, rows-at, rows-past}
 use Rattle.meaning.proofs.Answers.{passes-orElse, orElse-passes}
@@ -32,31 +36,30 @@ module _ (file file′ : List ℕ) (same : SayTheSame file file′) where
   passes : (f : List ℕ) → WholeFile f (runsIn f) → fileStage f ≡ Passes
   passes f w = passes-orElse _ _ .0 (judge-file f (runsIn f) .passes .1 (w, tt)) .0
 
-  -- "count is nodes plus circuits": each solution of both files has as many numbers
-  numbers : (f : List ℕ) → WholeFile f (runsIn f) → (s : ℕ) → InRange s 4 6 → sectionCount f s ≡ length (studyOf f .nodes) + length (studyOf f .circuits)
-  numbers f w s r = let c = counts f (runsIn f) w in omega (arith, w .solutions s r, c .0, c .1)
+  -- "count is nodes plus circuits": the solutions of both files have as many numbers
+  numbers : (f : List ℕ) → WholeFile f (runsIn f) → solutionCount f ≡ length (studyOf f .nodes) + length (studyOf f .circuits)
+  numbers f w = let c = counts f (runsIn f) w in omega (arith, c .0, c .1)
 
-  same-count : (s : ℕ) → InRange s 4 6 → sectionCount file s ≡ sectionCount file′ s
-  same-count s r = numbers file (same .whole) s r ∙ ap (λ (S : Study). length (S .nodes) + length (S .circuits)) same-study ∙ sym (numbers file′ (same .otherWhole) s r)
+  same-count : solutionCount file ≡ solutionCount file′
+  same-count = numbers file (same .whole) ∙ ap (λ (S : Study). length (S .nodes) + length (S .circuits)) same-study ∙ sym (numbers file′ (same .otherWhole))
 
-  same-runs : (b w l : ℕ) → runsStage file b w l ≡ runsStage file′ b w l
+  same-runs : (long : System → ℕ) → runsStage file long ≡ runsStage file′ long
   unfolding runsStage runsWhole
-  same-runs b w l =
-      rw (same-count 4 (record { least = omega arith; most = omega arith }), same-count 5 (record { least = omega arith; most = omega arith }), same-count 6 (record { least = omega arith; most = omega arith })) refl
+  same-runs long = ap (λ (n : ℕ). unless (every (λ s. eqb (long s) n) systems) BadFile) same-count
 
   abbrev judgedBy : (stage : Judgement) → Study → Runs → Judgement
   judgedBy stage S runs = (stage orElse rowsStage S orElse gridStage (gridOf S)) orElse proposalsStage (gridOf S) runs
 
   -- what the file itself asks has passed
   judged-whole : (f : List ℕ) (runs : Runs) → WholeFile f (runsIn f)
-      → judged f runs ≡ judgedBy (runsStage f (length (runs .base)) (length (runs .wider)) (length (runs .local))) (studyOf f) runs
+      → judged f runs ≡ judgedBy (runsStage f (λ s. length (runs s))) (studyOf f) runs
   unfolding judged tablesStage
   judged-whole f runs w = ap (λ (a : Judgement). a orElse proposalsStage (gridOf (studyOf f)) runs) (orElse-passes _ (passes f w))
 
   judged-alike : (runs : Runs) → judged file runs ≡ judged file′ runs
   judged-alike runs =
       judged-whole file runs (same .whole)
-      ∙ ap₂ (λ (a : Judgement) (S : Study). judgedBy a S runs) (same-runs (length (runs .base)) (length (runs .wider)) (length (runs .local))) same-study
+      ∙ ap₂ (λ (a : Judgement) (S : Study). judgedBy a S runs) (same-runs (λ s. length (runs s))) same-study
       ∙ sym (judged-whole file′ runs (same .otherWhole))
 
   same-sheet : (runs : Runs) → sheetOf file runs ≡ sheetOf file′ runs

@@ -1,25 +1,29 @@
 -- The two stages of refusal 1 judge whether the file is whole.
-use mathlib.Core.Path.{_≡_}
+use mathlib.Core.Path.{_≡_, _∙_}
 use mathlib.Core.List.{List, [], _∷_}
 use mathlib.Core.Bool.{Bool, true, _&&_}
 use Prim.Native.Nat.{ℕ, _+_, _-_, _≤_}
 use native.Mathlib.Omega.{arith}
-use lib.ListN.{length}
+use lib.IntN.{pos}
+use lib.ListN.{length, replicate, length-replicate}
 use Rattle.meaning.specs.Study.{Runs}
-use Rattle.meaning.specs.File.{sectionCount, section, counted, chained, fileWhole, runsWhole, runIn, runsIn}
+use Rattle.meaning.specs.File.{sectionCount, section, solutionCount, counted, chained, fileWhole, runsWhole, runIn, runsIn}
+use Rattle.meaning.specs.declared.System.{System}
+use Rattle.meaning.specs.declared.System.the-variants.{Base, Wider, Local}
 use Rattle.meaning.specs.declared.Refusal.the-variants.{BadFile}
 use Rattle.meaning.specs.Answers.{_orElse_}
 use Rattle.meaning.specs.Outcome.{fileStage, runsStage}
-use Rattle.meaning.specs.Conditions.{WholeFile}
+use Rattle.meaning.specs.Conditions.{InRange, WholeFile}
 use Rattle.meaning.specs.Refusals.{whole}
 use Rattle.meaning.proofs.Says.{Says, says-as, _also_, says-true, says-le, says-eq, says-between, says-all}
+use Rattle.meaning.proofs.Systems.{says-systems}
 use Rattle.meaning.proofs.Rows.{length-rows}
 use Rattle.meaning.proofs.Answers.{unless-both}
 use Rattle.meaning.proofs.Order.{Judges, judges-whole}
 
 -- both tests of 1 together
 abbrev wholeTest : List ℕ → Runs → Bool
-wholeTest file runs = fileWhole file && runsWhole file (length (runs .base)) (length (runs .wider)) (length (runs .local))
+wholeTest file runs = fileWhole file && runsWhole file (λ s. length (runs s))
 
 says-whole : (file : List ℕ) (runs : Runs) → Says (wholeTest file runs) (WholeFile file runs)
 unfolding fileWhole runsWhole counted chained
@@ -29,7 +33,7 @@ says-whole file runs =
     also (says-eq also says-between also says-le also says-le also says-all 3 (λ k. says-eq))
     also (says-all 7 (λ k. says-eq) also says-eq)
     also says-eq
-    also (says-eq also says-eq also says-eq)) (
+    also says-systems (λ s. says-eq)) (
       λ t. record {
         long = t .0 .0 .0 .0 .0 .0;
         version = t .0 .0 .0 .0 .0 .1;
@@ -42,9 +46,7 @@ says-whole file runs =
         chain = t .0 .0 .1 .0;
         end = t .0 .0 .1 .1;
         settingsZero = t .0 .1;
-        baseRun = t .1 .0 .0;
-        widerRun = t .1 .0 .1;
-        localRun = t .1 .1;
+        lengths = t .1;
       },
       λ w. (
         (
@@ -57,27 +59,33 @@ says-whole file runs =
           ),
           w .settingsZero,
         ),
-        ((w .baseRun, w .widerRun), w .localRun),
+        w .lengths,
       ),
     )
   where
     four : (s : ℕ) → 4 ≤ s → 4 + (s - 4) ≡ s
     four s h = omega arith
 
--- a file's own solutions have its lengths, so of the file alone it is the first test
-own-runs : (file : List ℕ) → runsWhole file (length (runsIn file .base)) (length (runsIn file .wider)) (length (runsIn file .local)) ≡ true
-unfolding runsWhole runsIn runIn section
-own-runs file =
-    (says-eq also says-eq also says-eq) .1
-    ((length-rows (sectionCount file 4) _, length-rows (sectionCount file 5) _), length-rows (sectionCount file 6) _)
+whole-with : (file : List ℕ) (runs : Runs) → fileWhole file ≡ true → ((s : System) → length (runs s) ≡ solutionCount file) → WholeFile file runs
+unfolding runsWhole
+whole-with file runs e h = says-whole file runs .0 ((says-true _ also says-systems (λ s. says-eq)) .1 (e, h))
+
+-- a file's own solutions have the lengths that it counts, so of the file alone it is the first test
+pub own-lengths : (file : List ℕ) → ((section : ℕ) → InRange section 4 6 → sectionCount file section ≡ solutionCount file) → (s : System) → length (runsIn file s) ≡ solutionCount file
+unfolding runsIn runIn section
+own-lengths file h (Base b) = length-rows (sectionCount file 4) _ ∙ h 4 (record { least = omega arith; most = omega arith })
+own-lengths file h (Wider b) = length-rows (sectionCount file 5) _ ∙ h 5 (record { least = omega arith; most = omega arith })
+own-lengths file h Local = length-rows (sectionCount file 6) _ ∙ h 6 (record { least = omega arith; most = omega arith })
 
 pub whole-file : (file : List ℕ) → fileWhole file ≡ true → WholeFile file (runsIn file)
-whole-file file e = says-whole file (runsIn file) .0 ((says-true _ also says-true _) .1 (e, own-runs file))
+whole-file file e =
+    let w = whole-with file (λ s. replicate (solutionCount file) (pos 0)) e (λ s. length-replicate (solutionCount file) (pos 0)) in
+    whole-with file (runsIn file) e (own-lengths file (w .solutions))
 
 pub whole-true : (file : List ℕ) (runs : Runs) → WholeFile file runs → fileWhole file ≡ true
 whole-true file runs w = (says-true _ also says-true _) .0 (says-whole file runs .1 w) .0
 
 pub judge-file : (file : List ℕ) (runs : Runs)
-    → Judges (fileStage file orElse runsStage file (length (runs .base)) (length (runs .wider)) (length (runs .local))) (whole (WholeFile file runs) BadFile ∷ [])
+    → Judges (fileStage file orElse runsStage file (λ s. length (runs s))) (whole (WholeFile file runs) BadFile ∷ [])
 unfolding fileStage runsStage
-judge-file file runs = rw (unless-both (fileWhole file) (runsWhole file (length (runs .base)) (length (runs .wider)) (length (runs .local))) BadFile) (judges-whole BadFile (says-whole file runs))
+judge-file file runs = rw (unless-both (fileWhole file) (runsWhole file (λ s. length (runs s))) BadFile) (judges-whole BadFile (says-whole file runs))

@@ -14,8 +14,8 @@ use Rattle.meaning.specs.declared.Answer.the-variants.{Accepted, Refused
 
 -- 01, Order: "system 1 (base)", "system 2 (wider)", "3 (local)"
 unfoldable pub systemNumber : System → ℕ
-systemNumber Base = 1
-systemNumber Wider = 2
+systemNumber (Base b) = 1
+systemNumber (Wider b) = 2
 systemNumber Local = 3
 
 -- "Every refusal carries sheet length 0"

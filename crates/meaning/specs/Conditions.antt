@@ -6,8 +6,9 @@ use Prim.Native.Nat.{ℕ, _+_, _≤_, _<_}
 use lib.IntN.{ℤ, pos, natAbs, _-ℤ_}
 use lib.ListN.{length, getD}
 use Rattle.meaning.specs.Name.{Name}
-use Rattle.meaning.specs.Study.{Settings, Circuit, Study, Runs, node, circuit, station}
-use Rattle.meaning.specs.File.{u32, sections, trailerSize, mostCircuits, versionOf, statedLength, sectionOffset, sectionCount, sectionStart, studyOf}
+use Rattle.meaning.specs.declared.Settings.{Settings}
+use Rattle.meaning.specs.Study.{Circuit, Study, Runs, node, circuit, station}
+use Rattle.meaning.specs.File.{u32, sections, trailerSize, mostCircuits, versionOf, statedLength, sectionOffset, sectionCount, sectionStart, solutionCount, studyOf}
 use Rattle.meaning.specs.declared.System.{System}
 use Rattle.meaning.specs.Grid.{Grid, gridOf, totalDemand, totalTec, totalPayingTec}
 use Rattle.meaning.specs.Network.{Network, networkOf, Reached}
@@ -30,13 +31,11 @@ pub record WholeFile (file : List ℕ) (runs : Runs) : Type 0 where
   pub nodes : InRange (sectionCount file 1) 1 256
   pub circuits : sectionCount file 2 ≤ mostCircuits (versionOf file)
   pub stations : sectionCount file 3 ≤ 512
-  pub solutions : (section : ℕ) → InRange section 4 6 → sectionCount file section ≡ sectionCount file 1 + sectionCount file 2
+  pub solutions : (section : ℕ) → InRange section 4 6 → sectionCount file section ≡ solutionCount file
   pub chain : (section : ℕ) → section < sections → sectionOffset file section ≡ sectionStart file section
   pub end : sectionStart file sections + trailerSize ≡ length file
   pub settingsZero : u32 file 52 ≡ 0
-  pub baseRun : length (runs .base) ≡ sectionCount file 4
-  pub widerRun : length (runs .wider) ≡ sectionCount file 5
-  pub localRun : length (runs .local) ≡ sectionCount file 6
+  pub lengths : (system : System) → length (runs system) ≡ solutionCount file
 
 -- "1 to 12 of A-Z, 0-9 and underscore, then spaces to 12"
 pub record WellFormed (name : Name) : Type 0 where
@@ -49,12 +48,12 @@ pub record WellFormed (name : Name) : Type 0 where
 
 -- not 2
 pub record SoundSettings (nodes : ℕ) (s : Settings) : Type 0 where
-  pub generationZones : InRange (s .generationZones) 1 32
-  pub demandZones : InRange (s .demandZones) 1 32
+  pub generationZones : InRange (s .«generation_zones») 1 32
+  pub demandZones : InRange (s .«demand_zones») 1 32
   pub p : s .p ≤ 1000
   pub constant : InRange (s .constant) 1 10000
-  pub widerFactor : InRange (s .widerFactor) 1000 5000
-  pub localFactor : InRange (s .localFactor) 1000 5000
+  pub widerFactor : InRange (s .«wider_factor») 1000 5000
+  pub localFactor : InRange (s .«local_factor») 1000 5000
   pub overhead400 : s .overhead400 ≡ 1000
   pub cable400 : InRange (s .cable400) 1000 30000
   pub overhead275 : InRange (s .overhead275) 1000 30000
@@ -67,8 +66,8 @@ pub record SoundSettings (nodes : ℕ) (s : Settings) : Type 0 where
 -- not 3 at row i
 pub record SoundNode (S : Study) (i : ℕ) : Type 0 where
   pub name : WellFormed (node (S .nodes) i .name)
-  pub generationZone : InRange (node (S .nodes) i .generationZone) 1 (S .settings .generationZones)
-  pub demandZone : InRange (node (S .nodes) i .demandZone) 1 (S .settings .demandZones)
+  pub generationZone : InRange (node (S .nodes) i .generationZone) 1 (S .settings .«generation_zones»)
+  pub demandZone : InRange (node (S .nodes) i .demandZone) 1 (S .settings .«demand_zones»)
   pub demand : node (S .nodes) i .demand ≤ 20000000
   pub new : (j : ℕ) → j < i → node (S .nodes) j .name ≢ node (S .nodes) i .name
 

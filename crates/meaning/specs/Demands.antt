@@ -12,6 +12,7 @@ use Rattle.meaning.specs.Study.{Circuit, Station, Study, Runs, circuit}
 use Rattle.meaning.specs.File.{studyOf}
 use Rattle.meaning.specs.declared.Side.{Side}
 use Rattle.meaning.specs.declared.Side.the-variants.{Generation, Demand}
+use Rattle.meaning.specs.declared.Background.the-variants.{YearRound}
 use Rattle.meaning.specs.declared.System.{System}
 use Rattle.meaning.specs.declared.System.the-variants.{Base, Wider, Local}
 use Rattle.meaning.specs.declared.Values.{Values}
@@ -22,8 +23,9 @@ use Rattle.meaning.specs.Answers.{values, refusal}
 use Rattle.meaning.specs.Grid.{Grid, gridOf, capacityOf, nodeTec, payingTec, totalTec, totalDemand}
 use Rattle.meaning.specs.Direction.{direction}
 use Rattle.meaning.specs.Proposal.{potential}
-use Rattle.meaning.specs.Systems.{baseFlow, runOf}
-use Rattle.meaning.specs.Figures.{residualOf, remainderOf, zones, zoneWeight, totalPaying, overZones, target, zonalMetres, C, afterC, zoneTariff, localTariff, rest, residual, remainder}
+use Rattle.meaning.specs.Systems.{baseFlow}
+use Rattle.meaning.specs.Charging.{residualOf, remainderOf}
+use Rattle.meaning.specs.Figures.{zones, zoneWeight, totalPaying, overZones, target, zonalMetres, C, afterC, zoneTariff, localTariff, rest, residual, remainder}
 use Rattle.meaning.specs.Outcome.{sheetOf, answerOf, refused, written, settle}
 use Rattle.meaning.specs.Read.{field, readWhole, hasLetter, lineAt, sideIncome, printedIncome, printedRemainder}
 use Rattle.meaning.specs.Sheet.{letter}
@@ -34,8 +36,8 @@ use Rattle.meaning.specs.Refusals.{AllMet, rowsOrder, Stopped}
 -- ---- demand 1
 -- "system 1 (base)", "system 2 (wider)", "3 (local)"
 pub data SystemListed : System → ℕ → Type 0 where
-  base : SystemListed Base 1
-  wider : SystemListed Wider 2
+  base : SystemListed (Base YearRound) 1
+  wider : SystemListed (Wider YearRound) 2
   local : SystemListed Local 3
 
 -- 01's table of what stops a case and 02's numbers, for a study of n nodes, m circuits and k stations: what each refusal carries
@@ -179,7 +181,7 @@ SameDirections Kind S S′ runs runs′ =
 pub record Agree (S : Study) (runs runs′ : Runs) (sheet sheet′ : List ℕ) : Type 0 where
   pub directions : SameDirections HasLength S S runs runs′
   pub potentials : (system : System) (v : ℕ) → v < length (S .nodes)
-      → natAbs (potential (runOf runs system) v -ℤ potential (runOf runs′ system) v) ≤ 200000000
+      → natAbs (potential (runs system) v -ℤ potential (runs′ system) v) ≤ 200000000
   -- "each node's wider and local marginal distance differs by at most one metre"
   pub distances : DistancesWithin 1 (gridOf S) (gridOf S) runs runs′ sheet sheet′
   pub sheets : runs ≡ runs′ → sheet ≡ sheet′

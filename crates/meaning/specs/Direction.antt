@@ -6,7 +6,8 @@ use lib.IntN.{ℤ, pos, negℤ, natAbs}
 use lib.Signed.{nonNeg}
 use Rattle.meaning.specs.declared.Direction.{Direction}
 use Rattle.meaning.specs.declared.Direction.the-variants.{Idle, Forward, Backward, InDoubt}
-use Rattle.meaning.specs.Study.{Settings, Circuit}
+use Rattle.meaning.specs.declared.Settings.{Settings}
+use Rattle.meaning.specs.Study.{Circuit}
 
 -- the factors of a voltage, in thousandths; a new one has none, and takes those of 132 in no sound row
 unfoldable pub overheadFactor : Settings → (voltage : ℕ) → ℕ

@@ -8,9 +8,10 @@ use lib.Dec.{eqb}
 use lib.IntN.{natAbs, _-ℤ_}
 use lib.ListN.{length}
 use Rattle.meaning.specs.declared.Side.{Side}
-use Rattle.meaning.specs.Study.{Kw, Metres, Runs}
+use Rattle.meaning.specs.declared.System.{System}
+use Rattle.meaning.specs.Study.{Kw, Metres, Runs, OfDistances}
 use Rattle.meaning.specs.Grid.{Grid}
-use Rattle.meaning.specs.Figures.{widerMetres, localMetres, zoneOf, weight}
+use Rattle.meaning.specs.Figures.{metresBy, zoneOf, weight}
 use Rattle.meaning.specs.Text.{text}
 use Rattle.meaning.specs.Sheet.{letter}
 use Rattle.meaning.specs.Read.{field, readNatural, readWhole, hasLetter, lineAt}
@@ -41,8 +42,7 @@ pub record OfNode (G : Grid) (side : Side) (v : ℕ) (line : List ℕ) : Type 0 
 
 -- every nodal distance of two cases with the same nodes differs by at most m metres, and so do those that their sheets show, wherever the lines stand
 pub record DistancesWithin (m : ℕ) (G G′ : Grid) (runs runs′ : Runs) (sheet sheet′ : List ℕ) : Type 0 where
-  pub wider : (v : ℕ) → v < length (G .nodes) → apart (widerMetres runs v) (widerMetres runs′ v) ≤ m
-  pub local : (v : ℕ) → v < length (G .nodes) → apart (localMetres runs v) (localMetres runs′ v) ≤ m
+  pub nodal : (s : System) → OfDistances s → (v : ℕ) → v < length (G .nodes) → apart (metresBy s runs v) (metresBy s runs′ v) ≤ m
   pub localLines : (k k′ : ℕ) → OfOneName (lineAt k sheet) (lineAt k′ sheet′) → apart (shownMetres (lineAt k sheet)) (shownMetres (lineAt k′ sheet′)) ≤ m
   pub zoneLines : (side : Side) (v k k′ : ℕ) → v < length (G .nodes) → OfNode G side v (lineAt k sheet) → OfNode G′ side v (lineAt k′ sheet′)
       → apart (shownMetres (lineAt k sheet)) (shownMetres (lineAt k′ sheet′)) ≤ m

@@ -10,7 +10,7 @@ use Rattle.meaning.specs.Scaled.{scaled}
 use Rattle.meaning.specs.declared.Direction.{Direction}
 use Rattle.meaning.specs.declared.Direction.the-variants.{Idle, Backward, InDoubt}
 use Rattle.meaning.specs.Direction.{direction}
-use Rattle.meaning.specs.Figures.{metres, tariff, residualOf, remainderOf}
+use Rattle.meaning.specs.Charging.{metres, tariff, residualOf, remainderOf}
 
 -- what a row says, input before result
 pub data Edge : Type 0 where

@@ -1,51 +1,42 @@
--- 01, steps 6 to 10, from the grid and the proposals. Generation and demand are two sides with the same steps.
-use mathlib.Core.Bool.{cond}
-use Prim.Native.Nat.{ℕ, suc, _+_, _*_, _-_}
-use lib.Dec.{eqb}
-use lib.IntN.{ℤ, pos, negℤ, _+ℤ_, _-ℤ_, _*ℤ_}
+-- 01, steps 6 to 10 of a case: what `Charging` asks, from the grid and the proposals. Generation and demand are two sides with the same steps.
+use Prim.Native.Nat.{ℕ}
+use lib.IntN.{ℤ, pos}
 use lib.ListN.{length}
-use Rattle.integers.specs.Numbers.{sum, Σ, floorDiv, nearest}
+use Rattle.integers.specs.Numbers.{sum}
 use Rattle.meaning.specs.declared.Side.{Side}
 use Rattle.meaning.specs.declared.Side.the-variants.{Generation, Demand}
-use Rattle.meaning.specs.Study.{Kw, Metres, MicroPerKw, Settings, Runs, node}
+use Rattle.meaning.specs.declared.ZoneFigures.{ZoneFigures}
+use Rattle.meaning.specs.declared.LocalFigures.{LocalFigures}
+use Rattle.meaning.specs.declared.Background.the-variants.{YearRound}
+use Rattle.meaning.specs.declared.System.{System}
+use Rattle.meaning.specs.declared.System.the-variants.{Wider, Local}
+use Rattle.meaning.specs.Study.{Kw, Metres, MicroPerKw, Runs, node}
 use Rattle.meaning.specs.Grid.{Grid, nodeTec, payingTec, nodeDemand}
 use Rattle.meaning.specs.Proposal.{potential}
+use Rattle.meaning.specs.Charging.{metres, turned, inZone, weighedIn, averageOf, targetOf, Basis, Priced}
+use Rattle.meaning.specs.Charging as charging
 
--- step 6 (CUSC 14.15.4, 14.15.13): "the nearest of potential / 1,000,000,000"
-unfoldable pub metres : (nanometres : ℤ) → Metres
-metres nanometres = nearest nanometres 1000000000
+-- step 6: metres of node v by a system of distances, the wider and the local one
+abbrev pub metresBy : System → Runs → ℕ → Metres
+metresBy s runs v = metres (potential (runs s) v)
 
--- step 9 (CUSC 14.15.60, 14.15.61): "the nearest of metres x constant x security factor / 100,000"
-unfoldable pub tariff : Metres → (constant factor : ℕ) → MicroPerKw
-tariff m constant factor = nearest (m *ℤ pos constant *ℤ pos factor) 100000
-
--- step 10 (CUSC 14.22(vi), 14.23(v)): "rest / total kW rounded down (also below zero)", and "what is left"
-unfoldable pub residualOf : (rest : ℤ) → Kw → MicroPerKw
-residualOf rest kw = floorDiv rest kw
-
-unfoldable pub remainderOf : (rest : ℤ) → Kw → ℤ
-remainderOf rest kw = rest -ℤ residualOf rest kw *ℤ pos kw
-
--- step 6: metres of node v, wider and local
 unfoldable pub widerMetres : Runs → ℕ → Metres
-widerMetres runs v = metres (potential (runs .wider) v)
+widerMetres = metresBy (Wider YearRound)
 
 unfoldable pub localMetres : Runs → ℕ → Metres
-localMetres runs v = metres (potential (runs .local) v)
+localMetres = metresBy Local
 
--- step 6 (CUSC 14.15.13): "A demand node's distance is the negative of its rounded wider one"
+-- (CUSC 14.15.13) its distance on a side
 unfoldable pub distance : Runs → Side → ℕ → Metres
-distance runs Generation v = widerMetres runs v
-distance runs Demand v = negℤ (widerMetres runs v)
+distance runs side v = turned side (widerMetres runs v)
 
 module _ (G : Grid) where
-  open Grid G using (nodes)
-  open Settings (G .settings) using (generationZones, demandZones, p, constant, widerFactor, localFactor, revenue)
+  open Grid G using (settings, nodes)
 
   -- zones 1, 2, .. of a side, and the zone of node v
   unfoldable pub zones : Side → ℕ
-  zones Generation = generationZones
-  zones Demand = demandZones
+  zones Generation = settings .«generation_zones»
+  zones Demand = settings .«demand_zones»
 
   unfoldable pub zoneOf : Side → ℕ → ℕ
   zoneOf Generation v = node nodes v .generationZone
@@ -63,63 +54,72 @@ module _ (G : Grid) where
 
   -- the same of a zone, and in all
   unfoldable pub zoneWeight : Side → ℕ → Kw
-  zoneWeight side zone = sum (length nodes) (λ v. cond (eqb (zoneOf side v) zone) (weight side v) 0)
+  zoneWeight side = inZone (length nodes) (zoneOf side) (weight side)
 
   unfoldable pub zonePaying : Side → ℕ → Kw
-  zonePaying side zone = sum (length nodes) (λ v. cond (eqb (zoneOf side v) zone) (paying side v) 0)
+  zonePaying side = inZone (length nodes) (zoneOf side) (paying side)
 
   unfoldable pub totalPaying : Side → Kw
   totalPaying side = sum (length nodes) (paying side)
 
   -- a price or a distance of each zone, times the kilowatts that pay, over the zones of a side
-  unfoldable pub overZones : Side → (ℕ → ℤ) → ℤ
-  overZones side f = Σ (zones side) (λ k. f (suc k) *ℤ pos (zonePaying side (suc k)))
+  abbrev pub overZones : Side → (ℕ → ℤ) → ℤ
+  overZones side = charging.overZones (zones side) (zonePaying side)
 
   -- step 10: targets in micro-pounds
-  unfoldable pub target : Side → ℤ
-  target Generation = pos (revenue * (1000 - p) * 1000)
-  target Demand = pos (revenue * p * 1000)
+  abbrev pub target : Side → ℤ
+  target side = pos (targetOf side (settings .p) (settings .revenue))
 
   module _ (runs : Runs) where
-    -- step 7 (CUSC 14.22(ii), 14.23(ii)): "the nearest of the average over the zone's nodes"
+    -- step 7: zonal metres
     unfoldable pub zonalMetres : Side → ℕ → Metres
-    zonalMetres side zone =
-        nearest (Σ (length nodes) (λ v. cond (eqb (zoneOf side v) zone) (distance runs side v *ℤ pos (weight side v)) (pos 0)))
-        (zoneWeight side zone)
+    zonalMetres side zone = averageOf (weighedIn (length nodes) (zoneOf side) (distance runs side) (weight side) zone) (zoneWeight side zone)
 
-    -- step 8 (CUSC 14.15.63, 14.15.64): "C is the nearest of" what demand's and generation's zones bring, by their shares of the revenue
-    unfoldable pub C : Metres
-    C =
-        nearest (pos (1000 - p) *ℤ overZones Demand (zonalMetres Demand) -ℤ pos p *ℤ overZones Generation (zonalMetres Generation))
-        (p * totalPaying Generation + (1000 - p) * totalPaying Demand)
+    -- what steps 8 to 10 ask
+    unfoldable pub basis : Basis
+    basis =
+        record {
+          settings = settings;
+          side = λ side. record { count = zones side; weight = zoneWeight side; paying = zonePaying side; metres = zonalMetres side; total = totalPaying side };
+          nodes = length nodes;
+          tec = nodeTec G;
+          paying = payingTec G;
+          local = localMetres runs;
+        }
 
-    -- "Generation zones add C, demand zones subtract it."
-    unfoldable pub afterC : Side → ℕ → Metres
-    afterC Generation zone = zonalMetres Generation zone +ℤ C
-    afterC Demand zone = zonalMetres Demand zone -ℤ C
+    -- and what they answer, by name
+    abbrev pub C : Metres
+    C = charging.C basis
 
-    -- step 9 (CUSC 14.15.65): "Local tariffs use the node's local metres and the local factor, without C."
-    unfoldable pub zoneTariff : Side → ℕ → MicroPerKw
-    zoneTariff side zone = tariff (afterC side zone) constant widerFactor
+    abbrev pub localTariff : (v : ℕ) → MicroPerKw
+    localTariff = charging.localTariff basis
 
-    unfoldable pub localTariff : ℕ → MicroPerKw
-    localTariff v = tariff (localMetres runs v) constant localFactor
+    abbrev pub localIncome : Side → ℤ
+    localIncome = charging.localIncome basis
 
-    -- step 10 (CUSC 14.15.72): "node local tariffs times TEC", of the TEC that pays; demand has none
-    unfoldable pub localIncome : Side → ℤ
-    localIncome Generation = Σ (length nodes) (λ v. localTariff v *ℤ pos (payingTec G v))
-    localIncome Demand = pos 0
+    abbrev pub localFigures : (v : ℕ) → LocalFigures
+    localFigures = charging.localFigures basis
 
-    -- "its target less wider income (zone tariffs times TEC) and local income"
-    unfoldable pub rest : Side → ℤ
-    rest side = target side -ℤ overZones side (zoneTariff side) -ℤ localIncome side
+    abbrev pub priced : Side → Priced
+    priced = charging.priced basis
 
-    unfoldable pub residual : Side → MicroPerKw
-    residual side = residualOf (rest side) (totalPaying side)
+    abbrev pub afterC : Side → (zone : ℕ) → Metres
+    afterC side = charging.afterC (priced side)
 
-    unfoldable pub remainder : Side → ℤ
-    remainder side = remainderOf (rest side) (totalPaying side)
+    abbrev pub zoneTariff : Side → (zone : ℕ) → MicroPerKw
+    zoneTariff side = charging.zoneTariff (priced side)
 
-    -- step 10 (CUSC 14.22(vii), 14.23(vi)): "A zone's total is its tariff plus the residual."
-    unfoldable pub zoneTotal : Side → ℕ → MicroPerKw
-    zoneTotal side zone = zoneTariff side zone +ℤ residual side
+    abbrev pub rest : Side → ℤ
+    rest side = charging.rest (priced side)
+
+    abbrev pub residual : Side → MicroPerKw
+    residual side = charging.residual (priced side)
+
+    abbrev pub remainder : Side → ℤ
+    remainder side = charging.remainder (priced side)
+
+    abbrev pub zoneTotal : Side → (zone : ℕ) → MicroPerKw
+    zoneTotal side = charging.zoneTotal (priced side)
+
+    abbrev pub zoneFigures : Side → (zone : ℕ) → ZoneFigures
+    zoneFigures side = charging.zoneFigures (priced side)

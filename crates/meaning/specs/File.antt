@@ -5,10 +5,12 @@ use Prim.Native.Nat.{ℕ, zero, suc, _+_, _*_, _-_, _^_}
 use lib.Dec.{eqb, leb, ltb}
 use lib.IntN.{ℤ, pos, negsuc}
 use lib.ListN.{length, getD, take, drop}
-use Rattle.meaning.specs.Rows.{_between_and_, all, rows}
+use Rattle.meaning.specs.Rows.{_between_and_, all, every, rows}
 use Rattle.meaning.specs.declared.Section.{Section}
+use Rattle.meaning.specs.declared.System.{System}
 use Rattle.meaning.specs.Name.{Name}
-use Rattle.meaning.specs.Study.{Settings, Node, Circuit, Station, Study, Runs}
+use Rattle.meaning.specs.declared.Settings.{Settings}
+use Rattle.meaning.specs.Study.{Node, Circuit, Station, Study, Runs, runsOf, systems}
 
 -- "Little-endian": the fields at a place
 unfoldable pub u32 : List ℕ → ℕ → ℕ
@@ -75,12 +77,16 @@ table row s = rows (s .count) (λ i. row (rowAt s i))
 unfoldable pub chained : List ℕ → Bool
 chained file = all (λ s. eqb (sectionOffset file s) (sectionStart file s)) sections && eqb (sectionStart file sections + trailerSize) (length file)
 
--- Quantities: rows 1..256, 0..512 (480), 0..512; a solution's "count is nodes plus circuits"
+-- a solution's "count is nodes plus circuits"
+abbrev pub solutionCount : List ℕ → ℕ
+solutionCount file = sectionCount file 1 + sectionCount file 2
+
+-- Quantities: rows 1..256, 0..512 (480), 0..512
 unfoldable pub counted : List ℕ → Bool
 counted file =
     eqb (sectionCount file 0) 1 && sectionCount file 1 between 1 and 256 && leb (sectionCount file 2) (mostCircuits (versionOf file))
     && leb (sectionCount file 3) 512
-    && all (λ k. eqb (sectionCount file (4 + k)) (sectionCount file 1 + sectionCount file 2)) 3
+    && all (λ k. eqb (sectionCount file (4 + k)) (solutionCount file)) 3
 
 -- not refused as 1, for what the file says: length, version, counts, chain, the settings' zero
 unfoldable pub fileWhole : List ℕ → Bool
@@ -88,20 +94,19 @@ fileWhole file =
     leb 128 (length file) && versionOf file between 1 and 2 && eqb (statedLength file) (length file) && counted file && chained file
     && eqb (u32 file 52) 0
 
--- not refused as 1, for the lengths of the three runs: "A run of another length is refused as 1."
-unfoldable pub runsWhole : List ℕ → (base wider local : ℕ) → Bool
-runsWhole file base wider local =
-    eqb base (sectionCount file 4) && eqb wider (sectionCount file 5) && eqb local (sectionCount file 6)
+-- not refused as 1, for the lengths of the runs: "A run of another length is refused as 1."
+unfoldable pub runsWhole : List ℕ → (long : System → ℕ) → Bool
+runsWhole file long = every (λ s. eqb (long s) (solutionCount file)) systems
 
 unfoldable pub settingsAt : List ℕ → ℕ → Settings
 settingsAt file at =
     record {
-      generationZones = u32 file at;
-      demandZones = u32 file (at + 4);
+      «generation_zones» = u32 file at;
+      «demand_zones» = u32 file (at + 4);
       p = u32 file (at + 8);
       constant = u32 file (at + 12);
-      widerFactor = u32 file (at + 16);
-      localFactor = u32 file (at + 20);
+      «wider_factor» = u32 file (at + 16);
+      «local_factor» = u32 file (at + 20);
       overhead400 = u32 file (at + 24);
       cable400 = u32 file (at + 28);
       overhead275 = u32 file (at + 32);
@@ -155,4 +160,4 @@ unfoldable pub runIn : List ℕ → (section : ℕ) → List ℤ
 runIn file s = table (i64 file) (section file s)
 
 unfoldable pub runsIn : List ℕ → Runs
-runsIn file = record { base = runIn file 4; wider = runIn file 5; local = runIn file 6 }
+runsIn file = runsOf (runIn file 4) (runIn file 5) (runIn file 6)

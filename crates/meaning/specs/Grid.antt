@@ -1,14 +1,15 @@
 -- A study with its stations added up: all that the later steps see. How a node's capacity is divided among stations is gone.
 use mathlib.Core.Bool.{Bool, true, false, cond, _&&_}
 use mathlib.Core.List.{List, []}
-use mathlib.Core.Option.{Option, Option·getD}
+use mathlib.Core.Option.{Option·getD}
 use Prim.Native.Nat.{ℕ, suc}
 use lib.Dec.{eqb, leb}
 use lib.ListN.{length, getD}
 use Rattle.integers.specs.Numbers.{sum}
 use Rattle.meaning.specs.Rows.{_between_and_, lowest, rows}
 use Rattle.meaning.specs.Name.{Name, sameName}
-use Rattle.meaning.specs.Study.{Kw, Settings, Node, Circuit, Station, Study, node, station}
+use Rattle.meaning.specs.declared.Settings.{Settings}
+use Rattle.meaning.specs.Study.{Kw, Node, Circuit, Station, Study, node, station}
 use Rattle.meaning.specs.declared.Plant.{Plant}
 use Rattle.meaning.specs.declared.Plant.the-variants.{Intermittent, NuclearAndCcs, Interconnector, Hydro, PumpedStorage, Peaking, Other}
 use Rattle.meaning.specs.declared.Judgement.{Judgement}

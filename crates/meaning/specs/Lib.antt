@@ -12,6 +12,7 @@ pub mod Scaled
 pub mod Direction
 pub mod Proposal
 pub mod Systems
+pub mod Charging
 pub mod Figures
 pub mod Text
 pub mod Sheet

@@ -11,11 +11,12 @@ use lib.Signed.{_<ℤ_}
 use Rattle.integers.specs.Numbers.{sum, Σ, floorDiv, nearest}
 use Rattle.meaning.specs.declared.Side.{Side}
 use Rattle.meaning.specs.declared.Side.the-variants.{Generation, Demand}
-use Rattle.meaning.specs.Study.{Kw, Metres, Runs}
+use Rattle.meaning.specs.declared.System.{System}
+use Rattle.meaning.specs.Study.{Kw, Metres, Runs, OfDistances}
 use Rattle.meaning.specs.File.{studyOf}
 use Rattle.meaning.specs.Grid.{Grid, gridOf}
 use Rattle.meaning.specs.Proposal.{potential}
-use Rattle.meaning.specs.Figures.{zones, zoneOf, weight, paying, zoneWeight, totalPaying, overZones, distance, widerMetres, zonalMetres, C, afterC, zoneTariff, localMetres, localTariff, localIncome, residual, remainder, zoneTotal}
+use Rattle.meaning.specs.Figures.{zones, zoneOf, weight, paying, zoneWeight, totalPaying, overZones, distance, metresBy, zonalMetres, C, afterC, zoneTariff, localMetres, localTariff, localIncome, residual, remainder, zoneTotal}
 use Rattle.meaning.specs.Outcome.{sheetOf}
 use Rattle.meaning.specs.Sheet.{letter}
 use Rattle.meaning.specs.Read.{field, readNatural, readWhole, hasLetter, lineAt}
@@ -42,8 +43,7 @@ OnlyNegativeHalvesMove = (z : ℤ) (d : ℕ) → 0 < d → (nearest z d ≡ half
 
 -- ---- the divisions of a case: steps 6, 7, 8 and 9 divide z by d for this figure
 pub data Divides (G : Grid) (runs : Runs) : (z : ℤ) (d : ℕ) (figure : ℤ) → Type 0 where
-  wider : (v : ℕ) → Divides G runs (potential (runs .wider) v) 1000000000 (widerMetres runs v)
-  local : (v : ℕ) → Divides G runs (potential (runs .local) v) 1000000000 (localMetres runs v)
+  nodal : (s : System) → OfDistances s → (v : ℕ) → Divides G runs (potential (runs s) v) 1000000000 (metresBy s runs v)
   zonal : (side : Side) (zone : ℕ)
       → Divides G runs (Σ (length (G .nodes)) (λ v. cond (eqb (zoneOf G side v) zone) (distance runs side v *ℤ pos (weight G side v)) (pos 0))) (zoneWeight G side zone) (zonalMetres G runs side zone)
   centre : Divides G runs
@@ -51,9 +51,9 @@ pub data Divides (G : Grid) (runs : Runs) : (z : ℤ) (d : ℕ) (figure : ℤ) �
       (G .settings .p * totalPaying G Generation + (1000 - G .settings .p) * totalPaying G Demand)
       (C G runs)
   zoneTariffs : (side : Side) (zone : ℕ)
-      → Divides G runs (afterC G runs side zone *ℤ pos (G .settings .constant) *ℤ pos (G .settings .widerFactor)) 100000 (zoneTariff G runs side zone)
+      → Divides G runs (afterC G runs side zone *ℤ pos (G .settings .constant) *ℤ pos (G .settings .«wider_factor»)) 100000 (zoneTariff G runs side zone)
   localTariffs : (v : ℕ)
-      → Divides G runs (localMetres runs v *ℤ pos (G .settings .constant) *ℤ pos (G .settings .localFactor)) 100000 (localTariff G runs v)
+      → Divides G runs (localMetres runs v *ℤ pos (G .settings .constant) *ℤ pos (G .settings .«local_factor»)) 100000 (localTariff G runs v)
 
 -- each of these figures is what it was before this request, but at a half below zero; where a case has no such half, its sheet is therefore 01's
 abbrev pub FiguresMove : Type 0
@@ -109,10 +109,9 @@ pub record Exchanged (G G′ : Grid) (runs runs′ : Runs) : Type 0 where
   pub payers : (side : Side) (v : ℕ) → v < length (G .nodes) → paying G′ side v ≡ paying G (other side) v
   pub shares : G′ .settings .p + G .settings .p ≡ 1000
   pub constants : G′ .settings .constant ≡ G .settings .constant
-  pub widerFactors : G′ .settings .widerFactor ≡ G .settings .widerFactor
-  pub localFactors : G′ .settings .localFactor ≡ G .settings .localFactor
-  pub wider : (v : ℕ) → v < length (G .nodes) → potential (runs′ .wider) v ≡ negℤ (potential (runs .wider) v)
-  pub local : (v : ℕ) → v < length (G .nodes) → potential (runs′ .local) v ≡ negℤ (potential (runs .local) v)
+  pub widerFactors : G′ .settings .«wider_factor» ≡ G .settings .«wider_factor»
+  pub localFactors : G′ .settings .«local_factor» ≡ G .settings .«local_factor»
+  pub potentials : (s : System) → OfDistances s → (v : ℕ) → v < length (G .nodes) → potential (runs′ s) v ≡ negℤ (potential (runs s) v)
 
 -- C and the local figures are turned round, and what is printed of generation's zones is printed of demand's
 pub record MirrorImage (G G′ : Grid) (runs runs′ : Runs) : Type 0 where

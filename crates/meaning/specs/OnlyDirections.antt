@@ -6,10 +6,13 @@ use Prim.Native.Nat.{ℕ, _≤_, _<_}
 use lib.ListN.{length}
 use Rattle.meaning.specs.Rows.{rows}
 use Rattle.meaning.specs.Name.{Name}
-use Rattle.meaning.specs.Study.{Settings, Node, Study, Runs, node}
+use Rattle.meaning.specs.declared.Settings.{Settings}
+use Rattle.meaning.specs.declared.System.{System}
+use Rattle.meaning.specs.declared.System.the-variants.{Base, Wider, Local}
+use Rattle.meaning.specs.Study.{Node, Circuit, Study, Runs, OfDistances, node}
 use Rattle.meaning.specs.File.{studyOf}
 use Rattle.meaning.specs.Grid.{gridOf}
-use Rattle.meaning.specs.Figures.{widerMetres, localMetres}
+use Rattle.meaning.specs.Figures.{metresBy, widerMetres, localMetres}
 use Rattle.meaning.specs.Outcome.{sheetOf}
 use Rattle.meaning.specs.Conditions.{Acceptable, HasLength}
 use Rattle.meaning.specs.Distances.{apart, DistancesWithin}
@@ -48,10 +51,11 @@ OnlyDirectionsCount =
     → ((a : Asked) → Holds a (studyOf file) (studyOf file′) runs runs′)
     → DistancesWithin 1 (gridOf (studyOf file)) (gridOf (studyOf file′)) runs runs′ (sheetOf file runs) (sheetOf file′ runs′)
 
--- ---- and more: a wider distance is said by the directions of circuits without local mark, a local one by those of circuits with it
-pub record OwnDirections (S S′ : Study) (runs runs′ : Runs) : Type 0 where
-  pub wider : SameDirections (λ c. HasLength c × (c .localMark ≡ 0)) S S′ runs runs′ → (v : ℕ) → v < length (S .nodes) → apart (widerMetres runs v) (widerMetres runs′ v) ≤ 1
-  pub local : SameDirections (λ c. HasLength c × (c .localMark ≢ 0)) S S′ runs runs′ → (v : ℕ) → v < length (S .nodes) → apart (localMetres runs v) (localMetres runs′ v) ≤ 1
+-- ---- and more: a distance is said by the directions of its own system's circuits, a wider one by those without local mark, a local one by those with it
+abbrev pub Own : System → Circuit → Type 0
+Own (Base b) c = ⊥
+Own (Wider b) c = c .localMark ≡ 0
+Own Local c = c .localMark ≢ 0
 
 abbrev pub OwnDirectionsCount : Type 0
 OwnDirectionsCount =
@@ -59,7 +63,8 @@ OwnDirectionsCount =
     → Acceptable file runs
     → Acceptable file′ runs′
     → ((a : Asked) → a ≢ sameDirections → Holds a (studyOf file) (studyOf file′) runs runs′)
-    → OwnDirections (studyOf file) (studyOf file′) runs runs′
+    → (s : System) → OfDistances s → SameDirections (λ c. HasLength c × Own s c) (studyOf file) (studyOf file′) runs runs′
+    → (v : ℕ) → v < length (studyOf file .nodes) → apart (metresBy s runs v) (metresBy s runs′ v) ≤ 1
 
 -- ---- and no less will do
 -- two cases, and what holds of them

@@ -3,12 +3,14 @@ use mathlib.Core.List.{List, [], _∷_, _++_}
 use Prim.Native.Nat.{ℕ}
 use lib.Dec.{leb}
 use lib.ListN.{length, drop}
+use Rattle.meaning.specs.declared.System.{System}
 use Rattle.meaning.specs.declared.Refusal.{Refusal}
 use Rattle.meaning.specs.declared.Refusal.the-variants.{BadFile, ShortBuffer}
 use Rattle.meaning.specs.declared.Judgement.{Judgement}
 use Rattle.meaning.specs.declared.Judgement.the-variants.{Passes, Stops}
 use Rattle.meaning.specs.declared.Answer.{Answer}
 use Rattle.meaning.specs.declared.Answer.the-variants.{Accepted, Refused}
+use Rattle.meaning.specs.declared.Values.{Values}
 use Rattle.meaning.specs.Answers.{values, _orElse_, unless}
 use Rattle.meaning.specs.Study.{Study, Runs}
 use Rattle.meaning.specs.File.{fileWhole, runsWhole, studyOf, runsIn}
@@ -23,8 +25,8 @@ use Rattle.meaning.specs.Sheet.{sheet}
 unfoldable pub fileStage : (file : List ℕ) → Judgement
 fileStage file = unless (fileWhole file) BadFile
 
-unfoldable pub runsStage : (file : List ℕ) → (base wider local : ℕ) → Judgement
-runsStage file base wider local = unless (runsWhole file base wider local) BadFile
+unfoldable pub runsStage : (file : List ℕ) → (long : System → ℕ) → Judgement
+runsStage file long = unless (runsWhole file long) BadFile
 
 -- 2 to 5 of a study
 unfoldable pub rowsStage : Study → Judgement
@@ -34,15 +36,14 @@ rowsStage S = settingsStage S orElse nodesStage S orElse circuitsStage S orElse 
 unfoldable pub gridStage : Grid → Judgement
 gridStage G = reachStage (networkOf G) orElse totalsStage G orElse chargeableStage G
 
--- all that is asked before the proposals, of a file and the lengths of the three runs: 1 to 7, then 13
-unfoldable pub tablesStage : (file : List ℕ) → (base wider local : ℕ) → Judgement
-tablesStage file base wider local =
-    fileStage file orElse runsStage file base wider local orElse rowsStage (studyOf file) orElse gridStage (gridOf (studyOf file))
+-- all that is asked before the proposals, of a file and the lengths of the runs: 1 to 7, then 13
+unfoldable pub tablesStage : (file : List ℕ) → (long : System → ℕ) → Judgement
+tablesStage file long =
+    fileStage file orElse runsStage file long orElse rowsStage (studyOf file) orElse gridStage (gridOf (studyOf file))
 
 -- "Order: 1 to 7; 8, 9, 10 for system 1 (base); 11; 8, 9, 10 for system 2 (wider), then 3 (local)"; 13 after 7
 unfoldable pub judged : (file : List ℕ) → Runs → Judgement
-judged file runs =
-    tablesStage file (length (runs .base)) (length (runs .wider)) (length (runs .local)) orElse proposalsStage (gridOf (studyOf file)) runs
+judged file runs = tablesStage file (λ s. length (runs s)) orElse proposalsStage (gridOf (studyOf file)) runs
 
 -- the sheet of a file and its runs
 abbrev pub sheetOf : List ℕ → Runs → List ℕ
@@ -85,10 +86,11 @@ settle file runs buffer =
     settledBy (judged file runs orElse bufferStage sheet buffer) sheet buffer
 
 -- ---- the program: "It prints the sheet, or `refused`, number, system and row."
+unfoldable pub refusedFields : Values → List (List ℕ)
+refusedFields v = text "refused" ∷ natural (v .number) ∷ natural (v .system) ∷ natural (v .row) ∷ []
+
 unfoldable pub refusedLine : Refusal → List ℕ
-refusedLine r =
-    let v = values (Refused r) in
-    line (text "refused" ∷ natural (v .number) ∷ natural (v .system) ∷ natural (v .row) ∷ [])
+refusedLine r = line (refusedFields (values (Refused r)))
 
 unfoldable pub printedBy : Judgement → (sheet : List ℕ) → List ℕ
 printedBy Passes sheet = sheet

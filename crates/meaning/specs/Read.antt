@@ -1,10 +1,10 @@
 -- A sheet read back from its bytes, by someone who has the node totals: what its lines bring in.
 use mathlib.Core.Bool.{Bool, cond}
 use mathlib.Core.List.{List, [], _∷_, _++_}
-use Prim.Native.Nat.{ℕ, zero, suc, _+_, _*_, _-_}
+use Prim.Native.Nat.{ℕ, _+_, _*_, _-_}
 use lib.Dec.{eqb}
 use lib.IntN.{ℤ, pos, negℤ, _+ℤ_, _*ℤ_}
-use lib.ListN.{getD, take, drop, replicate}
+use lib.ListN.{getD, take, replicate}
 use Rattle.meaning.specs.Text.{text}
 use Rattle.meaning.specs.Name.{Name, sameName}
 use Rattle.meaning.specs.declared.Side.{Side}

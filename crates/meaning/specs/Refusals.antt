@@ -5,10 +5,9 @@ use mathlib.Core.List.{List, [], _∷_, _++_}
 use Prim.Native.Nat.{ℕ, suc, _+_, _≤_, _<_}
 use lib.IntN.{pos, natAbs, _-ℤ_}
 use lib.ListN.{length, getD}
-use Rattle.meaning.specs.Study.{Study, Runs}
+use Rattle.meaning.specs.Study.{Study, Runs, flowSystems, distanceSystems}
 use Rattle.meaning.specs.File.{studyOf}
 use Rattle.meaning.specs.declared.System.{System}
-use Rattle.meaning.specs.declared.System.the-variants.{Base, Wider, Local}
 use Rattle.meaning.specs.declared.Refusal.{Refusal}
 use Rattle.meaning.specs.declared.Refusal.the-variants.{BadFile, BadSetting, BadNode, BadCircuit, BadStation, Unreached, BadTotal, BadNumber, Unbalanced, MissesTooHigh, DirectionInDoubt, ShortBuffer, NoChargeableTec}
 use Rattle.meaning.specs.Grid.{Grid, gridOf}
@@ -90,9 +89,14 @@ systemOrder G runs s =
 abbrev pub directionOrder : Grid → Runs → List Condition
 directionOrder G runs = eachRow (length (G .circuits)) (Clear G runs) DirectionInDoubt ∷ []
 
+-- of these systems in their order, then what comes after
+abbrev pub systemsOrder : Grid → Runs → List System → (after : List Condition) → List Condition
+systemsOrder G runs [] after = after
+systemsOrder G runs (s ∷ ss) after = systemOrder G runs s ++ systemsOrder G runs ss after
+
 -- "8, 9, 10 for system 1 (base); 11; 8, 9, 10 for system 2 (wider), then 3 (local)"
 abbrev pub proposalsOrder : Grid → Runs → List Condition
-proposalsOrder G runs = systemOrder G runs Base ++ (directionOrder G runs ++ (systemOrder G runs Wider ++ systemOrder G runs Local))
+proposalsOrder G runs = systemsOrder G runs flowSystems (directionOrder G runs ++ systemsOrder G runs distanceSystems [])
 
 -- "Order: 1 to 7;" 13, and these
 abbrev pub caseOrder : (file : List ℕ) → Runs → List Condition

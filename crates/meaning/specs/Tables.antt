@@ -6,7 +6,8 @@ use lib.Dec.{eqb, leb}
 use lib.ListN.{length}
 use Rattle.meaning.specs.Rows.{_between_and_, failing, any}
 use Rattle.meaning.specs.Name.{Name, wellFormed, sameName}
-use Rattle.meaning.specs.Study.{Settings, Node, Circuit, Station, Study, node, circuit, station}
+use Rattle.meaning.specs.declared.Settings.{Settings}
+use Rattle.meaning.specs.Study.{Node, Circuit, Station, Study, node, circuit, station}
 use Rattle.meaning.specs.declared.Judgement.{Judgement}
 use Rattle.meaning.specs.declared.Refusal.the-variants.{BadSetting, BadNode, BadCircuit, BadStation}
 use Rattle.meaning.specs.Answers.{unless, at}
@@ -22,8 +23,8 @@ known nodes name = any (λ v. sameName (node nodes v .name) name) (length nodes)
 -- 2, zones, p, expansion constant and security factors
 unfoldable pub soundScales : Settings → Bool
 soundScales s =
-    s.generationZones between 1 and 32 && s.demandZones between 1 and 32 && leb s.p 1000 && s.constant between 1 and 10000
-    && s.widerFactor between 1000 and 5000 && s.localFactor between 1000 and 5000
+    s.«generation_zones» between 1 and 32 && s.«demand_zones» between 1 and 32 && leb s.p 1000 && s.constant between 1 and 10000
+    && s.«wider_factor» between 1000 and 5000 && s.«local_factor» between 1000 and 5000
 
 -- 2: each setting in its range, the reference row a row of the nodes' table
 unfoldable pub soundSettings : (nodes : ℕ) → Settings → Bool
@@ -35,7 +36,7 @@ soundSettings nodes s =
 -- 3, a row by itself
 unfoldable pub soundNodeRow : Settings → Node → Bool
 soundNodeRow s n =
-    wellFormed n.name && n.generationZone between 1 and s.generationZones && n.demandZone between 1 and s.demandZones
+    wellFormed n.name && n.generationZone between 1 and s.«generation_zones» && n.demandZone between 1 and s.«demand_zones»
     && leb n.demand 20000000
 
 -- "voltage (132, 275 or 400)"; 02, request 3: "320 or 525, new voltages"

@@ -4,7 +4,8 @@ use mathlib.Core.Logic.{_≢_}
 use mathlib.Core.List.{List}
 use Prim.Native.Nat.{ℕ, suc, _+_, _*_, _-_, _≤_, _<_}
 use lib.ListN.{length, getD}
-use Rattle.meaning.specs.Study.{Settings, Circuit, Runs, circuit}
+use Rattle.meaning.specs.declared.Settings.{Settings}
+use Rattle.meaning.specs.Study.{Circuit, Runs, circuit}
 use Rattle.meaning.specs.File.{u32, versionOf, section, rowAt, studyOf, runsIn}
 use Rattle.meaning.specs.Direction.{overheadFactor, cableFactor, expandedLength}
 use Rattle.meaning.specs.Outcome.{answerOf, settle, prints}

@@ -7,6 +7,25 @@ pub struct Metres(pub i64);
 
 pub struct MicroPerKw(pub i64);
 
+// 01, The case file: the settings, in its order (inputs: CUSC 14.15.5 to 9; p 14.14.5(v), constant 14.15.31 to 41, security factors 14.15.54 to 57).
+// p, factors and security factors in thousandths; constant in pence/MWkm; reference is a row from 1; revenue in pounds.
+pub struct Settings {
+    pub generation_zones: usize,
+    pub demand_zones: usize,
+    pub p: usize,
+    pub constant: usize,
+    pub wider_factor: usize,
+    pub local_factor: usize,
+    pub overhead400: usize,
+    pub cable400: usize,
+    pub overhead275: usize,
+    pub cable275: usize,
+    pub overhead132: usize,
+    pub cable132: usize,
+    pub reference: usize,
+    pub revenue: u64,
+}
+
 // 01, The case file: where a section starts, the bytes of its records, and how many there are. Numbers of a file, of 32 bits each.
 pub struct Section {
     pub start: u32,
@@ -14,10 +33,15 @@ pub struct Section {
     pub count: u32,
 }
 
-// 01, The case file: the three solutions, systems 1, 2 and 3.
+// 01 has one background, the year round one; 02, request 5, adds another.
+pub enum Background {
+    YearRound,
+}
+
+// 01, The case file: the three solutions, systems 1, 2 and 3. Each background has its base and its wider one.
 pub enum System {
-    Base,
-    Wider,
+    Base(Background),
+    Wider(Background),
     Local,
 }
 

@@ -11,8 +11,8 @@ use native.Mathlib.Nat.{add-zero}
 use native.Mathlib.Decide.{decLe, decLt}
 use native.Mathlib.Omega.{arith}
 use borrow.Author.Tests.{ne-eqb, eqb-true, eqb-false, le-leb, leb-false}
-use Rattle.meaning.specs.Rows.{_between_and_}
-use Rattle.meaning.specs.Name.{Name, nameByte, unpadded, every, wellFormed, sameName}
+use Rattle.meaning.specs.Rows.{_between_and_, every}
+use Rattle.meaning.specs.Name.{Name, nameByte, unpadded, wellFormed, sameName}
 use Rattle.meaning.specs.File.{nameAt}
 use Rattle.meaning.proofs.Says.{says-as, _also_, _either_, agree, says-eq, says-le, says-name}
 use Rattle.names.specs.Rest.{rest, padded}

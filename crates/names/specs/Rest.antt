@@ -4,7 +4,8 @@ use mathlib.Core.List.{List, [], _∷_}
 use Prim.Native.Nat.{ℕ, _+_, _-_}
 use lib.Dec.{eqb}
 use lib.ListN.{take, drop}
-use Rattle.meaning.specs.Name.{Name, nameByte, every}
+use Rattle.meaning.specs.Name.{Name, nameByte}
+use Rattle.meaning.specs.Rows.{every}
 
 -- the name at a place, from its byte k on
 unfoldable pub rest : List ℕ → (at k : ℕ) → Name

@@ -36,6 +36,5 @@ pub fn judge(file: &[u8]) -> Judgement
     ensures { λ r. ⌜ r ≡ nodesStage (readable (now (file .entry))) ⌝ }
 {
     let rows = layout::section(file, layout::NODES);
-    let zones = layout::settings(file);
-    row::stage(file, rows, zones.generation_zones, zones.demand_zones)
+    row::stage(file, rows, layout::settings(file))
 }

@@ -144,8 +144,8 @@ pub fn limit_of(system: System) -> u64
     ensures { λ r. ⌜ r ≡ limitOf system ⌝ }
 {
     match system {
-        System::Base => 2000000000000000000,
-        System::Wider => 10000000000000000,
+        System::Base(_) => 2000000000000000000,
+        System::Wider(_) => 10000000000000000,
         System::Local => 10000000000000000,
     }
 }

@@ -43,4 +43,4 @@ module _ (file : List ℕ) (whole : fileWhole file ≡ true) where
       → b ≡ column (pos 0) 768 (s .count) (λ i. i64 file (rowAt s i)) → w ≡ column (pos 0) 768 (t .count) (λ i. i64 file (rowAt t i)) → l ≡ column (pos 0) 768 (u .count) (λ i. i64 file (rowAt u i))
       → runsOf (take (s .count - 0) b) (take (t .count - 0) w) (take (u .count - 0) l) ≡ runsIn file
   unfolding runsIn
-  runs-cut p q r e f g = λ i. record { base = run-cut 0 (omega arith) p e i; wider = run-cut 1 (omega arith) q f i; local = run-cut 2 (omega arith) r g i }
+  runs-cut p q r e f g = λ i. runsOf (run-cut 0 (omega arith) p e i) (run-cut 1 (omega arith) q f i) (run-cut 2 (omega arith) r g i)

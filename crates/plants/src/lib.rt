@@ -1,7 +1,14 @@
-// Plant types by number, and the two things that are asked of one: whether its TEC scales and weighs, and whether it pays.
+// Plant types by number, and whether one counts: among those whose TEC scales and weighs, or among those whose TEC pays.
 ghost use mathlib.Core.Path.{_≡_};
 ghost use Rattle.meaning.specs.Grid.{plantOf, scales as scalesIn, pays as paysIn};
+ghost use Rattle.plants.specs.Counted.{isCounted};
 use meaning::Plant;
+
+// Which plant types count: those whose TEC scales and weighs, or those whose TEC pays.
+pub enum Counted {
+    Scaling,
+    Paying,
+}
 
 // The plant type of a number.
 pub fn plant_of(number: usize) -> Plant
@@ -19,7 +26,7 @@ pub fn plant_of(number: usize) -> Plant
 }
 
 // Whether the TEC of a plant type scales and weighs.
-pub fn scales(plant: Plant) -> bool
+fn scales(plant: Plant) -> bool
     ensures { λ r. ⌜ r ≡ scalesIn plant ⌝ }
 {
     match plant {
@@ -34,7 +41,7 @@ pub fn scales(plant: Plant) -> bool
 }
 
 // Whether the TEC of a plant type pays: interconnectors don't.
-pub fn pays(plant: Plant) -> bool
+fn pays(plant: Plant) -> bool
     ensures { λ r. ⌜ r ≡ paysIn plant ⌝ }
 {
     match plant {
@@ -45,5 +52,15 @@ pub fn pays(plant: Plant) -> bool
         Plant::PumpedStorage => true,
         Plant::Peaking => true,
         Plant::Other => true,
+    }
+}
+
+// Whether a plant type counts.
+pub fn counts(counted: Counted, plant: Plant) -> bool
+    ensures { λ r. ⌜ r ≡ isCounted counted plant ⌝ }
+{
+    match counted {
+        Counted::Scaling => scales(plant),
+        Counted::Paying => pays(plant),
     }
 }

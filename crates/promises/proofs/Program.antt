@@ -13,8 +13,8 @@ use Rattle.meaning.specs.Study.{Runs}
 use Rattle.meaning.specs.File.{studyOf, runsIn}
 use Rattle.meaning.specs.Grid.{Grid, gridOf}
 use Rattle.meaning.specs.Text.{line}
-use Rattle.meaning.specs.Sheet.{sheet}
-use Rattle.meaning.specs.Outcome.{judged, sheetOf, refusedLine, printedBy, prints}
+use Rattle.meaning.specs.Sheet.{constantFields, sheetText, sheet}
+use Rattle.meaning.specs.Outcome.{judged, sheetOf, refusedFields, refusedLine, printedBy, prints}
 use Rattle.meaning.specs.Conditions.{Acceptable}
 use Rattle.meaning.specs.Refusals.{FirstUnmet, caseOrder}
 use Rattle.meaning.specs.Demands.{Recovered, SameButStations, Agree, PassesToFive}
@@ -33,11 +33,11 @@ use Rattle.promises.specs.Program.{shown, RefusalPrinted, PrintPromised,
 
 -- a sheet starts with `C`, and a refusal's line with `r`
 sheet-starts : (G : Grid) (runs : Runs) → getD (sheet G runs) 0 0 ≡ 67
-unfolding sheet line
+unfolding sheet sheetText constantFields line
 sheet-starts G runs = refl
 
 line-starts : (r : Refusal) → getD (refusedLine r) 0 0 ≡ 114
-unfolding refusedLine line
+unfolding refusedLine refusedFields line
 line-starts r = refl
 
 module _ (file : List ℕ) where

@@ -6,10 +6,11 @@ use native.Mathlib.Omega.{arith}
 use lib.IntN.{pos, _-ℤ_, _*ℤ_}
 use lib.ListN.{length, getD}
 use Rattle.integers.specs.Numbers.{sum}
-use Rattle.integers.proofs.Sum.{sum-same}
 use Rattle.meaning.specs.declared.Kw.{Kw}
+use Rattle.meaning.specs.declared.Settings.{Settings}
 use Rattle.meaning.specs.Study.{Study, Runs, circuit}
-use Rattle.meaning.specs.Grid.{gridOf, nodeTec, nodeDemand, totalTec, totalDemand}
+use Rattle.meaning.specs.Grid.{gridOf, nodeTec}
+use Rattle.meaning.specs.declared.Background.the-variants.{YearRound}
 use Rattle.meaning.specs.declared.System.the-variants.{Base}
 use Rattle.meaning.specs.Network.{networkOf}
 use Rattle.meaning.specs.Scaled.{scaled}
@@ -22,22 +23,19 @@ use Rattle.meaning.proofs.Tables.{says-totals}
 use Rattle.meaning.proofs.Lengths.{overhead-in, cable-in, has-length}
 use Rattle.sizes.proofs.Scaling.{systems-fit}
 use Rattle.layout.specs.declared.RowCounts.{RowCounts}
-use Rattle.layout.specs.declared.StudySettings.{StudySettings}
 use Rattle.node_table.specs.declared.NodeColumns.{NodeColumns}
 use Rattle.circuit_table.specs.declared.CircuitColumns.{CircuitColumns}
-use Rattle.station_table.specs.declared.TecColumns.{TecColumns}
 use Rattle.circuit_table.specs.Lengths.{lengthInRange, lengthIfInRange}
-use Rattle.node_table.specs.Columns.{nodesOf}
 use Rattle.circuit_table.specs.Columns.{circuitsOf}
-use Rattle.station_table.specs.Tec.{tecOf}
-use Rattle.meaning.specs.Columns.{kilowatts, kwAt, networkIn}
+use Rattle.meaning.specs.Columns.{kwAt, networkIn}
 use Rattle.tables.specs.declared.Opened.{Opened}
-use Rattle.tables.proofs.ReadLaws.{StudyColumns, reference-is}
+use Rattle.tables.proofs.ReadLaws.{StudyColumns}
 use Rattle.tables.proofs.NetworkLaws.{columns-network}
+use Rattle.tables.proofs.NodeLaws.{SameNodes, columns-nodes, total-demand, total-scaling}
 use Rattle.supply.specs.Supply.{baseSupply}
 use Rattle.supply.proofs.Bounds.{base-supply-at}
 use Rattle.proposal.specs.Case.{caseOf}
-use Rattle.proposal.proofs.Told.{Told, kw-at, scaled-same, of-rows}
+use Rattle.proposal.proofs.Told.{Told, scaled-same, of-rows}
 
 -- a sound row's length is in range
 long-is : (S : Study) → SoundSettings (length (S .nodes)) (S .settings) → (i : ℕ) → SoundCircuit S i
@@ -51,7 +49,7 @@ module _ (S : Study) (sound : SoundTables S) (few : length (S .nodes) ≤ 256) (
   abbrev rows : RowCounts
   rows = o .counts
 
-  abbrev settings : StudySettings
+  abbrev settings : Settings
   settings = o .settings
 
   abbrev nodes : NodeColumns
@@ -67,44 +65,31 @@ module _ (S : Study) (sound : SoundTables S) (few : length (S .nodes) ≤ 256) (
   network : SameNetwork (networkIn (rows .nodes) (rows .circuits) (settings .reference - 1) (ends .first) (ends .second) (ends .x)) (networkOf (gridOf S))
   network = columns-network t fewer
 
+  -- zones, demand and TEC of the nodes are the grid's
+  told : SameNodes (gridOf S) o
+  told = columns-nodes t few
+
   node-count : rows .nodes ≡ length (S .nodes)
-  unfolding networkOf gridOf
-  node-count = network .ends .nodes
+  unfolding gridOf
+  node-count = told .nodes
 
   circuit-count : rows .circuits ≡ length (S .circuits)
   unfolding networkOf gridOf
   circuit-count = network .ends .circuits
 
-  tec-at : (v : ℕ) → v < rows .nodes → kwAt scaling v ≡ nodeTec (gridOf S) v
-  unfolding tecOf
-  tec-at v h = kw-at (of-rows (kilowatts 0) 256 _ _ scaling (omega (arith, node-count)) (ap (λ (n : TecColumns). n .scaling) (t .tec)) v h)
-
-  demand-at : (v : ℕ) → v < rows .nodes → kwAt (nodes .demand) v ≡ nodeDemand (gridOf S) v
-  unfolding nodesOf gridOf
-  demand-at v h = kw-at (of-rows (kilowatts 0) 256 _ _ (nodes .demand) (omega (arith, node-count)) (ap (λ (n : NodeColumns). n .demand) (t .nodes)) v h)
-
-  total-tec : sum (rows .nodes) (kwAt scaling) ≡ totalTec (gridOf S)
-  unfolding gridOf
-  total-tec = sum-same (rows .nodes) (kwAt scaling) (nodeTec (gridOf S)) tec-at ∙ ap (λ (n : ℕ). sum n (nodeTec (gridOf S))) node-count
-
-  total-demand : sum (rows .nodes) (kwAt (nodes .demand)) ≡ totalDemand (gridOf S)
-  unfolding gridOf
-  total-demand =
-      sum-same (rows .nodes) (kwAt (nodes .demand)) (nodeDemand (gridOf S)) demand-at ∙ ap (λ (n : ℕ). sum n (nodeDemand (gridOf S))) node-count
-
   pub reference-least : 1 ≤ settings .reference
-  reference-least = omega (arith, reference-is t, sound .settings .reference .least)
+  reference-least = omega (arith, ap (λ (s : Settings). s .reference) (t .settings), sound .settings .reference .least)
 
   -- step 3: the supply of node v
-  supplied : (v : ℕ) → v < rows .nodes → getD (baseSupply (rows .nodes) scaling (nodes .demand)) v (pos 0) ≡ supply (gridOf S) Base v
+  supplied : (v : ℕ) → v < rows .nodes → getD (baseSupply (rows .nodes) scaling (nodes .demand)) v (pos 0) ≡ supply (gridOf S) (Base YearRound) v
   unfolding supply net gridOf
   supplied v h =
       base-supply-at (rows .nodes) scaling (nodes .demand) (omega (arith, node-count))
-      (rw (total-demand, total-tec) (says-totals _ _ .1 ((sound .totals .demandTotal, sound .totals .tecTotal), sound .totals .enough))) v h
+      (rw (total-demand told, total-scaling told) (says-totals _ _ .1 ((sound .totals .demandTotal, sound .totals .tecTotal), sound .totals .enough))) v h
       ∙ ap₂ (λ (a d : ℕ). pos 1000000 *ℤ (pos a -ℤ pos d))
-      (scaled-same (rows .nodes) (kwAt scaling) (nodeTec (gridOf S)) (sum (rows .nodes) (kwAt (nodes .demand))) tec-at v h
-      ∙ ap₂ (λ (n d : ℕ). scaled n (nodeTec (gridOf S)) d v) node-count total-demand)
-      (demand-at v h)
+      (scaled-same (rows .nodes) (kwAt scaling) (nodeTec (gridOf S)) (sum (rows .nodes) (kwAt (nodes .demand))) (told .scaling) v h
+      ∙ ap₂ (λ (n d : ℕ). scaled n (nodeTec (gridOf S)) d v) node-count (total-demand told))
+      (told .demand v h)
 
   pub case-told : Runs → Told (gridOf S) (caseOf o)
   unfolding caseOf circuitsOf gridOf

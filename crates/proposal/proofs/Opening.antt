@@ -3,7 +3,6 @@ use mathlib.Core.Path.{_≡_, _∙_, ap}
 use mathlib.Core.List.{List}
 use Prim.Native.Nat.{ℕ, _+_, _≤_}
 use native.Mathlib.Omega.{arith}
-use lib.IntN.{ℤ}
 use lib.ListN.{length}
 use Rattle.meaning.specs.declared.Refusal.{Refusal}
 use Rattle.meaning.specs.declared.Judgement.{Judgement}
@@ -11,9 +10,10 @@ use Rattle.meaning.specs.declared.Judgement.the-variants.{Passes, Stops}
 use Rattle.meaning.specs.Study.{Study, Runs}
 use Rattle.meaning.specs.File.{studyOf}
 use Rattle.meaning.specs.Grid.{gridOf}
+use Rattle.meaning.specs.declared.Background.the-variants.{YearRound}
 use Rattle.meaning.specs.declared.System.{System}
-use Rattle.meaning.specs.declared.System.the-variants.{Base, Wider, Local}
-use Rattle.meaning.specs.Systems.{runOf, proposalsStage}
+use Rattle.meaning.specs.declared.System.the-variants.{Base}
+use Rattle.meaning.specs.Systems.{proposalsStage}
 use Rattle.meaning.specs.Outcome.{judged}
 use Rattle.meaning.proofs.Answers.{stops-first, passes-first}
 use Rattle.tables.specs.declared.Opened.{Opened}
@@ -22,13 +22,13 @@ use Rattle.tables.proofs.ReadLaws.{columns-kept}
 use Rattle.tables.proofs.Sound.{SoundOpened, opened-sound}
 use Rattle.flows.specs.declared.Case.{Case}
 use Rattle.flows.specs.Flows.{circuitsIn}
-use Rattle.proposal.specs.Case.{caseOf, proposalsIn, Judgeable}
+use Rattle.proposal.specs.Case.{caseOf, proposalsIn, AllJudgeable}
 use Rattle.proposal.specs.Judges.{Judges}
 use Rattle.proposal.proofs.Told.{Told, proposals-told}
 use Rattle.proposal.proofs.Sound.{circuits-in, judgeable}
 use Rattle.proposal.proofs.CaseOf.{reference-least, case-told}
 
-module _ (file : List ℕ) (runs : Runs) (o : Opened) (t : Opens file (length (runs .base)) (length (runs .wider)) (length (runs .local)) o) where
+module _ (file : List ℕ) (runs : Runs) (o : Opened) (t : Opens file (λ s. length (runs s)) o) where
   -- the columns stay as they are
   with-judgement : (r : Judgement) → r ≡ judged file runs → Judges file runs (withJudgement o r)
   with-judgement r a = record { judgement = a; columns = columns-kept (t .columns) r }
@@ -41,7 +41,7 @@ module _ (file : List ℕ) (runs : Runs) (o : Opened) (t : Opens file (length (r
     abbrev S : Study
     S = studyOf file
 
-    s : SoundOpened file (length (runs .base)) (length (runs .wider)) (length (runs .local)) o
+    s : SoundOpened file (λ s. length (runs s)) o
     s = opened-sound t h
 
     few : length (S .nodes) ≤ 256
@@ -56,25 +56,18 @@ module _ (file : List ℕ) (runs : Runs) (o : Opened) (t : Opens file (length (r
     told-case : Told (gridOf S) (caseOf o)
     told-case = case-told S (s .tables) few fewer o (s .columns) runs
 
-    of-length : {m : ℕ} → m ≡ o .counts .nodes + o .counts .circuits → m ≡ length (S .nodes) + length (S .circuits)
-    of-length l = omega (arith, s .nodeCount, s .circuitCount)
+    long : (system : System) → length (runs system) ≡ length (S .nodes) + length (S .circuits)
+    long system = omega (arith, s .nodeCount, s .circuitCount, s .lengths system)
 
-    can-judge : (run : List ℤ) → length run ≡ o .counts .nodes + o .counts .circuits → Judgeable (caseOf o) (runs .base) run
-    can-judge run l = judgeable S (caseOf o) told-case (s .tables) few fewer (runs .base) run (of-length (s .baseRun)) (of-length l)
+    circuits-of : (system : System) → circuitsIn (caseOf o .nodes) (length (runs system)) ≡ length (S .circuits)
+    circuits-of system = circuits-in S (caseOf o) told-case (s .tables) few fewer (runs system) (long system)
 
-    circuits-of : (system : System) → circuitsIn (caseOf o .nodes) (length (runOf runs system)) ≡ length (S .circuits)
-    unfolding runOf
-    circuits-of Base = circuits-in S (caseOf o) told-case (s .tables) few fewer (runs .base) (of-length (s .baseRun))
-    circuits-of Wider = circuits-in S (caseOf o) told-case (s .tables) few fewer (runs .wider) (of-length (s .widerRun))
-    circuits-of Local = circuits-in S (caseOf o) told-case (s .tables) few fewer (runs .local) (of-length (s .localRun))
+    pub passed-judgeable : (k : Case) → k ≡ caseOf o → AllJudgeable k runs
+    passed-judgeable k q = rw q (λ system. judgeable S (caseOf o) told-case (s .tables) few fewer (runs (Base YearRound)) (runs system) (long (Base YearRound)) (long system))
 
-    pub passed-judgeable : (k : Case) → k ≡ caseOf o → Judgeable k (runs .base) (runs .base) × Judgeable k (runs .base) (runs .wider) × Judgeable k (runs .base) (runs .local)
-    passed-judgeable k q = rw q (can-judge _ (s .baseRun), can-judge _ (s .widerRun), can-judge _ (s .localRun))
-
-    pub proposals-decide : (k : Case) → k ≡ caseOf o → (r : Judgement) → r ≡ proposalsIn k (runs .base) (runs .wider) (runs .local)
-        → (w : Opened) → w ≡ withJudgement o r → Judges file runs w
+    pub proposals-decide : (k : Case) → k ≡ caseOf o → (r : Judgement) → r ≡ proposalsIn k runs → (w : Opened) → w ≡ withJudgement o r → Judges file runs w
     unfolding judged gridOf caseOf
     proposals-decide k q r f w g =
         rw g (with-judgement r
         (passes-first (proposalsStage (gridOf S) runs) (t .judgement) h
-        (f ∙ ap (λ (c : Case). proposalsIn c (runs .base) (runs .wider) (runs .local)) q ∙ proposals-told (gridOf S) (caseOf o) told-case (s .nodesFew .most) runs circuits-of)))
+        (f ∙ ap (λ (c : Case). proposalsIn c runs) q ∙ proposals-told (gridOf S) (caseOf o) told-case (s .nodesFew .most) runs circuits-of)))

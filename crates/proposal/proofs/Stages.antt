@@ -65,8 +65,8 @@ module _ (N : Network) (P : Proposed) where
 -- ---- a run that has passed 8
 pub limit-small : (system : System) → limitOf system ≤ 2000000000000000000
 unfolding limitOf
-limit-small Base = omega arith
-limit-small Wider = omega arith
+limit-small (Base b) = omega arith
+limit-small (Wider b) = omega arith
 limit-small Local = omega arith
 
 module _ (N : Network) (limit : ℕ) (run : List ℤ) (h : limit ≤ 2000000000000000000) (p : AllPass (numberInRange N limit run) (N .nodes + N .circuits)) where

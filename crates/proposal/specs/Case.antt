@@ -4,15 +4,17 @@ use mathlib.Core.List.{List}
 use Prim.Native.Nat.{ℕ, _+_, _-_, _≤_, _<_}
 use lib.IntN.{ℤ, natAbs}
 use lib.ListN.{length}
+use Rattle.meaning.specs.declared.Background.the-variants.{YearRound}
 use Rattle.meaning.specs.declared.System.{System}
-use Rattle.meaning.specs.declared.System.the-variants.{Base, Wider, Local}
+use Rattle.meaning.specs.declared.System.the-variants.{Base}
 use Rattle.meaning.specs.declared.Refusal.the-variants.{DirectionInDoubt}
 use Rattle.meaning.specs.declared.Judgement.{Judgement}
-use Rattle.meaning.specs.Answers.{_orElse_, at}
+use Rattle.meaning.specs.Answers.{at}
 use Rattle.meaning.specs.Rows.{failing}
+use Rattle.meaning.specs.Study.{Runs}
 use Rattle.meaning.specs.Columns.{numberAt}
 use Rattle.meaning.specs.Proposal.{Proposed, systemStage}
-use Rattle.meaning.specs.Systems.{limitOf}
+use Rattle.meaning.specs.Systems.{limitOf, ordered}
 use Rattle.numbers.specs.Numbers.{clearBy}
 use Rattle.tables.specs.declared.Opened.{Opened}
 use Rattle.supply.specs.Supply.{baseSupply, supplyIn}
@@ -74,12 +76,16 @@ solutionIn system k base run = systemStage (netIn k run) (offeredIn system k bas
 abbrev pub doubtIn : Case → (base : List ℤ) → Judgement
 doubtIn k base = at (failing (clearBy (k .nodes) (k .length) base) (netIn k base .circuits)) DirectionInDoubt
 
--- 01, Order: "8, 9, 10 for system 1 (base); 11; 8, 9, 10 for system 2 (wider), then 3 (local)"
-abbrev pub proposalsIn : Case → (base wider local : List ℤ) → Judgement
-proposalsIn k base wider local = solutionIn Base k base base orElse doubtIn k base orElse solutionIn Wider k base wider orElse solutionIn Local k base local
+-- 8 to 11 in 01's order
+abbrev pub proposalsIn : Case → Runs → Judgement
+proposalsIn k runs = let base = runs (Base YearRound) in ordered (λ s. solutionIn s k base (runs s)) (doubtIn k base)
 
 -- what is known of a case whose tables are sound, and of two runs of their length; the runs' numbers are any
 pub record Judgeable (k : Case) (base run : List ℤ) : Type 0 where
   pub based : Based k base
   pub same : length run ≡ length base
   pub xSmall : (c : ℕ) → c < netIn k base .circuits → numberAt (k .x) c ≤ 10000
+
+-- and of every run of a case
+abbrev pub AllJudgeable : Case → Runs → Type 0
+AllJudgeable k runs = (system : System) → Judgeable k (runs (Base YearRound)) (runs system)

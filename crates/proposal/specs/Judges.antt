@@ -11,4 +11,4 @@ use Rattle.tables.specs.Opens.{Columns}
 
 pub record Judges (file : List ℕ) (runs : Runs) (o : Opened) : Type 0 where
   pub judgement : o .judgement ≡ judged file runs
-  pub columns : Columns (frameStage file (length (runs .base)) (length (runs .wider)) (length (runs .local))) file o
+  pub columns : Columns (frameStage file (λ s. length (runs s))) file o

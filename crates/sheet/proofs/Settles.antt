@@ -18,7 +18,8 @@ use Rattle.meaning.specs.Conditions.{Acceptable}
 use Rattle.meaning.proofs.Judged.{judged-pass}
 use Rattle.charges.specs.declared.Charged.{Charged}
 use Rattle.charges.specs.Charged.{figuresBy, chargedOf}
-use Rattle.charges.specs.Case.{figuresOf}
+use Rattle.meaning.specs.Figures.{basis}
+use Rattle.tariffs.specs.Case.{figuresOf}
 use Rattle.layout.specs.Readable.{sectionIn}
 use Rattle.text.specs.SheetText.{textOf, Sized}
 use Rattle.text.specs.Writing.{Fitted}
@@ -60,7 +61,7 @@ module _ (file : List ℕ) (runs : Runs) (r : Charged) (made : r ≡ chargedOf f
     judged-passes : judged file runs ≡ Passes
     judged-passes = sym judged-is ∙ passes
 
-    figures-are : r .figures ≡ figuresOf (gridOf (studyOf file)) runs
+    figures-are : r .figures ≡ figuresOf (basis (gridOf (studyOf file)) runs)
     unfolding chargedOf figuresBy
     figures-are = ap (λ (x : Charged). x .figures) made ∙ rw judged-passes refl
 

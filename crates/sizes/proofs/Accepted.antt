@@ -8,8 +8,7 @@ use Rattle.meaning.specs.File.{studyOf}
 use Rattle.meaning.specs.Grid.{gridOf}
 use Rattle.meaning.specs.Network.{networkOf}
 use Rattle.meaning.specs.declared.System.{System}
-use Rattle.meaning.specs.declared.System.the-variants.{Wider, Local}
-use Rattle.meaning.specs.Systems.{runOf, limitOf, proposed}
+use Rattle.meaning.specs.Systems.{proposed}
 use Rattle.meaning.specs.Conditions.{SolvesSystem, Acceptable}
 use Rattle.meaning.specs.Demands.{SheetsFit}
 use Rattle.meaning.proofs.Frame.{counts}
@@ -18,8 +17,8 @@ use Rattle.sizes.proofs.SheetLength.{sheet-fits}
 
 pub solved-in-range : (S : Study) (runs : Runs) → ((system : System) → SolvesSystem (networkOf (gridOf S)) (proposed (gridOf S) runs system))
     → PotentialsInRange (length (S .nodes)) runs
-unfolding gridOf networkOf proposed runOf limitOf
-solved-in-range S runs solved = record { wider = solved Wider .potentials; local = solved Local .potentials }
+unfolding gridOf networkOf proposed
+solved-in-range S runs solved = λ system. solved system .potentials
 
 few-nodes : (file : List ℕ) (runs : Runs) → Acceptable file runs → length (studyOf file .nodes) ≤ 256
 few-nodes file runs a = omega (arith, counts file runs (a .whole) .0, a .whole .nodes .most)

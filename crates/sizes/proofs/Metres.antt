@@ -8,12 +8,17 @@ use lib.IntN.{ℤ, pos, natAbs, _-ℤ_, _*ℤ_}
 use lib.ListN.{length}
 use Rattle.integers.specs.Numbers.{sum, Σ, nearest}
 use Rattle.integers.proofs.Laws.{abs-add, abs-sub, abs-neg, abs-mul-le}
+use Rattle.meaning.specs.declared.Background.the-variants.{YearRound}
+use Rattle.meaning.specs.declared.System.the-variants.{Wider, Local}
+use Rattle.meaning.specs.Systems.{limitOf}
 use Rattle.meaning.specs.Study.{Runs}
 use Rattle.meaning.specs.Grid.{Grid}
 use Rattle.meaning.specs.Proposal.{potential}
 use Rattle.meaning.specs.declared.Side.{Side}
 use Rattle.meaning.specs.declared.Side.the-variants.{Generation, Demand}
-use Rattle.meaning.specs.Figures.{metres, widerMetres, localMetres, distance, zones, zoneOf, weight, zoneWeight, zonePaying, totalPaying, overZones, zonalMetres, C, afterC}
+use Rattle.meaning.specs.Charging.{metres}
+use Rattle.meaning.specs.Figures.{widerMetres, localMetres, distance, zones, zoneOf, weight, zoneWeight, zonePaying, totalPaying, overZones, zonalMetres, C, afterC, basis}
+use Rattle.meaning.specs.Charging as charging
 use Rattle.meaning.specs.Conditions.{InRange}
 use Rattle.sizes.specs.Bounds.{PotentialsInRange, MetresFit, zoneShare, aboveOfC, belowOfC}
 use Rattle.integers.proofs.Sum.{sum-part, Σ-weighted}
@@ -34,7 +39,6 @@ module _ (G : Grid) (r : Ranged G) (f : ℕ → ℤ) (b : ℕ) (fits : (zone : �
   zones-within side k = Σ-weighted b k (λ i. f (suc i)) (λ i. zonePaying G side (suc i)) (λ i l. fits (suc i))
 
   pub overZones-within : (side : Side) → natAbs (overZones G side f) ≤ b * totalPaying G side
-  unfolding overZones
   overZones-within side = rw (zones-cover G r side) at (zones-within side (zones G side))
 
 -- step 8 over plain numbers: p and q = 1000 - p thousandths
@@ -55,12 +59,12 @@ zonal-none G runs side zone h =
 
 module _ (G : Grid) (runs : Runs) (r : Ranged G) (d : Divisors G) (u : PotentialsInRange (length (G .nodes)) runs) where
   wider-node : (v : ℕ) → v < length (G .nodes) → natAbs (widerMetres runs v) ≤ 10000000
-  unfolding widerMetres
-  wider-node v h = metres-within (potential (runs .wider) v) (u .wider v h)
+  unfolding widerMetres limitOf
+  wider-node v h = metres-within (potential (runs (Wider YearRound)) v) (u (Wider YearRound) v h)
 
   local-node : (v : ℕ) → v < length (G .nodes) → natAbs (localMetres runs v) ≤ 10000000
-  unfolding localMetres
-  local-node v h = metres-within (potential (runs .local) v) (u .local v h)
+  unfolding localMetres limitOf
+  local-node v h = metres-within (potential (runs Local) v) (u Local v h)
 
   node-distance : (side : Side) (v : ℕ) → v < length (G .nodes) → natAbs (distance runs side v) ≤ 10000000
   unfolding distance
@@ -91,11 +95,11 @@ module _ (G : Grid) (runs : Runs) (r : Ranged G) (d : Divisors G) (u : Potential
       (record { least = d Demand; most = r .payers Demand })
 
   centre : natAbs (C G runs) ≤ 10000000
-  unfolding C
+  unfolding charging.C basis
   centre = nearest-within (aboveOfC G runs) 10000000 (belowOfC G) above-within
 
   with-C : (side : Side) (zone : ℕ) → natAbs (afterC G runs side zone) ≤ 20000000
-  unfolding afterC
+  unfolding charging.afterC charging.priced basis
   with-C Generation zone = omega (arith, abs-add (zonalMetres G runs Generation zone) (C G runs), zonal Generation zone, centre)
   with-C Demand zone = omega (arith, abs-sub (zonalMetres G runs Demand zone) (C G runs), zonal Demand zone, centre)
 

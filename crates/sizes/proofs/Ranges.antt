@@ -24,8 +24,8 @@ pub record Ranged (G : Grid) : Type 0 where
   pub enough : totalDemand G ≤ totalTec G
   pub p : G .settings .p ≤ 1000
   pub constant : G .settings .constant ≤ 10000
-  pub widerFactor : G .settings .widerFactor ≤ 5000
-  pub localFactor : G .settings .localFactor ≤ 5000
+  pub widerFactor : G .settings .«wider_factor» ≤ 5000
+  pub localFactor : G .settings .«local_factor» ≤ 5000
   pub revenue : G .settings .revenue ≤ 10000000000
   pub names : (v : ℕ) → v < length (G .nodes) → length (node (G .nodes) v .name) ≡ 12
   pub expanded : (c : ℕ) → c < length (G .circuits) → expandedLength (G .settings) (circuit (G .circuits) c) ≤ 30000000000

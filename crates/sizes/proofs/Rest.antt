@@ -13,7 +13,9 @@ use Rattle.meaning.specs.Study.{Runs}
 use Rattle.meaning.specs.Grid.{Grid, payingTec}
 use Rattle.meaning.specs.declared.Side.{Side}
 use Rattle.meaning.specs.declared.Side.the-variants.{Generation, Demand}
-use Rattle.meaning.specs.Figures.{residualOf, remainderOf, paying, totalPaying, overZones, target, zoneTariff, localTariff, localIncome, rest, residual, remainder, zoneTotal}
+use Rattle.meaning.specs.Charging.{residualOf, remainderOf}
+use Rattle.meaning.specs.Figures.{paying, totalPaying, overZones, target, zoneTariff, localTariff, localIncome, rest, residual, remainder, zoneTotal, basis}
+use Rattle.meaning.specs.Charging as charging
 use Rattle.sizes.specs.Bounds.{TariffsFit, RestFits}
 use Rattle.integers.proofs.Sum.{sum-part, Σ-weighted}
 use Rattle.integers.proofs.Div.{floor-le, floor-ge}
@@ -61,7 +63,6 @@ target-of revenue p h j = (simp Z (omega arith), simp Z (omega (arith, mul-le-mu
 
 module _ (G : Grid) (runs : Runs) (r : Ranged G) (d : Divisors G) (t : TariffsFit G runs) where
   target-between : (side : Side) → Between (pos 0) (target G side) (pos 10000000000000000)
-  unfolding target
   target-between Generation = target-of (G .settings .revenue) (1000 - G .settings .p) (r .revenue) (omega arith)
   target-between Demand = target-of (G .settings .revenue) (G .settings .p) (r .revenue) (r .p)
 
@@ -73,13 +74,13 @@ module _ (G : Grid) (runs : Runs) (r : Ranged G) (d : Divisors G) (t : TariffsFi
   pays-to k h = le-trans (sum-part k (length (G .nodes)) (payingTec G) h) (r .payers Generation)
 
   local-within : (side : Side) → natAbs (localIncome G runs side) ≤ 5000000000 * totalPaying G side
-  unfolding localIncome totalPaying paying
+  unfolding charging.localIncome totalPaying paying basis
   local-within Generation = local-to (length (G .nodes)) (le-refl _)
   local-within Demand = omega arith
 
   rest-range : (side : Side)
       → Between (negℤ (pos (15000000000 * totalPaying G side))) (rest G runs side) (pos (10000000000000000 + 15000000000 * totalPaying G side))
-  unfolding rest
+  unfolding charging.rest charging.priced basis
   rest-range side =
       rest-between (target G side) (overZones G side (zoneTariff G runs side)) (localIncome G runs side) (totalPaying G side) (target-between side)
       (overZones-within G r (zoneTariff G runs side) 10000000000 (t .ofZone side) side)
@@ -89,15 +90,15 @@ module _ (G : Grid) (runs : Runs) (r : Ranged G) (d : Divisors G) (t : TariffsFi
   rest-most side = rest-size (rest G runs side) (totalPaying G side) (r .payers side) (rest-range side)
 
   residual-range : (side : Side) → Between (negℤ (pos 15000000000)) (residual G runs side) (pos 10000015000000000)
-  unfolding residual
+  unfolding charging.residual charging.priced basis
   residual-range side = residual-between (rest G runs side) (totalPaying G side) (d side) (rest-range side)
 
   total-range : (side : Side) (zone : ℕ) → Between (negℤ (pos 25000000000)) (zoneTotal G runs side zone) (pos 10000025000000000)
-  unfolding zoneTotal
+  unfolding charging.zoneTotal charging.priced basis
   total-range side zone = total-between (zoneTariff G runs side zone) (residual G runs side) (t .ofZone side zone) (residual-range side)
 
   remainder-range : (side : Side) → (pos 0 ≤ℤ remainder G runs side) × (remainder G runs side <ℤ pos (totalPaying G side))
-  unfolding remainder
+  unfolding charging.remainder charging.priced basis
   remainder-range side = remainder-between (rest G runs side) (totalPaying G side) (d side)
 
   pub rest-fits : RestFits G runs

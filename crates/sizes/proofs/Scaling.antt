@@ -1,5 +1,4 @@
 -- 01, steps 1, 3 and 4: scaled generation is at most the TEC, so supplies are small; signed lengths.
-use mathlib.Core.Path.{_≡_}
 use Prim.Native.Nat.{ℕ, _*_, _≤_, _<_}
 use native.Mathlib.Omega.{arith}
 use lib.IntN.{ℤ, pos, natAbs, _-ℤ_}
@@ -12,6 +11,7 @@ use Rattle.meaning.specs.Scaled.{scaled}
 use Rattle.meaning.specs.declared.Direction.{Direction}
 use Rattle.meaning.specs.declared.Direction.the-variants.{Idle, Forward, Backward, InDoubt}
 use Rattle.meaning.specs.Direction.{direction, signed, signedLength, expandedLength}
+use Rattle.meaning.specs.declared.Background.the-variants.{YearRound}
 use Rattle.meaning.specs.declared.System.the-variants.{Base}
 use Rattle.meaning.specs.Systems.{net, supply, lengthOf, baseFlow}
 use Rattle.meaning.specs.declared.Side.the-variants.{Generation, Demand}
@@ -48,7 +48,7 @@ module _ (G : Grid) (r : Ranged G) where
   unfolding net
   net-within v h = difference _ (nodeDemand G v) 100000000 (omega (arith, scaled-fits v, tec-most v h)) (demand-most v h)
 
-  supply-within : (v : ℕ) → v < length (G .nodes) → natAbs (supply G Base v) ≤ 100000000000000
+  supply-within : (v : ℕ) → v < length (G .nodes) → natAbs (supply G (Base YearRound) v) ≤ 100000000000000
   unfolding supply
   supply-within v h = abs-mul-le (pos 1000000) (net G v) {m = 1000000} (omega arith) (net-within v h)
 

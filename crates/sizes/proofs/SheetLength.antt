@@ -1,7 +1,7 @@
 -- 01, The sheet: no sheet is longer than 14,240 bytes. A zone line takes at most 74, a node line 37, the C line 12, the R line 20.
 use mathlib.Core.Path.{_≡_, refl}
 use mathlib.Core.Bool.{Bool, true, false, cond}
-use mathlib.Core.List.{List, [], _∷_}
+use mathlib.Core.List.{[], _∷_}
 use Prim.Native.Nat.{ℕ, suc, _^_, _≤_, _<_}
 use native.Mathlib.Omega.{arith}
 use lib.Dec.{eqb}
@@ -13,9 +13,10 @@ use Rattle.meaning.specs.Study.{Runs, node}
 use Rattle.meaning.specs.Grid.{Grid, gridOf, nodeTec}
 use Rattle.meaning.specs.declared.Side.{Side}
 use Rattle.meaning.specs.declared.Side.the-variants.{Generation, Demand}
-use Rattle.meaning.specs.Figures.{zones, zoneWeight, zonalMetres, C, afterC, zoneTariff, residual, zoneTotal, localMetres, localTariff, remainder, totalPaying}
-use Rattle.meaning.specs.Text.{text, natural, decimal, line}
-use Rattle.meaning.specs.Sheet.{letter, zoneLine, zoneLines, localLine, sheet}
+use Rattle.meaning.specs.Figures.{zones, zonalMetres, C, afterC, zoneTariff, residual, zoneTotal, localMetres, localTariff, remainder, totalPaying, zoneFigures, localFigures, basis}
+use Rattle.meaning.specs.Charging as charging
+use Rattle.meaning.specs.Text.{text, decimal, decimals, line}
+use Rattle.meaning.specs.Sheet.{constantFields, letter, zoneNumbers, zoneFields, nodeFields, nodeLine, remainderFields, Shown, zoneRow, sideOf, shownOf, zoneLines, nodeLines, sheetText, sheet}
 use Rattle.sizes.specs.Bounds.{FiguresFit, SheetAlwaysFits}
 use Rattle.sizes.proofs.Ranges.{Ranged, ranged}
 use Rattle.sizes.proofs.Figures.{figures-fit}
@@ -40,40 +41,49 @@ unfolding letter
 letter-length Generation = refl
 letter-length Demand = refl
 
--- one of two texts
-either-length : (b : Bool) (x y : List ℕ) (w : ℕ) → length x ≤ w → length y ≤ w → length (cond b x y) ≤ w
-either-length true x y w h k = h
-either-length false x y w h k = k
+-- what holds of two texts, or of the fields of two lines, holds of either
+either : {A : Type 0} (P : A → Type 0) (b : Bool) (x y : A) → P x → P y → P (cond b x y)
+either P true x y h k = h
+either P false x y h k = k
 
 module _ (G : Grid) (runs : Runs) (r : Ranged G) (f : FiguresFit G runs) where
-  zone-line : (side : Side) (zone : ℕ) → zone ≤ 32 → length (zoneLine G runs side zone) ≤ 74
-  unfolding zoneLine taken
-  zone-line side zone h =
-      let number = natural-length 1 zone (omega arith) in
-      either-length (eqb (zoneWeight G side zone) 0) _ _ 74
-      (rw (line-length (letter side) (natural zone ∷ text "-" ∷ [])) (omega (arith, letter-length side)))
-      (rw (line-length (letter side) _) (omega (
+  abbrev s : Shown
+  s = shownOf G runs
+
+  zone-numbers : (side : Side) (zone : ℕ) → taken (decimals (zoneNumbers (residual G runs side) (zoneFigures G runs side zone))) ≤ 69
+  unfolding zoneNumbers charging.zoneFigures charging.zoneTotal decimals taken charging.priced basis
+  zone-numbers side zone = omega (
+    arith,
+    within-length 7 (zonalMetres G runs side zone) (omega (arith, f .metres .zonal side zone)),
+    within-length 7 (afterC G runs side zone) (omega (arith, f .metres .withC side zone)),
+    within-length 10 (zoneTariff G runs side zone) (omega (arith, f .tariffs .ofZone side zone)),
+    residual-length (residual G runs side) (f .rests .residualRange side),
+    rest-length (zoneTotal G runs side zone) (f .rests .totalRange side zone),
+  )
+
+  zone-line : (side : Side) (k : ℕ) → k < 32 → length (line (zoneRow side (sideOf G runs side) k)) ≤ 74
+  unfolding zoneFields taken
+  zone-line side k h =
+      let z = zoneFigures G runs side (suc k) in
+      rw (line-length (letter side) _) (omega (
         arith,
         letter-length side,
-        within-length 7 (zonalMetres G runs side zone) (omega (arith, f .metres .zonal side zone)),
-        within-length 7 (afterC G runs side zone) (omega (arith, f .metres .withC side zone)),
-        within-length 10 (zoneTariff G runs side zone) (omega (arith, f .tariffs .ofZone side zone)),
-        residual-length (residual G runs side) (f .rests .residualRange side),
-        rest-length (zoneTotal G runs side zone) (f .rests .totalRange side zone),
-      )))
+        natural-length 1 (suc k) (omega arith),
+        either (λ fs. taken fs ≤ 69) (eqb (z .weight .0) 0) (text "-" ∷ []) (decimals (zoneNumbers (residual G runs side) z)) (omega arith) (zone-numbers side (suc k)),
+      ))
 
-  zone-lines : (side : Side) → length (zoneLines G runs side) ≤ 2368
+  zone-lines : (side : Side) → length (zoneLines side (sideOf G runs side)) ≤ 2368
   unfolding zoneLines
   zone-lines side = omega (
     arith,
-    joined-length (zones G side) 74 (λ k. zoneLine G runs side (suc k)) (λ k l. zone-line side (suc k) (omega (arith, r .zonesMost side))),
+    joined-length (zones G side) 74 (λ k. line (zoneRow side (sideOf G runs side) k)) (λ k l. zone-line side k (omega (arith, r .zonesMost side))),
     r .zonesMost side,
   )
 
-  local-line : (v : ℕ) → v < length (G .nodes) → length (localLine G runs v) ≤ 37
-  unfolding localLine taken
-  local-line v h =
-      either-length (eqb (nodeTec G v) 0) [] _ 37 (omega arith)
+  node-line : (v : ℕ) → v < length (G .nodes) → length (nodeLine (s .name v) (s .local v)) ≤ 37
+  unfolding nodeLine nodeFields charging.localFigures decimals taken basis
+  node-line v h =
+      either (λ l. length l ≤ 37) (eqb (nodeTec G v) 0) [] _ (omega arith)
       (rw (line-length (text "L") _) (omega (
         arith,
         unpadded-length (node (G .nodes) v .name),
@@ -82,28 +92,25 @@ module _ (G : Grid) (runs : Runs) (r : Ranged G) (f : FiguresFit G runs) where
         within-length 9 (localTariff G runs v) (omega (arith, f .tariffs .ofNode v h)),
       )))
 
-  C-line : length (line (text "C" ∷ decimal (C G runs) ∷ [])) ≤ 12
-  unfolding taken
-  C-line = rw (line-length (text "C") (decimal (C G runs) ∷ [])) (omega (arith, within-length 7 (C G runs) (omega (arith, f .metres .centre))))
+  node-lines : length (G .nodes) ≤ 256 → length (nodeLines (s .nodes) (s .name) (s .local)) ≤ 9472
+  unfolding nodeLines
+  node-lines h = omega (arith, joined-length (length (G .nodes)) 37 (λ v. nodeLine (s .name v) (s .local v)) node-line)
 
-  R-line : length (line (text "R" ∷ decimal (remainder G runs Generation) ∷ decimal (remainder G runs Demand) ∷ [])) ≤ 20
-  unfolding taken
-  R-line = rw (line-length (text "R") (decimal (remainder G runs Generation) ∷ decimal (remainder G runs Demand) ∷ [])) (omega (
+  C-line : length (line (constantFields (s .c))) ≤ 12
+  unfolding constantFields decimals taken
+  C-line = rw (line-length (text "C") _) (omega (arith, within-length 7 (C G runs) (omega (arith, f .metres .centre))))
+
+  R-line : length (line (remainderFields (s .side Generation .remainder) (s .side Demand .remainder))) ≤ 20
+  unfolding remainderFields decimals taken
+  R-line = rw (line-length (text "R") _) (omega (
     arith,
     remainder-length (remainder G runs Generation) (totalPaying G Generation) (r .payers Generation) (f .rests .remainderRange Generation),
     remainder-length (remainder G runs Demand) (totalPaying G Demand) (r .payers Demand) (f .rests .remainderRange Demand),
   ))
 
   pub sheet-length : length (G .nodes) ≤ 256 → length (sheet G runs) ≤ 14240
-  unfolding sheet
-  sheet-length h = simp length-append (omega (
-    arith,
-    C-line,
-    zone-lines Generation,
-    zone-lines Demand,
-    joined-length (length (G .nodes)) 37 (localLine G runs) local-line,
-    R-line,
-  ))
+  unfolding sheet sheetText
+  sheet-length h = simp length-append (omega (arith, C-line, zone-lines Generation, zone-lines Demand, node-lines h, R-line))
 
 -- "so it never prints 12"
 pub sheet-fits : SheetAlwaysFits

@@ -7,7 +7,9 @@ use Rattle.integers.proofs.Laws.{abs-mul-le}
 use Rattle.meaning.specs.Study.{Runs}
 use Rattle.meaning.specs.Grid.{Grid}
 use Rattle.meaning.specs.declared.Side.{Side}
-use Rattle.meaning.specs.Figures.{tariff, localMetres, afterC, zoneTariff, localTariff}
+use Rattle.meaning.specs.Charging.{tariff}
+use Rattle.meaning.specs.Figures.{localMetres, afterC, zoneTariff, localTariff, basis}
+use Rattle.meaning.specs.Charging as charging
 use Rattle.sizes.specs.Bounds.{MetresFit, TariffsFit}
 use Rattle.integers.proofs.Div.{nearest-within}
 use Rattle.sizes.proofs.Ranges.{Ranged}
@@ -25,19 +27,19 @@ module _ (G : Grid) (runs : Runs) (r : Ranged G) (m : MetresFit G runs) where
   abbrev constant : ℕ
   constant = G .settings .constant
 
-  zone-product : (side : Side) (zone : ℕ) → natAbs (afterC G runs side zone *ℤ pos constant *ℤ pos (G .settings .widerFactor)) ≤ 1000000000000000
-  zone-product side zone = product-within (afterC G runs side zone) 20000000 constant (G .settings .widerFactor) (m .withC side zone) (r .constant) (r .widerFactor)
+  zone-product : (side : Side) (zone : ℕ) → natAbs (afterC G runs side zone *ℤ pos constant *ℤ pos (G .settings .«wider_factor»)) ≤ 1000000000000000
+  zone-product side zone = product-within (afterC G runs side zone) 20000000 constant (G .settings .«wider_factor») (m .withC side zone) (r .constant) (r .widerFactor)
 
   zone-tariff : (side : Side) (zone : ℕ) → natAbs (zoneTariff G runs side zone) ≤ 10000000000
-  unfolding zoneTariff
-  zone-tariff side zone = tariff-within (afterC G runs side zone) 20000000 constant (G .settings .widerFactor) (m .withC side zone) (r .constant) (r .widerFactor)
+  unfolding charging.zoneTariff charging.priced basis
+  zone-tariff side zone = tariff-within (afterC G runs side zone) 20000000 constant (G .settings .«wider_factor») (m .withC side zone) (r .constant) (r .widerFactor)
 
-  local-product : (v : ℕ) → v < length (G .nodes) → natAbs (localMetres runs v *ℤ pos constant *ℤ pos (G .settings .localFactor)) ≤ 500000000000000
-  local-product v h = product-within (localMetres runs v) 10000000 constant (G .settings .localFactor) (m .localNode v h) (r .constant) (r .localFactor)
+  local-product : (v : ℕ) → v < length (G .nodes) → natAbs (localMetres runs v *ℤ pos constant *ℤ pos (G .settings .«local_factor»)) ≤ 500000000000000
+  local-product v h = product-within (localMetres runs v) 10000000 constant (G .settings .«local_factor») (m .localNode v h) (r .constant) (r .localFactor)
 
   local-tariff : (v : ℕ) → v < length (G .nodes) → natAbs (localTariff G runs v) ≤ 5000000000
-  unfolding localTariff
-  local-tariff v h = tariff-within (localMetres runs v) 10000000 constant (G .settings .localFactor) (m .localNode v h) (r .constant) (r .localFactor)
+  unfolding charging.localTariff basis
+  local-tariff v h = tariff-within (localMetres runs v) 10000000 constant (G .settings .«local_factor») (m .localNode v h) (r .constant) (r .localFactor)
 
   pub tariffs-fit : TariffsFit G runs
   tariffs-fit = record { zoneProduct = zone-product; ofZone = zone-tariff; localProduct = local-product; ofNode = local-tariff }

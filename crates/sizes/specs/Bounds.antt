@@ -15,18 +15,19 @@ use Rattle.meaning.specs.Grid.{Grid, gridOf, nodeTec, payingTec, totalDemand}
 use Rattle.meaning.specs.Scaled.{scaled}
 use Rattle.meaning.specs.Direction.{expandedLength}
 use Rattle.meaning.specs.Proposal.{potential}
+use Rattle.meaning.specs.declared.Background.the-variants.{YearRound}
+use Rattle.meaning.specs.declared.System.{System}
 use Rattle.meaning.specs.declared.System.the-variants.{Base}
-use Rattle.meaning.specs.Systems.{net, supply, lengthOf}
+use Rattle.meaning.specs.Systems.{limitOf, net, supply, lengthOf}
 use Rattle.meaning.specs.declared.Side.{Side}
 use Rattle.meaning.specs.declared.Side.the-variants.{Generation, Demand}
 use Rattle.meaning.specs.Figures.{widerMetres, localMetres, distance, zones, zoneOf, weight, paying, zoneWeight, zonePaying, totalPaying, overZones, target, zonalMetres, C, afterC, zoneTariff, localTariff, rest, residual, remainder, zoneTotal}
 use Rattle.meaning.specs.Sheet.{sheet}
 use Rattle.meaning.specs.Conditions.{InRange, SoundTables, SoundStudy}
 
--- what 8 has passed of the systems 2 and 3: potentials within 10^16 nm
-pub record PotentialsInRange (nodes : ℕ) (runs : Runs) : Type 0 where
-  pub wider : (v : ℕ) → v < nodes → natAbs (potential (runs .wider) v) ≤ 10000000000000000
-  pub local : (v : ℕ) → v < nodes → natAbs (potential (runs .local) v) ≤ 10000000000000000
+-- what 8 has passed: each system's potentials within their limit
+abbrev pub PotentialsInRange : (nodes : ℕ) → Runs → Type 0
+PotentialsInRange nodes runs = (system : System) (v : ℕ) → v < nodes → natAbs (potential (runs system) v) ≤ limitOf system
 
 -- after 7 and 13: a side's kilowatts that pay are not none, no part of them is above their total, and the zones have all of them
 pub record KilowattsFit (G : Grid) : Type 0 where
@@ -43,7 +44,7 @@ pub record SystemsFit (G : Grid) (runs : Runs) : Type 0 where
   pub scaledMost : (v : ℕ) → scaled (length (G .nodes)) (nodeTec G) (totalDemand G) v ≤ nodeTec G v
   pub scaledNone : (v : ℕ) → nodeTec G v ≡ 0 → scaled (length (G .nodes)) (nodeTec G) (totalDemand G) v ≡ 0
   pub netKw : (v : ℕ) → v < length (G .nodes) → natAbs (net G v) ≤ 100000000
-  pub baseSupply : (v : ℕ) → v < length (G .nodes) → natAbs (supply G Base v) ≤ 100000000000000
+  pub baseSupply : (v : ℕ) → v < length (G .nodes) → natAbs (supply G (Base YearRound) v) ≤ 100000000000000
   pub expanded : (c : ℕ) → c < length (G .circuits) → expandedLength (G .settings) (circuit (G .circuits) c) ≤ 30000000000
   pub signed : (c : ℕ) → c < length (G .circuits) → natAbs (lengthOf G runs c) ≤ 30000000000000000
 
@@ -77,10 +78,10 @@ pub record MetresFit (G : Grid) (runs : Runs) : Type 0 where
 -- step 9: tariffs, and what is divided for them
 pub record TariffsFit (G : Grid) (runs : Runs) : Type 0 where
   pub zoneProduct : (side : Side) (zone : ℕ)
-      → natAbs (afterC G runs side zone *ℤ pos (G .settings .constant) *ℤ pos (G .settings .widerFactor)) ≤ 1000000000000000
+      → natAbs (afterC G runs side zone *ℤ pos (G .settings .constant) *ℤ pos (G .settings .«wider_factor»)) ≤ 1000000000000000
   pub ofZone : (side : Side) (zone : ℕ) → natAbs (zoneTariff G runs side zone) ≤ 10000000000
   pub localProduct : (v : ℕ) → v < length (G .nodes)
-      → natAbs (localMetres runs v *ℤ pos (G .settings .constant) *ℤ pos (G .settings .localFactor)) ≤ 500000000000000
+      → natAbs (localMetres runs v *ℤ pos (G .settings .constant) *ℤ pos (G .settings .«local_factor»)) ≤ 500000000000000
   pub ofNode : (v : ℕ) → v < length (G .nodes) → natAbs (localTariff G runs v) ≤ 5000000000
 
 -- step 10: incomes as far as a loop has come, rest, residual, total and remainder. Incomes shrink with the kilowatts that divide the rest

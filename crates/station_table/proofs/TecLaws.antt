@@ -57,13 +57,13 @@ module _ (nodes v t c : ℕ) (h : c < 1792) where
       go true k e = let k = k refl in (k .known, omega arith, omega arith)
       go false k e = absurd (omega arith)
 
-  pub cell-test : c / 7 < nodes → eqb (cellOf nodes v t) c ≡ (eqb v (c / 7) && eqb t (suc (c % 7)))
+  cell-test : c / 7 < nodes → eqb (cellOf nodes v t) c ≡ (eqb v (c / 7) && eqb t (suc (c % 7)))
   cell-test l = agree _ _ (says-as says-eq (λ e. let b = cell-back e in (b .1, b .2), there)) (says-eq also says-eq)
     where
       there : (v ≡ c / 7) × (t ≡ suc (c % 7)) → cellOf nodes v t ≡ c
       there p = sym (cell-some nodes v t (record { known = omega (arith, p .0); least = omega (arith, p .1); most = omega (arith, p .1) })) ∙ omega (arith, p .0, p .1)
 
-  pub cell-out : nodes ≤ c / 7 → eqb (cellOf nodes v t) c ≡ false
+  cell-out : nodes ≤ c / 7 → eqb (cellOf nodes v t) c ≡ false
   cell-out l = ne-eqb _ _ (λ e. let b = cell-back e in omega (arith, b .0, b .1))
 
 -- ---- one pass over the stations
@@ -75,7 +75,7 @@ module _ (nodes : ℕ) (node plant : List ℕ) (tec : List Kw) where
   unfolding cellTec
   cells-none = rows-none 1792 _ _ (λ c l. ap kilowatts (sum-zero _))
 
-  pub cells-low : ((k : ℕ) → kwAt tec k < 2 ^ 32) → (k c : ℕ) → cellTec nodes node plant tec k c ≤ k * 4294967295
+  cells-low : ((k : ℕ) → kwAt tec k < 2 ^ 32) → (k c : ℕ) → cellTec nodes node plant tec k c ≤ k * 4294967295
   unfolding cellTec
   cells-low h k c = sum-bound 4294967295 k _ (λ i l. at-most (eqb (cellOf nodes (numberAt node i) (numberAt plant i)) c) (kwAt tec i) (h i))
     where
@@ -84,7 +84,7 @@ module _ (nodes : ℕ) (node plant : List ℕ) (tec : List Kw) where
       at-most false x l = omega arith
 
   module _ (k cell : ℕ) {sums : List Kw} (e : sums ≡ cells k) where
-    pub cells-here : cell < 1792 → kwAt sums cell ≡ cellTec nodes node plant tec k cell
+    cells-here : cell < 1792 → kwAt sums cell ≡ cellTec nodes node plant tec k cell
     cells-here h = rw e (ap (λ w. w .0) (rows-at (kilowatts 0) 1792 (λ c. kilowatts (cellTec nodes node plant tec k c)) cell h))
 
     pub cells-more : cell ≡ cellOf nodes (numberAt node k) (numberAt plant k) → cell < 1792
@@ -140,7 +140,7 @@ module _ (test : Plant → Bool) (by : List Kw) where
   types-low h n v = sum-bound 2199023255040 n _ (λ t l. part-low (test (plantOf (suc t))) (kwAt by (7 * v + t)) (h (7 * v + t)))
 
   module _ (c : ℕ) (h : c < 1792) {sums : List Kw} (e : sums ≡ typeSums c) where
-    pub types-here : kwAt sums (c / 7) ≡ typesTec test by (c % 7) (c / 7)
+    types-here : kwAt sums (c / 7) ≡ typesTec test by (c % 7) (c / 7)
     types-here =
         let m : min 7 (c - 7 * (c / 7)) ≡ c % 7 = omega arith in
         rw e (ap (λ w. w .0) (rows-at (kilowatts 0) 256 (λ v. kilowatts (typesTec test by (min 7 (c - 7 * v)) v)) (c / 7) (omega arith)) ∙ rw m refl)
@@ -165,11 +165,6 @@ module _ (test : Plant → Bool) (by : List Kw) where
   types-done c e h l =
       let q : c ≡ 1792 = omega arith in
       (rw q at e) ∙ rows-same 256 _ _ (λ v l. let m : min 7 (1792 - 7 * v) ≡ 7 = omega arith in rw m refl)
-
-pub types-are : (by s p : List Kw) → s ≡ rows 256 (λ v. kilowatts (typesTec scales by 7 v)) → p ≡ rows 256 (λ v. kilowatts (typesTec pays by 7 v))
-    → record { scaling = s; paying = p } ≡ tecIn by
-unfolding tecIn
-types-are by s p e f = rw (e, f) refl
 
 -- ---- of a study
 module _ (S : Study) where
@@ -209,20 +204,20 @@ module _ (S : Study) where
       q ∙ rw (n, k, e) (rows-same 1792 _ _ (λ c l. ap kilowatts (cell-is c (omega arith) l)))
 
   -- the TEC of a node through its types
-  types-is : (test : Plant → Bool) (by : List Kw) → by ≡ typesOf S → (v : ℕ) → v < 256 → typesTec test by 7 v ≡ tecOfTest test (gridOf S) v
+  types-is : (test : Plant → Bool) (v : ℕ) → v < 256 → typesTec test (typesOf S) 7 v ≡ tecOfTest test (gridOf S) v
   unfolding typesTec tecOfTest
-  types-is test by e v l = sum-same 7 _ _ (λ t m. ap (λ x. cond (test (plantOf (suc t))) x 0) (here t m))
+  types-is test v l = sum-same 7 _ _ (λ t m. ap (λ x. cond (test (plantOf (suc t))) x 0) (here t m))
     where
-      here : (t : ℕ) → t < 7 → kwAt by (7 * v + t) ≡ capacity v t
+      here : (t : ℕ) → t < 7 → kwAt (typesOf S) (7 * v + t) ≡ capacity v t
       here t m =
           let q : (7 * v + t) / 7 ≡ v = omega arith in
           let r : (7 * v + t) % 7 ≡ t = omega arith in
-          rw e (by-type-at S (7 * v + t) (omega arith) ∙ rw (q, r) refl)
+          by-type-at S (7 * v + t) (omega arith) ∙ rw (q, r) refl
 
   pub tec-is : (by : List Kw) → by ≡ typesOf S → tecIn by ≡ tecOf S
   unfolding tecIn tecOf
   tec-is by e =
-      rw (rows-same 256 _ _ (λ v l. ap kilowatts (types-is scales by e v l)), rows-same 256 _ _ (λ v l. ap kilowatts (types-is pays by e v l))) refl
+      rw (e, rows-same 256 _ _ (λ v l. ap kilowatts (types-is scales v l)), rows-same 256 _ _ (λ v l. ap kilowatts (types-is pays v l))) refl
 
 -- ---- of a file: a station's TEC is a u32
 u32-below : (file : List ℕ) (at : ℕ) → ((i : ℕ) → getD file i 0 < 256) → u32 file at < 2 ^ 32

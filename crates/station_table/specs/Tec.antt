@@ -26,10 +26,6 @@ cellTec nodes node plant tec stations cell =
 unfoldable pub typesTec : (Plant → Bool) → (byType : List Kw) (types v : ℕ) → ℕ
 typesTec test byType types v = sum types (λ t. cond (test (plantOf (suc t))) (kwAt byType (7 * v + t)) 0)
 
--- the test of what pays, and of what scales
-abbrev pub added : (paying : Bool) → Plant → Bool
-added paying plant = cond paying (pays plant) (scales plant)
-
 -- what scales and what pays by node, from the TEC by node and plant type
 unfoldable pub tecIn : (byType : List Kw) → TecColumns
 tecIn byType =

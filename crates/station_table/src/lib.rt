@@ -6,7 +6,7 @@ ghost use mathlib.Core.Path.{_≡_};
 ghost use Rattle.meaning.specs.Tables.{stationsStage};
 ghost use Rattle.layout.specs.Readable.{readable};
 ghost use Rattle.station_table.specs.Columns.{stationsOf};
-ghost use Rattle.station_table.specs.Tec.{tecOf};
+ghost use Rattle.station_table.specs.Tec.{typesOf, tecOf};
 use meaning::Judgement;
 use meaning::Kw;
 
@@ -23,9 +23,10 @@ pub struct TecColumns {
     pub paying: [Kw; 256],
 }
 
-// The table judged, and its TEC added up: names are resolved once for both.
+// The table judged, and its TEC added up by node and plant type, type t of node v at 7 v + t - 1, and by node: names are resolved once for all.
 pub struct JudgedStations {
     pub judgement: Judgement,
+    pub by_type: [Kw; 1792],
     pub tec: TecColumns,
 }
 
@@ -41,9 +42,9 @@ fn columns(file: &[u8]) -> StationColumns
     StationColumns { node, plant, tec }
 }
 
-// 5: the lowest station that is not sound; and the TEC of each node.
+// 5: the lowest station that is not sound; and the TEC of each node, by plant type and in all.
 pub fn judge(file: &[u8]) -> JudgedStations
-    ensures { λ r. ⌜ (r .judgement ≡ stationsStage (readable (now (file .entry)))) × (r .tec ≡ tecOf (readable (now (file .entry)))) ⌝ }
+    ensures { λ r. ⌜ (r .judgement ≡ stationsStage (readable (now (file .entry)))) × (r .«by_type» ≡ typesOf (readable (now (file .entry)))) × (r .tec ≡ tecOf (readable (now (file .entry)))) ⌝ }
 {
     let nodes = layout::section(file, layout::NODES).count as usize;
     let rows = layout::section(file, layout::STATIONS);
@@ -52,5 +53,9 @@ pub fn judge(file: &[u8]) -> JudgedStations
     let judgement = row::stage(file, nodes, rows, node);
     let by_type = tec::by_type(columns, nodes, rows.count as usize);
     let tec = tec::by_node(by_type);
-    JudgedStations { judgement, tec }
+    JudgedStations {
+        judgement,
+        by_type,
+        tec,
+    }
 }

@@ -3,6 +3,7 @@ use crate::StationColumns;
 use crate::TecColumns;
 use meaning::Kw;
 use meaning::Section;
+use plants::Counted;
 ghost use mathlib.Core.Path.{_≡_};
 ghost use mathlib.Core.Bool.{cond};
 ghost use Prim.Native.Nat.{ℕ, _+_, _%_, _≤_, _<_, _^_};
@@ -10,7 +11,8 @@ ghost use Rattle.meaning.specs.File.{u32, rowAt};
 ghost use Rattle.meaning.specs.Rows.{rows};
 ghost use Rattle.meaning.specs.Grid.{plantOf};
 ghost use Rattle.meaning.specs.Columns.{kilowatts, kwAt, column};
-ghost use Rattle.station_table.specs.Tec.{cellOf, cellTec, added, typesTec, tecIn};
+ghost use Rattle.plants.specs.Counted.{isCounted};
+ghost use Rattle.station_table.specs.Tec.{cellOf, cellTec, typesTec, tecIn};
 
 // The TEC of each station; nothing past the last row, and no more than 512.
 pub fn by_station(file: &[u8], rows: Section, field: u32) -> [Kw; 512]
@@ -55,36 +57,25 @@ pub fn by_type(stations: StationColumns, nodes: usize, count: usize) -> [Kw; 179
     sums
 }
 
-// Whether a cell's TEC is added up: if its plant type pays, or if it scales.
-pub fn is_added(paying: bool, cell: usize) -> bool
-    ensures { λ r. ⌜ r ≡ added paying (plantOf (cell % 7 + 1)) ⌝ }
+// What counts of a cell's TEC.
+pub fn part(counted: Counted, cell: usize, tec: Kw) -> Kw
+    ensures { λ r. ⌜ r .0 ≡ cond (isCounted counted (plantOf (cell % 7 + 1))) (tec .0) 0 ⌝ }
 {
-    let plant = plants::plant_of(cell % 7 + 1);
-    if paying {
-        return plants::pays(plant);
-    }
-    plants::scales(plant)
-}
-
-// What is added up of a cell's TEC.
-pub fn part(paying: bool, cell: usize, tec: Kw) -> Kw
-    ensures { λ r. ⌜ r .0 ≡ cond (added paying (plantOf (cell % 7 + 1))) (tec .0) 0 ⌝ }
-{
-    if is_added(paying, cell) {
+    if plants::counts(counted, plants::plant_of(cell % 7 + 1)) {
         return tec;
     }
     Kw(0)
 }
 
-// TEC by node: what pays, or what scales.
-pub fn sums_of(by_type: [Kw; 1792], paying: bool) -> [Kw; 256]
+// TEC by node, of the types that count.
+pub fn sums_of(by_type: [Kw; 1792], counted: Counted) -> [Kw; 256]
     requires { ⌜ ((c : ℕ) → kwAt «by_type» c ≤ 2199023255040) ⌝ }
-    ensures { λ r. ⌜ r ≡ rows 256 (λ v. kilowatts (typesTec (added paying) «by_type» 7 v)) ⌝ }
+    ensures { λ r. ⌜ r ≡ rows 256 (λ v. kilowatts (typesTec (isCounted counted) «by_type» 7 v)) ⌝ }
 {
     let mut sums = [Kw(0); 256];
     let mut cell = 0;
     while cell < 1792 {
-        let more = part(paying, cell, by_type[cell]);
+        let more = part(counted, cell, by_type[cell]);
         sums[cell / 7].0 += more.0;
         cell += 1;
     }
@@ -96,7 +87,7 @@ pub fn by_node(by_type: [Kw; 1792]) -> TecColumns
     requires { ⌜ ((c : ℕ) → kwAt «by_type» c ≤ 2199023255040) ⌝ }
     ensures { λ r. ⌜ r ≡ tecIn «by_type» ⌝ }
 {
-    let scaling = sums_of(by_type, false);
-    let paying = sums_of(by_type, true);
+    let scaling = sums_of(by_type, Counted::Scaling);
+    let paying = sums_of(by_type, Counted::Paying);
     TecColumns { scaling, paying }
 }

@@ -8,10 +8,8 @@ use meaning::Side;
 use meaning::SideFigures;
 use meaning::ZoneFigures;
 ghost use mathlib.Core.Path.{_≡_};
-ghost use Rattle.integers.specs.Numbers.{nearest};
-ghost use Rattle.meaning.specs.Figures.{metres as metresOf, residualOf};
+ghost use Rattle.meaning.specs.Charging.{metres as metresOf, turned, averageOf, residualOf};
 ghost use Rattle.meaning.specs.Columns.{noLine, noLocal};
-ghost use Rattle.steps.specs.Steps.{turned};
 ghost use Rattle.steps.specs.Nothing.{noSide, noFigures};
 
 // Step 6: nodal metres, the potential's nanometres to the nearest.
@@ -34,7 +32,7 @@ pub fn distance(side: Side, potential: i64) -> Metres
 
 // Step 7: an average, a sum of metres times kilowatts over the kilowatts, to the nearest.
 pub fn average(sum: i64, kw: Kw) -> Metres
-    ensures { λ r. ⌜ r .0 ≡ nearest sum (kw .0) ⌝ }
+    ensures { λ r. ⌜ r .0 ≡ averageOf sum (kw .0) ⌝ }
 {
     Metres(integers::nearest(sum, kw.0))
 }

@@ -33,8 +33,8 @@ baseSupply n tec demand =
 
 -- step 3: the base system's supply; step 5: supply 0
 unfoldable pub supplyIn : System → (base : List ℤ) → List ℤ
-supplyIn Base base = base
-supplyIn Wider base = replicate 256 (pos 0)
+supplyIn (Base b) base = base
+supplyIn (Wider b) base = replicate 256 (pos 0)
 supplyIn Local base = replicate 256 (pos 0)
 
 -- what 7 has passed: the TEC of n nodes, its total, and the total demand

@@ -24,8 +24,8 @@ pub fn in_system(system: System, base: [i64; 256]) -> [i64; 256]
     ensures { λ r. ⌜ r ≡ supplyIn system base ⌝ }
 {
     match system {
-        System::Base => base,
-        System::Wider => [0i64; 256],
+        System::Base(_) => base,
+        System::Wider(_) => [0i64; 256],
         System::Local => [0i64; 256],
     }
 }

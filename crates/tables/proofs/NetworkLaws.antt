@@ -12,7 +12,7 @@ use Rattle.meaning.proofs.Networks.{SameNetwork}
 use Rattle.layout.specs.Frame.{countsOf}
 use Rattle.circuit_table.specs.Columns.{circuitsOf}
 use Rattle.tables.specs.declared.Opened.{Opened}
-use Rattle.tables.proofs.ReadLaws.{StudyColumns, reference-is}
+use Rattle.tables.proofs.ReadLaws.{StudyColumns}
 
 -- a column has room for 512 circuits
 pub columns-network : {S : Study} {o : Opened} → StudyColumns S o → length (S .circuits) ≤ 512
@@ -24,7 +24,7 @@ columns-network {S} {o} t few =
       ends = record {
         nodes = rw (t .counts) refl;
         circuits = m;
-        reference = rw (reference-is t) refl;
+        reference = rw (t .settings) refl;
         first = λ c h. rw (t .circuits) (rows-at 0 512 _ c (omega (arith, m)));
         second = λ c h. rw (t .circuits) (rows-at 0 512 _ c (omega (arith, m)));
       };

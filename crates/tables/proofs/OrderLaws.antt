@@ -3,6 +3,7 @@ use mathlib.Core.Path.{_≡_, refl, sym, _∙_}
 use mathlib.Core.Bool.{Bool, true, false}
 use mathlib.Core.List.{List}
 use Prim.Native.Nat.{ℕ}
+use Rattle.meaning.specs.declared.System.{System}
 use Rattle.meaning.specs.declared.Refusal.{Refusal}
 use Rattle.meaning.specs.declared.Judgement.{Judgement}
 use Rattle.meaning.specs.declared.Judgement.the-variants.{Passes, Stops}
@@ -35,25 +36,25 @@ pub record Passed (frame : Judgement) (file : List ℕ) : Type 0 where
 pub rows-passed : (frame : Judgement) (file : List ℕ) → thenStations frame file ≡ Passes → Passed frame file
 rows-passed frame file p = let s = passes-orElse _ _ .0 p in record { toNodes = passes-orElse _ _ .0 (s .0) .0; toCircuits = s .0 }
 
-module _ (file : List ℕ) (base wider local : ℕ) where
+module _ (file : List ℕ) (long : System → ℕ) where
   -- 1 to 7 and 13 in their order: a file that is not whole is stopped before its study matters
   later : Study → Judgement
   later S = rowsStage S orElse gridStage (gridOf S)
 
-  regrouped : thenStations (frameStage file base wider local) file orElse gridStage (gridOf (readable file)) ≡ fileStage file orElse runsStage file base wider local orElse later (readable file)
+  regrouped : thenStations (frameStage file long) file orElse gridStage (gridOf (readable file)) ≡ fileStage file orElse runsStage file long orElse later (readable file)
   unfolding frameStage rowsStage later
   regrouped = simp (orElse-assoc)
 
   of-study : (b : Bool) → fileWhole file ≡ b
-      → fileStage file orElse runsStage file base wider local orElse later (readable file) ≡ fileStage file orElse runsStage file base wider local orElse later (studyOf file)
+      → fileStage file orElse runsStage file long orElse later (readable file) ≡ fileStage file orElse runsStage file long orElse later (studyOf file)
   unfolding fileStage unless _orElse_
   of-study true e = rw (readable-whole file e) refl
   of-study false e = rw e refl
 
-  pub chain-is : thenStations (frameStage file base wider local) file orElse gridStage (gridOf (readable file)) ≡ tablesStage file base wider local
+  pub chain-is : thenStations (frameStage file long) file orElse gridStage (gridOf (readable file)) ≡ tablesStage file long
   unfolding tablesStage later
   chain-is = regrouped ∙ of-study (fileWhole file) refl
 
   -- what stops the frame stops the file
-  pub frame-stops : {r : Refusal} → frameStage file base wider local ≡ Stops r → tablesStage file base wider local ≡ Stops r
+  pub frame-stops : {r : Refusal} → frameStage file long ≡ Stops r → tablesStage file long ≡ Stops r
   frame-stops e = sym (chain-is) ∙ rw (orElse-stops (nodesStage (readable file)) e, orElse-stops (circuitsStage (readable file)) e, orElse-stops (stationsStage (readable file)) e, orElse-stops (gridStage (gridOf (readable file))) e) e

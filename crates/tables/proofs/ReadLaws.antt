@@ -1,12 +1,12 @@
 -- What is read of a file that nothing among 1 to 4 stops: the columns of its study.
-use mathlib.Core.Path.{_≡_, refl, sym, _∙_}
+use mathlib.Core.Path.{_≡_, sym, _∙_}
 use mathlib.Core.List.{List}
 use Prim.Native.Nat.{ℕ}
 use Rattle.meaning.specs.declared.Judgement.{Judgement}
 use Rattle.meaning.specs.declared.Judgement.the-variants.{Passes}
 use Rattle.meaning.specs.Study.{Study}
 use Rattle.layout.specs.Readable.{readable}
-use Rattle.layout.specs.Frame.{countsOf, settingsIn}
+use Rattle.layout.specs.Frame.{countsOf}
 use Rattle.node_table.specs.Columns.{nodesOf}
 use Rattle.circuit_table.specs.Columns.{circuitsOf}
 use Rattle.station_table.specs.Tec.{tecOf}
@@ -18,7 +18,7 @@ use Rattle.tables.proofs.OrderLaws.{shown-all, Passed, rows-passed}
 -- the columns of a study
 pub record StudyColumns (S : Study) (o : Opened) : Type 0 where
   pub counts : o .counts ≡ countsOf S
-  pub settings : settingsIn (o .settings) ≡ S .settings
+  pub settings : o .settings ≡ S .settings
   pub nodes : o .nodes ≡ nodesOf S
   pub circuits : o .circuits ≡ circuitsOf S
   pub tec : o .tec ≡ tecOf S
@@ -40,7 +40,3 @@ rows-read {frame} {file} t p = columns-shown (t .columns) (rows-passed frame fil
 -- another judgement leaves the columns as they are
 pub columns-kept : {frame : Judgement} {file : List ℕ} {o : Opened} → Columns frame file o → (r : Judgement) → Columns frame file (withJudgement o r)
 columns-kept t r = record { counts = t .counts; settings = t .settings; nodes = t .nodes; circuits = t .circuits; tec = t .tec }
-
-pub reference-is : {S : Study} {o : Opened} → StudyColumns S o → o .settings .reference ≡ S .settings .reference
-unfolding settingsIn
-reference-is t = rw (sym (t .settings)) refl

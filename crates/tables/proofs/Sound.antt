@@ -5,14 +5,16 @@ use mathlib.Core.List.{List}
 use Prim.Native.Nat.{ℕ, _+_, _≤_}
 use native.Mathlib.Omega.{arith}
 use lib.ListN.{length}
+use Rattle.meaning.specs.declared.System.{System}
 use Rattle.meaning.specs.declared.Judgement.the-variants.{Passes}
 use Rattle.meaning.specs.Study.{Study}
-use Rattle.meaning.specs.File.{sectionCount, fileWhole, runsWhole, studyOf, runsIn}
+use Rattle.meaning.specs.File.{solutionCount, fileWhole, runsWhole, studyOf, runsIn}
 use Rattle.meaning.specs.Conditions.{InRange, SoundTables, SoundStudy}
 use Rattle.meaning.specs.Grid.{gridOf}
 use Rattle.meaning.specs.Outcome.{fileStage, runsStage, rowsStage, gridStage, tablesStage}
 use Rattle.meaning.proofs.Answers.{passes-orElse, passes-unless}
-use Rattle.meaning.proofs.Says.{_also_, says-eq}
+use Rattle.meaning.proofs.Says.{says-eq}
+use Rattle.meaning.proofs.Systems.{says-systems}
 use Rattle.meaning.proofs.Frame as frame
 use Rattle.meaning.proofs.Tables.{sound-pass}
 use Rattle.layout.specs.Frame.{countsOf}
@@ -24,9 +26,9 @@ use Rattle.tables.specs.Opens.{Columns, Opens}
 use Rattle.tables.proofs.OrderLaws.{rows-passed, chain-is}
 use Rattle.tables.proofs.ReadLaws.{StudyColumns, columns-shown}
 
--- ---- of a file and the lengths of the three runs
-module _ (file : List ℕ) (base wider local : ℕ) (p : tablesStage file base wider local ≡ Passes) where
-  parts : (fileStage file ≡ Passes) × (runsStage file base wider local ≡ Passes) × ((rowsStage (studyOf file) ≡ Passes) × (gridStage (gridOf (studyOf file)) ≡ Passes))
+-- ---- of a file and the lengths of the runs
+module _ (file : List ℕ) (long : System → ℕ) (p : tablesStage file long ≡ Passes) where
+  parts : (fileStage file ≡ Passes) × (runsStage file long ≡ Passes) × ((rowsStage (studyOf file) ≡ Passes) × (gridStage (gridOf (studyOf file)) ≡ Passes))
   unfolding tablesStage
   parts =
       let a = passes-orElse _ _ .0 p in
@@ -40,18 +42,18 @@ module _ (file : List ℕ) (base wider local : ℕ) (p : tablesStage file base w
   pub passes-sound : SoundStudy (studyOf file)
   passes-sound = sound-pass (studyOf file) .0 (parts .2)
 
-  pub passes-runs : ((base ≡ sectionCount file 4) × (wider ≡ sectionCount file 5)) × (local ≡ sectionCount file 6)
+  pub passes-runs : (system : System) → long system ≡ solutionCount file
   unfolding runsStage runsWhole
-  passes-runs = (says-eq also says-eq also says-eq) .0 (passes-unless _ _ .0 (parts .1))
+  passes-runs = says-systems (λ s. says-eq) .0 (passes-unless _ _ .0 (parts .1))
 
 -- ---- of a file that was opened: its columns are those of its study, which is sound
-pub study-columns : (file : List ℕ) (base wider local : ℕ) {o : Opened} → Columns (frameStage file base wider local) file o → tablesStage file base wider local ≡ Passes
+pub study-columns : (file : List ℕ) (long : System → ℕ) {o : Opened} → Columns (frameStage file long) file o → tablesStage file long ≡ Passes
     → StudyColumns (studyOf file) o
-study-columns file base wider local {o} t p =
-    let r = rows-passed (frameStage file base wider local) file (passes-orElse _ _ .0 (chain-is file base wider local ∙ p) .0) in
-    subst (λ (S : Study). StudyColumns S o) (readable-whole file (passes-whole file base wider local p)) (columns-shown t r)
+study-columns file long {o} t p =
+    let r = rows-passed (frameStage file long) file (passes-orElse _ _ .0 (chain-is file long ∙ p) .0) in
+    subst (λ (S : Study). StudyColumns S o) (readable-whole file (passes-whole file long p)) (columns-shown t r)
 
-pub record SoundOpened (file : List ℕ) (base wider local : ℕ) (o : Opened) : Type 0 where
+pub record SoundOpened (file : List ℕ) (long : System → ℕ) (o : Opened) : Type 0 where
   pub whole : fileWhole file ≡ true
   pub tables : SoundTables (studyOf file)
   pub columns : StudyColumns (studyOf file) o
@@ -61,27 +63,24 @@ pub record SoundOpened (file : List ℕ) (base wider local : ℕ) (o : Opened) :
   pub nodesFew : InRange (o .counts .nodes) 1 256
   pub circuitsFew : o .counts .circuits ≤ 512
   pub stationsFew : o .counts .stations ≤ 512
-  pub baseRun : base ≡ o .counts .nodes + o .counts .circuits
-  pub widerRun : wider ≡ o .counts .nodes + o .counts .circuits
-  pub localRun : local ≡ o .counts .nodes + o .counts .circuits
+  pub lengths : (system : System) → long system ≡ o .counts .nodes + o .counts .circuits
 
-pub opened-sound : {file : List ℕ} {base wider local : ℕ} {o : Opened} → Opens file base wider local o → o .judgement ≡ Passes
-    → SoundOpened file base wider local o
+pub opened-sound : {file : List ℕ} {long : System → ℕ} {o : Opened} → Opens file long o → o .judgement ≡ Passes
+    → SoundOpened file long o
 unfolding countsOf
-opened-sound {file} {base} {wider} {local} {o} t q =
-    let p : tablesStage file base wider local ≡ Passes = sym (t .judgement) ∙ q in
-    let h = passes-whole file base wider local p in
+opened-sound {file} {long} {o} t q =
+    let p : tablesStage file long ≡ Passes = sym (t .judgement) ∙ q in
+    let h = passes-whole file long p in
     let w = whole-file file h in
     let l = frame.counts file (runsIn file) w in
-    let r = passes-runs file base wider local p in
-    let s = study-columns file base wider local (t .columns) p in
+    let s = study-columns file long (t .columns) p in
     let c = s .counts in
     let n : o .counts .nodes ≡ length (studyOf file .nodes) = rw c refl in
     let m : o .counts .circuits ≡ length (studyOf file .circuits) = rw c refl in
     let k : o .counts .stations ≡ length (studyOf file .stations) = rw c refl in
     record {
       whole = h;
-      tables = passes-sound file base wider local p .tables;
+      tables = passes-sound file long p .tables;
       columns = s;
       nodeCount = n;
       circuitCount = m;
@@ -89,7 +88,5 @@ opened-sound {file} {base} {wider} {local} {o} t q =
       nodesFew = record { least = omega (arith, l .0, w .nodes .least); most = omega (arith, l .0, w .nodes .most) };
       circuitsFew = omega (arith, l .1, frame.circuits-most file (runsIn file) w);
       stationsFew = omega (arith, l .2, w .stations);
-      baseRun = omega (arith, l .0, l .1, r .0 .0, w .solutions 4 (record { least = omega arith; most = omega arith }));
-      widerRun = omega (arith, l .0, l .1, r .0 .1, w .solutions 5 (record { least = omega arith; most = omega arith }));
-      localRun = omega (arith, l .0, l .1, r .1, w .solutions 6 (record { least = omega arith; most = omega arith }));
+      lengths = λ system. omega (arith, l .0, l .1, passes-runs file long p system);
     }

@@ -2,10 +2,11 @@
 use mathlib.Core.Path.{_≡_}
 use mathlib.Core.List.{List}
 use Prim.Native.Nat.{ℕ}
+use Rattle.meaning.specs.declared.System.{System}
 use Rattle.meaning.specs.declared.Judgement.{Judgement}
 use Rattle.meaning.specs.Outcome.{tablesStage}
 use Rattle.layout.specs.Readable.{readable}
-use Rattle.layout.specs.Frame.{countsOf, settingsIn}
+use Rattle.layout.specs.Frame.{countsOf}
 use Rattle.node_table.specs.Columns.{nodesOf}
 use Rattle.circuit_table.specs.Columns.{circuitsOf}
 use Rattle.station_table.specs.Tec.{tecOf}
@@ -15,15 +16,15 @@ use Rattle.tables.specs.Order.{frameStage, readAfter, thenNodes, thenCir
 -- of a file whose frame was judged so: a table is read where nothing among the refusals before it stops the file, and is else without rows
 pub record Columns (frame : Judgement) (file : List ℕ) (o : Opened) : Type 0 where
   pub counts : o .counts ≡ countsOf (readable file)
-  pub settings : settingsIn (o .settings) ≡ readable file .settings
+  pub settings : o .settings ≡ readable file .settings
   pub nodes : o .nodes ≡ nodesOf (readAfter (thenNodes frame file) file)
   pub circuits : o .circuits ≡ circuitsOf (readAfter (thenNodes frame file) file)
   pub tec : o .tec ≡ tecOf (readAfter (thenCircuits frame file) file)
 
--- of a file, and the lengths of the three runs: 1 to 7 and 13
-pub record Opens (file : List ℕ) (base wider local : ℕ) (o : Opened) : Type 0 where
-  pub judgement : o .judgement ≡ tablesStage file base wider local
-  pub columns : Columns (frameStage file base wider local) file o
+-- of a file, and the lengths of the runs: 1 to 7 and 13
+pub record Opens (file : List ℕ) (long : System → ℕ) (o : Opened) : Type 0 where
+  pub judgement : o .judgement ≡ tablesStage file long
+  pub columns : Columns (frameStage file long) file o
 
 -- the same columns with another judgement
 abbrev pub withJudgement : Opened → Judgement → Opened

@@ -1,6 +1,7 @@
 -- 01, What stops a case ("Order"), as the tables are read: each only where nothing before it stops the file.
 use mathlib.Core.List.{List, []}
 use Prim.Native.Nat.{ℕ}
+use Rattle.meaning.specs.declared.System.{System}
 use Rattle.meaning.specs.declared.Judgement.{Judgement}
 use Rattle.meaning.specs.declared.Judgement.the-variants.{Passes, Stops}
 use Rattle.meaning.specs.Answers.{_orElse_}
@@ -17,9 +18,9 @@ shown (Stops r) file = []
 abbrev pub readAfter : (before : Judgement) → (file : List ℕ) → Study
 readAfter before file = readable (shown before file)
 
--- 1 and 2, of a file and the lengths of the three runs: no table is read
-unfoldable pub frameStage : (file : List ℕ) → (base wider local : ℕ) → Judgement
-frameStage file base wider local = fileStage file orElse runsStage file base wider local orElse settingsStage (readable file)
+-- 1 and 2, of a file and the lengths of the runs: no table is read
+unfoldable pub frameStage : (file : List ℕ) → (long : System → ℕ) → Judgement
+frameStage file long = fileStage file orElse runsStage file long orElse settingsStage (readable file)
 
 -- then 3, then 4, then 5
 abbrev pub thenNodes : (frame : Judgement) → (file : List ℕ) → Judgement

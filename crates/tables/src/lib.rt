@@ -4,13 +4,14 @@ mod read;
 mod settings;
 
 ghost use mathlib.Core.Path.{_≡_};
+ghost use Rattle.meaning.specs.Study.{bySystem};
 ghost use Rattle.tables.specs.Order.{frameStage};
 ghost use Rattle.tables.specs.Opens.{Opens, withJudgement};
 use circuit_table::CircuitColumns;
 use layout::RowCounts;
-use layout::StudySettings;
 use meaning::Judgement;
 use meaning::Refusal;
+use meaning::Settings;
 use node_table::NodeColumns;
 use station_table::TecColumns;
 
@@ -18,7 +19,7 @@ use station_table::TecColumns;
 pub struct Opened {
     pub judgement: Judgement,
     pub counts: RowCounts,
-    pub settings: StudySettings,
+    pub settings: Settings,
     pub nodes: NodeColumns,
     pub circuits: CircuitColumns,
     pub tec: TecColumns,
@@ -26,7 +27,7 @@ pub struct Opened {
 
 // 1 and 2, before any table is read: a file that is not whole, a run of another length, a setting out of its range.
 pub fn frame(file: &[u8], base: usize, wider: usize, local: usize) -> Judgement
-    ensures { λ r. ⌜ r ≡ frameStage (now (file .entry)) base wider local ⌝ }
+    ensures { λ r. ⌜ r ≡ frameStage (now (file .entry)) (bySystem base wider local) ⌝ }
 {
     if layout::whole(file) {
         let counts = layout::counts(file);
@@ -59,7 +60,7 @@ pub fn with_judgement(opened: Opened, judgement: Judgement) -> Opened
 
 // The judgement of a file with the lengths of the three runs, its tables read in their order and its names resolved once; and its columns.
 pub fn open(file: &[u8], base: usize, wider: usize, local: usize) -> Opened
-    ensures { λ r. ⌜ Opens (now (file .entry)) base wider local r ⌝ }
+    ensures { λ r. ⌜ Opens (now (file .entry)) (bySystem base wider local) r ⌝ }
 {
     let all = read::tables(frame(file, base, wider, local), file);
     with_judgement(all, chain::judgement(all))

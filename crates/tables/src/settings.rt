@@ -3,10 +3,9 @@ ghost use mathlib.Core.Path.{_≡_};
 ghost use Rattle.meaning.specs.Answers.{unless};
 ghost use Rattle.meaning.specs.Rows.{_between_and_};
 ghost use Rattle.meaning.specs.Tables.{soundScales, soundSettings};
-ghost use Rattle.layout.specs.Frame.{settingsIn};
-use layout::StudySettings;
 use meaning::Judgement;
 use meaning::Refusal;
+use meaning::Settings;
 
 // Whether a number is in a range, both ends in it.
 pub fn between(x: usize, low: usize, high: usize) -> bool
@@ -16,8 +15,8 @@ pub fn between(x: usize, low: usize, high: usize) -> bool
 }
 
 // Whether zones, p, the constant and the security factors are in their ranges.
-pub fn sound_scales(s: StudySettings) -> bool
-    ensures { λ r. ⌜ r ≡ soundScales (settingsIn s) ⌝ }
+pub fn sound_scales(s: Settings) -> bool
+    ensures { λ r. ⌜ r ≡ soundScales s ⌝ }
 {
     between(s.generation_zones, 1, 32)
         & between(s.demand_zones, 1, 32)
@@ -28,8 +27,8 @@ pub fn sound_scales(s: StudySettings) -> bool
 }
 
 // Whether each setting is in its range; the reference is a row of the nodes' table.
-pub fn sound(s: StudySettings, nodes: usize) -> bool
-    ensures { λ r. ⌜ r ≡ soundSettings nodes (settingsIn s) ⌝ }
+pub fn sound(s: Settings, nodes: usize) -> bool
+    ensures { λ r. ⌜ r ≡ soundSettings nodes s ⌝ }
 {
     sound_scales(s)
         & (s.overhead400 == 1000)
@@ -43,8 +42,8 @@ pub fn sound(s: StudySettings, nodes: usize) -> bool
 }
 
 // The stage: a setting out of its range.
-pub fn stage(s: StudySettings, nodes: usize) -> Judgement
-    ensures { λ r. ⌜ r ≡ unless (soundSettings nodes (settingsIn s)) Refusal.BadSetting ⌝ }
+pub fn stage(s: Settings, nodes: usize) -> Judgement
+    ensures { λ r. ⌜ r ≡ unless (soundSettings nodes s) Refusal.BadSetting ⌝ }
 {
     if sound(s, nodes) {
         return Judgement::Passes;

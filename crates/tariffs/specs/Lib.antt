@@ -1,4 +1,2 @@
-pub mod Over
-pub mod Lines
 pub mod Sides
 pub mod Case

@@ -1,53 +1,60 @@
 // Steps 8 to 10 of a zone: metres after C, tariff and total.
 use crate::over::metres_of;
+use crate::price::price;
+use crate::price::worth;
 use meaning::Metres;
 use meaning::MicroPerKw;
+use meaning::Side;
 use meaning::ZoneFigures;
 use zones::ZoneSums;
 ghost use mathlib.Core.Path.{_≡_};
 ghost use Prim.Native.Nat.{_≤_};
-ghost use lib.IntN.{natAbs, _+ℤ_};
-ghost use Rattle.meaning.specs.Columns.{column, noLine, price};
+ghost use lib.IntN.{pos, natAbs, _+ℤ_, _*ℤ_};
+ghost use Rattle.meaning.specs.Columns.{column, noLine, price as priceOf};
+ghost use Rattle.meaning.specs.Charging.{withC, overZones};
 ghost use Rattle.zones.specs.Sums.{SumsFit};
-ghost use Rattle.tariffs.specs.Over.{metresFrom, sumsIn, AllFit};
-ghost use Rattle.tariffs.specs.Lines.{worthFrom, incomeFrom, lineFrom, IncomeFits};
+ghost use Rattle.tariffs.specs.Sides.{metresFrom, sumsIn, sumsOf, zonesIn, tariffFrom, lineFrom, AllFit, TermsFit};
 
-// What prices the zones of a side: C or its negative, expansion constant, security factor; and the side's target.
+// What prices the zones of a side: C, expansion constant and security factor.
 pub struct Terms {
-    pub shift: Metres,
+    pub side: Side,
+    pub c: Metres,
     pub constant: usize,
     pub factor: usize,
-    pub target: u64,
 }
 
 // Step 8: metres after C.
 pub fn after_c(zone: ZoneSums, terms: Terms) -> Metres
-    requires { ⌜ SumsFit zone × (natAbs (terms .shift .0) ≤ 10000000) ⌝ }
-    ensures { λ r. ⌜ r .0 ≡ metresFrom zone +ℤ terms .shift .0 ⌝ }
+    requires { ⌜ SumsFit zone × TermsFit terms ⌝ }
+    ensures { λ r. ⌜ r .0 ≡ withC (terms .side) (terms .c .0) (metresFrom zone) ⌝ }
 {
-    let shift = terms.shift;
-    Metres(metres_of(zone).0 + shift.0)
+    let metres = metres_of(zone);
+    let c = terms.c;
+    let side = terms.side;
+    match side {
+        Side::Generation => Metres(metres.0 + c.0),
+        Side::Demand => Metres(metres.0 - c.0),
+    }
 }
 
-// Step 10: what a zone's tariff brings in.
-pub fn zone_worth(zone: ZoneSums, terms: Terms) -> i64
-    requires { ⌜ SumsFit zone × (zone .paying .0 ≤ 100000000) × (natAbs (terms .shift .0) ≤ 10000000) ⌝ }
-    ensures { λ r. ⌜ r ≡ worthFrom terms zone ⌝ }
+// Step 9: a zone's tariff.
+pub fn zone_tariff(zone: ZoneSums, terms: Terms) -> MicroPerKw
+    requires { ⌜ SumsFit zone × TermsFit terms ⌝ }
+    ensures { λ r. ⌜ r .0 ≡ tariffFrom terms zone ⌝ }
 {
-    let paying = zone.paying;
-    let tariff = prices::price(after_c(zone, terms), terms.constant, terms.factor);
-    tariff.0 * (paying.0 as i64)
+    price(after_c(zone, terms), terms.constant, terms.factor)
 }
 
 // Step 10: what the tariffs of zones 1 to count bring in.
 pub fn zone_income(sums: [ZoneSums; 32], count: usize, terms: Terms) -> i64
-    requires { ⌜ AllFit sums × IncomeFits sums count terms ⌝ }
-    ensures { λ r. ⌜ r ≡ incomeFrom terms sums count ⌝ }
+    requires { ⌜ AllFit sums × (count ≤ 32) × (zonesIn sums count .total ≤ 100000000) × TermsFit terms ⌝ }
+    ensures { λ r. ⌜ r ≡ overZones count (zonesIn sums count .paying) (λ zone. tariffFrom terms (sumsOf sums zone)) ⌝ }
 {
     let mut total: i64 = 0;
     let mut k = 0;
     while k < count {
-        total += zone_worth(sums[k], terms);
+        let zone = sums[k];
+        total += worth(zone_tariff(zone, terms), zone.paying);
         k += 1;
     }
     total
@@ -56,19 +63,19 @@ pub fn zone_income(sums: [ZoneSums; 32], count: usize, terms: Terms) -> i64
 // Step 10: a zone's tariff plus the residual.
 pub fn total_of(tariff: MicroPerKw, residual: MicroPerKw) -> MicroPerKw
     requires { ⌜ (natAbs (tariff .0) ≤ 10000000000) × (natAbs (residual .0) ≤ 3000000000000000000) ⌝ }
-    ensures { λ r. ⌜ r ≡ price (tariff .0 +ℤ residual .0) ⌝ }
+    ensures { λ r. ⌜ r ≡ priceOf (tariff .0 +ℤ residual .0) ⌝ }
 {
     MicroPerKw(tariff.0 + residual.0)
 }
 
 // The line of a zone.
 pub fn zone_line(zone: ZoneSums, terms: Terms, residual: MicroPerKw) -> ZoneFigures
-    requires { ⌜ SumsFit zone × (natAbs (terms .shift .0) ≤ 10000000) × (natAbs (residual .0) ≤ 3000000000000000000) ⌝ }
+    requires { ⌜ SumsFit zone × TermsFit terms × (natAbs (residual .0) ≤ 3000000000000000000) ⌝ }
     ensures { λ r. ⌜ r ≡ lineFrom terms residual zone ⌝ }
 {
     let weight = zone.weight;
     let after = after_c(zone, terms);
-    let tariff = prices::price(after, terms.constant, terms.factor);
+    let tariff = price(after, terms.constant, terms.factor);
     ZoneFigures {
         weight: weight,
         metres: metres_of(zone),
@@ -85,7 +92,7 @@ pub fn zone_lines(
     terms: Terms,
     residual: MicroPerKw,
 ) -> [ZoneFigures; 32]
-    requires { ⌜ AllFit sums × (count ≤ 32) × (natAbs (terms .shift .0) ≤ 10000000) × (natAbs (residual .0) ≤ 3000000000000000000) ⌝ }
+    requires { ⌜ AllFit sums × (count ≤ 32) × TermsFit terms × (natAbs (residual .0) ≤ 3000000000000000000) ⌝ }
     ensures { λ r. ⌜ r ≡ column noLine 32 count (λ k. lineFrom terms residual (sumsIn sums k)) ⌝ }
 {
     let mut all = [steps::no_line(); 32];

@@ -5,7 +5,8 @@ use zones::ZoneSums;
 ghost use mathlib.Core.Path.{_≡_};
 ghost use Prim.Native.Nat.{_≤_};
 ghost use Rattle.zones.specs.Sums.{SumsFit};
-ghost use Rattle.tariffs.specs.Over.{metresFrom, withZone, overFrom, cFrom, AllFit, OverFits, Ready};
+ghost use Rattle.meaning.specs.Charging.{centre};
+ghost use Rattle.tariffs.specs.Sides.{metresFrom, withZone, overFrom, AllFit, OverFits, Ready};
 
 // Over the zones of a side, metres times the kilowatts that pay, and those kilowatts.
 pub struct Over {
@@ -56,7 +57,7 @@ pub fn over_zones(sums: [ZoneSums; 32], count: usize) -> Over
 // C.
 pub fn c_of(p: u64, generation: Over, demand: Over) -> Metres
     requires { ⌜ (p ≤ 1000) × Ready generation × Ready demand ⌝ }
-    ensures { λ r. ⌜ r .0 ≡ cFrom p generation demand ⌝ }
+    ensures { λ r. ⌜ r .0 ≡ centre p (generation .metres) (demand .metres) (generation .total .0) (demand .total .0) ⌝ }
 {
     let q = 1000 - p;
     let tec = generation.total;

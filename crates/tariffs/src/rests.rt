@@ -8,13 +8,13 @@ use zones::ZoneSums;
 ghost use mathlib.Core.Path.{_≡_};
 ghost use Prim.Native.Nat.{_≤_};
 ghost use lib.IntN.{natAbs};
-ghost use Rattle.meaning.specs.Figures.{remainderOf};
-ghost use Rattle.tariffs.specs.Sides.{restFrom, sideFrom, SideFits};
+ghost use Rattle.meaning.specs.Charging.{restOf, remainderOf};
+ghost use Rattle.tariffs.specs.Sides.{pricedIn, sideFigures, SideFits};
 
 // A side's target less its incomes.
 pub fn rest_of(target: u64, income: i64, local_income: i64) -> i64
     requires { ⌜ (target ≤ 10000000000000000) × (natAbs income ≤ 1000000000000000000) × (natAbs «local_income» ≤ 1000000000000000000) ⌝ }
-    ensures { λ r. ⌜ r ≡ restFrom target income «local_income» ⌝ }
+    ensures { λ r. ⌜ r ≡ restOf target income «local_income» ⌝ }
 {
     (target as i64) - income - local_income
 }
@@ -34,13 +34,14 @@ pub fn side_figures(
     count: usize,
     kw: Kw,
     terms: Terms,
+    target: u64,
     local_income: i64,
 ) -> SideFigures
-    requires { ⌜ SideFits sums count kw terms «local_income» ⌝ }
-    ensures { λ r. ⌜ r ≡ sideFrom sums count kw terms «local_income» ⌝ }
+    requires { ⌜ SideFits sums count (kw .0) terms target «local_income» ⌝ }
+    ensures { λ r. ⌜ r ≡ sideFigures (pricedIn sums count terms target «local_income») ⌝ }
 {
     let income = zone_income(sums, count, terms);
-    let rest = rest_of(terms.target, income, local_income);
+    let rest = rest_of(target, income, local_income);
     let residual = steps::residual(rest, kw);
     SideFigures {
         zones: count,

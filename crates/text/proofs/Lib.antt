@@ -1,4 +1,2 @@
-pub mod Joined
-pub mod Rows
+pub mod Names
 pub mod Sizing
-pub mod Refusing

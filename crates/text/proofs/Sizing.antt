@@ -11,9 +11,10 @@ use Rattle.meaning.proofs.Says.{Says, _also_, agree, says-as, says-le}
 use Rattle.meaning.specs.File.{rowAt}
 use Rattle.meaning.specs.declared.Section.{Section}
 use Rattle.meaning.specs.declared.Figures.{Figures}
+use Rattle.meaning.specs.Sheet.{sheetText}
 use Rattle.lines.specs.Making.{Put}
 use Rattle.lines.proofs.Making.{whole}
-use Rattle.text.specs.SheetText.{sheetText, nameOf, sized, textOf, Sized}
+use Rattle.text.specs.SheetText.{shownIn, sized, textOf, Sized}
 use Rattle.text.specs.Writing.{Written, Fitted}
 
 module _ (f : Figures) (file : List ℕ) (rows : Section) where
@@ -40,7 +41,7 @@ module _ (f : Figures) (file : List ℕ) (rows : Section) where
       go true e = absurd (n (says-sized .0 e))
       go false e = refl
 
-  pub text-sized : sized f file rows ≡ true → textOf f file rows ≡ sheetText f (nameOf file rows)
+  pub text-sized : sized f file rows ≡ true → textOf f file rows ≡ sheetText (shownIn f file rows)
   unfolding textOf
   text-sized e = rw e refl
 

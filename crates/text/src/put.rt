@@ -2,7 +2,7 @@
 use lines::Line;
 ghost use Prim.Native.Nat.{_+_, _≤_};
 ghost use lib.ListN.{length, take};
-ghost use Rattle.lines.specs.Making.{Put};
+ghost use Rattle.lines.specs.Making.{Put, width};
 
 // Copies a text.
 pub fn put_bytes(out: &mut [u8], at: usize, text: &[u8]) -> usize
@@ -19,7 +19,7 @@ pub fn put_bytes(out: &mut [u8], at: usize, text: &[u8]) -> usize
 
 // Copies a line.
 pub fn put_line(out: &mut [u8], at: usize, line: Line) -> usize
-    requires { ⌜ (line .len ≤ 128) × (line .len ≤ length (line .bytes)) × (at + line .len ≤ length (now out)) ⌝ }
+    requires { ⌜ (line .len ≤ width) × (line .len ≤ length (line .bytes)) × (at + line .len ≤ length (now out)) ⌝ }
     ensures { λ r. ⌜ Put (line .len) (now (out .entry)) at (take (line .len) (line .bytes)) (now (out .exit)) r ⌝ }
 {
     let mut i: usize = 0;

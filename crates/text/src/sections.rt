@@ -9,13 +9,14 @@ ghost use mathlib.Core.Path.{_≡_};
 ghost use Prim.Native.Nat.{_+_, _≤_};
 ghost use lib.ListN.{length};
 ghost use Rattle.meaning.specs.File.{rowAt};
+ghost use Rattle.meaning.specs.Sheet.{zoneLines, nodeLines, sheetText};
 ghost use Rattle.lines.specs.Making.{Put};
-ghost use Rattle.text.specs.SheetText.{zoneTexts, nodeTexts, nameOf, sheetText, sized, Sized};
+ghost use Rattle.text.specs.SheetText.{sideIn, nameOf, localIn, shownIn, sized, Sized};
 
 // A line for each zone of a side.
 pub fn put_zones(out: &mut [u8], from: usize, side: Side, f: SideFigures) -> usize
     requires { ⌜ (f .zones ≤ 32) × (from + 4096 ≤ length (now out)) ⌝ }
-    ensures { λ r. ⌜ Put 4096 (now (out .entry)) from (zoneTexts side f) (now (out .exit)) r ⌝ }
+    ensures { λ r. ⌜ Put 4096 (now (out .entry)) from (zoneLines side (sideIn f)) (now (out .exit)) r ⌝ }
 {
     let mut at = from;
     let mut k: usize = 0;
@@ -38,7 +39,7 @@ pub fn put_nodes(
     local: [LocalFigures; 256],
 ) -> usize
     requires { ⌜ (nodes ≤ 256) × (rowAt rows nodes ≤ length (now file)) × (from + 14592 ≤ length (now out)) ⌝ }
-    ensures { λ r. ⌜ Put 14592 (now (out .entry)) from (nodeTexts nodes local (nameOf (now (file .entry)) rows)) (now (out .exit)) r ⌝ }
+    ensures { λ r. ⌜ Put 14592 (now (out .entry)) from (nodeLines nodes (nameOf (now (file .entry)) rows) (localIn local)) (now (out .exit)) r ⌝ }
 {
     let mut at = from;
     let mut v: usize = 0;
@@ -54,7 +55,7 @@ pub fn put_nodes(
 // The text of figures, at the front of the buffer; answers its length.
 pub fn put_figures(out: &mut [u8], figures: Figures, file: &[u8], rows: Section) -> usize
     requires { ⌜ Sized figures (now file) rows × (22851 ≤ length (now out)) ⌝ }
-    ensures { λ r. ⌜ Put 22851 (now (out .entry)) 0 (sheetText figures (nameOf (now (file .entry)) rows)) (now (out .exit)) r ⌝ }
+    ensures { λ r. ⌜ Put 22851 (now (out .entry)) 0 (sheetText (shownIn figures (now (file .entry)) rows)) (now (out .exit)) r ⌝ }
 {
     let first = lines::constant_line(figures.c);
     let p1 = put_line(out, 0, first);

@@ -1,5 +1,5 @@
 -- 7 and 13: what a total says, and what passes.
-use mathlib.Core.Path.{_≡_, refl, sym, _∙_, ap}
+use mathlib.Core.Path.{_≡_, refl, sym, ap}
 use mathlib.Core.Bool.{true}
 use mathlib.Core.List.{List}
 use Prim.Native.Nat.{ℕ, _≤_, _<_}
@@ -11,7 +11,6 @@ use Rattle.integers.specs.Numbers.{sum}
 use Rattle.meaning.specs.declared.Kw.{Kw}
 use Rattle.meaning.specs.Grid.{soundTotals}
 use Rattle.meaning.specs.Columns.{kilowatts, kwAt}
-use Rattle.meaning.specs.Conditions.{InRange}
 use Rattle.meaning.proofs.Says.{agree}
 use Rattle.meaning.proofs.Tables.{says-totals}
 use Rattle.totals.specs.Totals.{totalOf}

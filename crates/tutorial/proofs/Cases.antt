@@ -5,7 +5,9 @@ use Prim.Native.Nat.{ℕ}
 use Prim.Native.String.{String}
 use lib.IntN.{ℤ, pos, negℤ}
 use lib.ListN.{replicate}
-use Rattle.meaning.specs.Study.{Settings, Node, Circuit, Station, Study, Runs}
+use Rattle.meaning.specs.declared.Settings.{Settings}
+use Rattle.meaning.specs.Study.{Node, Circuit, Station, Study, Runs, runsOf}
+use Rattle.meaning.specs.declared.Background.the-variants.{YearRound}
 use Rattle.meaning.specs.declared.System.the-variants.{Wider}
 use Rattle.meaning.specs.declared.Refusal.the-variants.{MissesTooHigh}
 use Rattle.meaning.specs.declared.Judgement.the-variants.{Stops}
@@ -21,12 +23,12 @@ use Rattle.meaning.proofs.Judged.{judged-pass}
 abbrev settingsWith : (overhead275 reference : ℕ) → Settings
 settingsWith overhead275 reference =
     record {
-      generationZones = 4;
-      demandZones = 4;
+      «generation_zones» = 4;
+      «demand_zones» = 4;
       p = 730;
       constant = 1000;
-      widerFactor = 1800;
-      localFactor = 1000;
+      «wider_factor» = 1800;
+      «local_factor» = 1000;
       overhead400 = 1000;
       cable400 = 1000;
       overhead275 = overhead275;
@@ -77,7 +79,7 @@ abbrev localRun : List ℤ
 localRun = pos 0 ∷ pos 0 ∷ pos 0 ∷ pos 30000000000000 ∷ replicate 4 (pos 0)
 
 abbrev runsWith : (base wider : List ℤ) → Runs
-runsWith b w = record { base = b; wider = w; local = localRun }
+runsWith b w = runsOf b w localRun
 
 abbrev tutBase : List ℤ
 tutBase = baseWith (negℤ (pos 125000000000)) (negℤ (pos 687500000000)) (pos 3062500000000) (pos 2500000000) (pos 27500000000) (pos 22500000000) (pos 150000000000)
@@ -142,12 +144,12 @@ further-acceptable = judged-pass further furtherRuns .0 refl
 abbrev otherSettings : Settings
 otherSettings =
     record {
-      generationZones = 2;
-      demandZones = 3;
+      «generation_zones» = 2;
+      «demand_zones» = 3;
       p = 500;
       constant = 1300;
-      widerFactor = 2000;
-      localFactor = 1200;
+      «wider_factor» = 2000;
+      «local_factor» = 1200;
       overhead400 = 1000;
       cable400 = 1000;
       overhead275 = 1000;
@@ -171,16 +173,15 @@ otherStudy =
 
 abbrev pub otherRuns : Runs
 otherRuns =
-    record {
-      base = baseWith (negℤ (pos 750000000000)) (negℤ (pos 2625000000000)) (pos 2125000000000) (pos 15000000000) (pos 105000000000) (pos 75000000000) (pos 190000000000);
-      wider = pos 0 ∷ negℤ (pos 10000000000000) ∷ negℤ (pos 15000030000000) ∷ negℤ (pos 15000000000000)
-          ∷ negℤ (pos 200000000000)
-          ∷ pos 200000000000
-          ∷ negℤ (pos 200000000000)
-          ∷ pos 0
-          ∷ [];
-      local = localRun;
-    }
+    runsOf
+    (baseWith (negℤ (pos 750000000000)) (negℤ (pos 2625000000000)) (pos 2125000000000) (pos 15000000000) (pos 105000000000) (pos 75000000000) (pos 190000000000))
+    (pos 0 ∷ negℤ (pos 10000000000000) ∷ negℤ (pos 15000030000000) ∷ negℤ (pos 15000000000000)
+    ∷ negℤ (pos 200000000000)
+    ∷ pos 200000000000
+    ∷ negℤ (pos 200000000000)
+    ∷ pos 0
+    ∷ [])
+    localRun
 
 abbrev pub other : List ℕ
 other = fileOf otherStudy otherRuns
@@ -192,12 +193,11 @@ other-acceptable = judged-pass other otherRuns .0 refl
 -- ---- TUT1 with demand at D and no generation there: of the directions only that of its marked circuit has turned
 abbrev pub fedRuns : Runs
 fedRuns =
-    record {
-      base = baseWith (negℤ (pos 375000000000)) (negℤ (pos 1062500000000)) (negℤ (pos 2312500000000)) (pos 7500000000) (pos 42500000000) (pos 27500000000)
-          (negℤ (pos 50000000000));
-      wider = forwardWider;
-      local = pos 0 ∷ pos 0 ∷ pos 0 ∷ negℤ (pos 30000000000000) ∷ replicate 4 (pos 0);
-    }
+    runsOf
+    (baseWith (negℤ (pos 375000000000)) (negℤ (pos 1062500000000)) (negℤ (pos 2312500000000)) (pos 7500000000) (pos 42500000000) (pos 27500000000)
+    (negℤ (pos 50000000000)))
+    forwardWider
+    (pos 0 ∷ pos 0 ∷ pos 0 ∷ negℤ (pos 30000000000000) ∷ replicate 4 (pos 0))
 
 abbrev pub fed : List ℕ
 fed =
@@ -217,18 +217,17 @@ fed-acceptable = judged-pass fed fedRuns .0 refl
 -- ---- TUT1 with the second node for reference
 abbrev pub movedRuns : Runs
 movedRuns =
-    record {
-      base = pos 125000000000 ∷ pos 0 ∷ negℤ (pos 562500000000) ∷ pos 3187500000000 ∷ pos 2500000000 ∷ pos 27500000000 ∷ pos 22500000000
-          ∷ pos 150000000000
-          ∷ [];
-      wider = pos 10000000000000 ∷ pos 0 ∷ negℤ (pos 5000000000000) ∷ negℤ (pos 5000000000000)
-          ∷ negℤ (pos 200000000000)
-          ∷ pos 200000000000
-          ∷ negℤ (pos 200000000000)
-          ∷ pos 0
-          ∷ [];
-      local = localRun;
-    }
+    runsOf
+    (pos 125000000000 ∷ pos 0 ∷ negℤ (pos 562500000000) ∷ pos 3187500000000 ∷ pos 2500000000 ∷ pos 27500000000 ∷ pos 22500000000
+    ∷ pos 150000000000
+    ∷ [])
+    (pos 10000000000000 ∷ pos 0 ∷ negℤ (pos 5000000000000) ∷ negℤ (pos 5000000000000)
+    ∷ negℤ (pos 200000000000)
+    ∷ pos 200000000000
+    ∷ negℤ (pos 200000000000)
+    ∷ pos 0
+    ∷ [])
+    localRun
 
 abbrev pub moved : List ℕ
 moved = fileOf (studyWith (settingsWith 1000 2) 400 stations) movedRuns
@@ -265,18 +264,17 @@ unused-acceptable = judged-pass unused tutRuns .0 refl
 -- ---- TUT1 with the rows of B and C exchanged
 abbrev pub exchangedRuns : Runs
 exchangedRuns =
-    record {
-      base = pos 0 ∷ negℤ (pos 687500000000) ∷ negℤ (pos 125000000000) ∷ pos 3062500000000 ∷ pos 2500000000 ∷ pos 27500000000 ∷ pos 22500000000
-          ∷ pos 150000000000
-          ∷ [];
-      wider = pos 0 ∷ negℤ (pos 15000000000000) ∷ negℤ (pos 10000000000000) ∷ negℤ (pos 15000000000000)
-          ∷ negℤ (pos 200000000000)
-          ∷ pos 200000000000
-          ∷ negℤ (pos 200000000000)
-          ∷ pos 0
-          ∷ [];
-      local = localRun;
-    }
+    runsOf
+    (pos 0 ∷ negℤ (pos 687500000000) ∷ negℤ (pos 125000000000) ∷ pos 3062500000000 ∷ pos 2500000000 ∷ pos 27500000000 ∷ pos 22500000000
+    ∷ pos 150000000000
+    ∷ [])
+    (pos 0 ∷ negℤ (pos 15000000000000) ∷ negℤ (pos 10000000000000) ∷ negℤ (pos 15000000000000)
+    ∷ negℤ (pos 200000000000)
+    ∷ pos 200000000000
+    ∷ negℤ (pos 200000000000)
+    ∷ pos 0
+    ∷ [])
+    localRun
 
 abbrev pub exchanged : List ℕ
 exchanged =
@@ -296,6 +294,6 @@ exchanged-acceptable = judged-pass exchanged exchangedRuns .0 refl
 abbrev pub flatRuns : Runs
 flatRuns = runsWith tutBase (replicate 8 (pos 0))
 
-pub flat-refused : judged tut flatRuns ≡ Stops (MissesTooHigh Wider)
+pub flat-refused : judged tut flatRuns ≡ Stops (MissesTooHigh (Wider YearRound))
 unfolding opened
 flat-refused = refl

@@ -5,6 +5,8 @@ use mathlib.Core.List.{List, [], _∷_, _++_}
 use Prim.Native.Nat.{ℕ, _≤_, _<_}
 use native.Mathlib.Omega.{arith}
 use lib.IntN.{pos, negℤ}
+use Rattle.meaning.specs.declared.Background.the-variants.{YearRound}
+use Rattle.meaning.specs.declared.System.the-variants.{Wider}
 use Rattle.meaning.specs.Text.{text}
 use Rattle.meaning.specs.Rows.{rows}
 use Rattle.meaning.specs.Study.{Metres, Runs}
@@ -69,7 +71,7 @@ tut-fed sameDirections n = absurd (n refl)
 fed-wider : (v : ℕ) → v < 4 → apart (widerMetres tutRuns v) (widerMetres fedRuns v) ≤ 1
 unfolding opened
 fed-wider =
-    own-directions-count tut fed tutRuns fedRuns tut-acceptable fed-acceptable tut-fed .wider
+    own-directions-count tut fed tutRuns fedRuns tut-acceptable fed-acceptable tut-fed (Wider YearRound) tt
     (four _ (λ p. refl) (λ p. refl) (λ p. refl) (λ p. absurd (marked (p .1))))
   where
     marked : _≡_ {A = ℕ} 1 0 → ⊥

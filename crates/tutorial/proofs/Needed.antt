@@ -6,7 +6,7 @@ use Prim.Native.Nat.{ℕ}
 use native.Mathlib.Omega.{arith}
 use lib.IntN.{pos, negℤ}
 use lib.ListN.{replicate}
-use Rattle.meaning.specs.Study.{Study, Runs}
+use Rattle.meaning.specs.Study.{Study, Runs, runsOf}
 use Rattle.meaning.specs.Conditions.{Acceptable}
 use Rattle.meaning.specs.OnlyDirections.{Asked, sameCircuits, sameNames, sameFactors, sameReference, sameDirections, Two, HoldsOf, Needed, EachIsNeeded, AcceptedIsNeeded, MetreIsReached}
 use Rattle.meaning.proofs.Write.{fileOf}
@@ -144,12 +144,12 @@ abbrev metreStudy : Study
 metreStudy =
     record {
       settings = record {
-        generationZones = 3;
-        demandZones = 1;
+        «generation_zones» = 3;
+        «demand_zones» = 1;
         p = 270;
         constant = 20;
-        widerFactor = 1500;
-        localFactor = 1100;
+        «wider_factor» = 1500;
+        «local_factor» = 1100;
         overhead400 = 1000;
         cable400 = 1000;
         overhead275 = 1500;
@@ -166,11 +166,10 @@ metreStudy =
 
 abbrev metreRuns : Runs
 metreRuns =
-    record {
-      base = pos 2000000000 ∷ pos 0 ∷ negℤ (pos 3000000000) ∷ negℤ (pos 6000000000) ∷ pos 2000000000 ∷ pos 3000000000 ∷ pos 3000000000 ∷ [];
-      wider = pos 4499999999 ∷ pos 0 ∷ negℤ (pos 2500000000) ∷ negℤ (pos 2500000000) ∷ replicate 3 (pos 0);
-      local = pos 0 ∷ pos 0 ∷ pos 0 ∷ negℤ (pos 2499999999) ∷ replicate 3 (pos 0);
-    }
+    runsOf
+    (pos 2000000000 ∷ pos 0 ∷ negℤ (pos 3000000000) ∷ negℤ (pos 6000000000) ∷ pos 2000000000 ∷ pos 3000000000 ∷ pos 3000000000 ∷ [])
+    (pos 4499999999 ∷ pos 0 ∷ negℤ (pos 2500000000) ∷ negℤ (pos 2500000000) ∷ replicate 3 (pos 0))
+    (pos 0 ∷ pos 0 ∷ pos 0 ∷ negℤ (pos 2499999999) ∷ replicate 3 (pos 0))
 
 abbrev metre : List ℕ
 metre = fileOf metreStudy metreRuns

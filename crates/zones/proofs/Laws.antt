@@ -4,29 +4,26 @@ use mathlib.Core.Bool.{Bool, true, false, cond, _&&_}
 use mathlib.Core.List.{List}
 use mathlib.Core.Logic.{_≢_}
 use Prim.Native.Nat.{ℕ, suc, _+_, _-_, _*_, _≤_, _<_}
-use native.Mathlib.Nat.{le-refl, le-trans}
 use native.Mathlib.Omega.{arith}
 use borrow.Author.Tests.{eq-eqb, ne-eqb}
 use lib.Dec.{eqb, leb}
 use lib.IntN.{ℤ, pos, natAbs, _+ℤ_, _*ℤ_}
 use lib.ListN.{length, getD, set, replicate}
-use Rattle.integers.specs.Numbers.{sum, Σ, nearest}
-use Rattle.integers.proofs.Laws.{add-zero}
+use Rattle.integers.specs.Numbers.{nearest}
+use Rattle.integers.proofs.Laws.{add-zero, mul-zero}
 use Rattle.integers.proofs.Div.{nearest-within}
-use Rattle.integers.proofs.Sum.{sum-zero, sum-more, sum-same, sum-bound, Σ-zero, Σ-more, Σ-same, Σ-within}
+use Rattle.integers.proofs.Sum.{sum-zero, sum-more, sum-bound, Σ-zero, Σ-more, Σ-within}
 use Rattle.meaning.specs.declared.Kw.{Kw}
 use Rattle.meaning.specs.declared.Side.{Side}
 use Rattle.meaning.specs.Columns.{kilowatts, numberAt, kwAt}
-use Rattle.meaning.specs.Figures.{metres}
 use Rattle.meaning.specs.Proposal.{potential}
 use Rattle.meaning.specs.Rows.{rows}
 use Rattle.meaning.proofs.Rows.{rows-at, rows-set, rows-none}
 use Rattle.meaning.proofs.Says.{agree, says-as, says-eq, says-le, _also_}
-use Rattle.steps.specs.Steps.{turned}
 use Rattle.zones.specs.declared.ZoneSums.{ZoneSums}
 use Rattle.zones.specs.declared.node.Part.{Part}
-use Rattle.zones.specs.Sums.{partAt, sumsTo, noSums, nodesIn, zoneSums, withPart, PartFits, SumsFit}
-use Rattle.zones.proofs.Parts.{Counts, counting, full, part-full, part-fits}
+use Rattle.zones.specs.Sums.{noPart, partAt, far, counts, weighs, pays, sumsTo, noSums, nodesIn, zoneSums, withPart, PartFits, SumsFit}
+use Rattle.zones.proofs.Parts.{counted, full, part-full, part-none, part-fits}
 
 -- the nodes that are passed
 pub reached-all : (n run : ℕ) → n ≤ 256 → n ≤ run → nodesIn n run ≡ n
@@ -57,30 +54,82 @@ far-most : (b : Bool) (z : ℤ) (w : ℕ) → natAbs z ≤ 10000000 * w → natA
 far-most true z w h = h
 far-most false z w h = omega arith
 
+-- no kilowatts, whatever the zone
+none-either : {A : Type 0} (b c : Bool) (none : A) → cond b none none ≡ cond c none none
+none-either true true none = refl
+none-either true false none = refl
+none-either false true none = refl
+none-either false false none = refl
+
 module _ (side : Side) (zone : List ℕ) (weight paying : List Kw) (wider : List ℤ) where
   abbrev part : ℕ → Part
   part = partAt side zone weight paying wider
 
   abbrev sums : (n k : ℕ) → ZoneSums
-  sums = sumsTo side zone weight paying wider
+  sums n k = sumsTo side zone weight paying wider n (suc k)
 
   pub fits-at : (v : ℕ) → PartFits (part v)
   fits-at v = part-fits side (numberAt zone v) (getD weight v (kilowatts 0)) (getD paying v (kilowatts 0)) (potential wider v)
 
+  -- what the sums of a zone take of a node is the part that it adds, where that is added
+  taken : {A : Type 0} (none : A) (of : Part → A) (mine : Bool → A) → of noPart ≡ none → mine false ≡ none
+      → (k v : ℕ) → of (full side (numberAt zone v) (getD weight v (kilowatts 0)) (getD paying v (kilowatts 0)) (potential wider v)) ≡ mine true
+      → cond (eqb (numberAt zone v) (suc k)) (mine (counts side zone weight paying wider v)) none ≡ cond (eqb (part v .slot) k) (of (part v)) none
+  taken none of mine bare out k v own = go (counts side zone weight paying wider v) refl
+    where
+      go : (b : Bool) → counts side zone weight paying wider v ≡ b
+          → cond (eqb (numberAt zone v) (suc k)) (mine (counts side zone weight paying wider v)) none ≡ cond (eqb (part v .slot) k) (of (part v)) none
+      go true h =
+          let p = part-full side (numberAt zone v) (getD weight v (kilowatts 0)) (getD paying v (kilowatts 0)) (potential wider v) h in
+          rw (p, h, own, slot-is (numberAt zone v) k (counted _ _ _ _ h .least)) refl
+      go false h =
+          let p = part-none side (numberAt zone v) (getD weight v (kilowatts 0)) (getD paying v (kilowatts 0)) (potential wider v) h in
+          rw (p, h, out, bare) (none-either (eqb (numberAt zone v) (suc k)) (eqb 0 k) none)
+
+  -- of the sums of zone k + 1
+  abbrev weightOf : (k v : ℕ) → ℕ
+  weightOf k v = cond (eqb (numberAt zone v) (suc k)) (weighs side zone weight paying wider v) 0
+
+  abbrev payingOf : (k v : ℕ) → ℕ
+  payingOf k v = cond (eqb (numberAt zone v) (suc k)) (pays side zone weight paying wider v) 0
+
+  abbrev weighedOf : (k v : ℕ) → ℤ
+  weighedOf k v = cond (eqb (numberAt zone v) (suc k)) (far side zone weight paying wider v *ℤ pos (weighs side zone weight paying wider v)) (pos 0)
+
+  weight-of : (k v : ℕ) → weightOf k v ≡ cond (eqb (part v .slot) k) (part v .weight .0) 0
+  weight-of k v = taken 0 (λ (p : Part). p .weight .0) (λ (b : Bool). cond b (kwAt weight v) 0) refl refl k v refl
+
+  paying-of : (k v : ℕ) → payingOf k v ≡ cond (eqb (part v .slot) k) (part v .paying .0) 0
+  paying-of k v = taken 0 (λ (p : Part). p .paying .0) (λ (b : Bool). cond b (kwAt paying v) 0) refl refl k v refl
+
+  weighed-of : (k v : ℕ) → weighedOf k v ≡ cond (eqb (part v .slot) k) (part v .weighed) (pos 0)
+  weighed-of k v =
+      taken (pos 0) (λ (p : Part). p .weighed) (λ (b : Bool). far side zone weight paying wider v *ℤ pos (cond b (kwAt weight v) 0)) refl
+      (mul-zero (far side zone weight paying wider v)) k v refl
+
+  -- one node more
+  sums-more : (v k : ℕ)
+      → sums (v + 1) k ≡ record {
+        weight = kilowatts (sums v k .weight .0 + cond (eqb (part v .slot) k) (part v .weight .0) 0);
+        weighed = sums v k .weighed +ℤ cond (eqb (part v .slot) k) (part v .weighed) (pos 0);
+        paying = kilowatts (sums v k .paying .0 + cond (eqb (part v .slot) k) (part v .paying .0) 0);
+      }
+  unfolding sumsTo
+  sums-more v k =
+      rw (sum-more v (weightOf k), Σ-more v (weighedOf k), sum-more v (payingOf k), weight-of k v, weighed-of k v, paying-of k v) refl
+
   sums-here : (v : ℕ) → sums (v + 1) (part v .slot) ≡ withPart (sums v (part v .slot)) (part v)
-  unfolding sumsTo withPart
-  sums-here v =
-      let here = eq-eqb (part v .slot) (part v .slot) refl in
-      rw (sum-more v (λ i. cond (eqb (part i .slot) (part v .slot)) (part i .weight .0) 0), Σ-more v (λ i. cond (eqb (part i .slot) (part v .slot)) (part i .weighed) (pos 0)), sum-more v (λ i. cond (eqb (part i .slot) (part v .slot)) (part i .paying .0) 0)) (rw here refl)
+  unfolding withPart
+  sums-here v = sums-more v (part v .slot) ∙ rw (eq-eqb (part v .slot) (part v .slot) refl) refl
 
   sums-other : (v k : ℕ) → part v .slot ≢ k → sums (v + 1) k ≡ sums v k
-  unfolding sumsTo
-  sums-other v k ne =
-      let other = ne-eqb (part v .slot) k ne in
-      let a : sum (v + 1) (λ i. cond (eqb (part i .slot) k) (part i .weight .0) 0) ≡ sum v (λ i. cond (eqb (part i .slot) k) (part i .weight .0) 0) = sum-more v _ ∙ rw other (omega arith) in
-      let b : Σ (v + 1) (λ i. cond (eqb (part i .slot) k) (part i .weighed) (pos 0)) ≡ Σ v (λ i. cond (eqb (part i .slot) k) (part i .weighed) (pos 0)) = Σ-more v _ ∙ rw other (add-zero _) in
-      let c : sum (v + 1) (λ i. cond (eqb (part i .slot) k) (part i .paying .0) 0) ≡ sum v (λ i. cond (eqb (part i .slot) k) (part i .paying .0) 0) = sum-more v _ ∙ rw other (omega arith) in
-      rw (a, b, c)
+  sums-other v k ne = sums-more v k ∙ rw (ne-eqb (part v .slot) k ne) (same (sums v k))
+    where
+      same : (z : ZoneSums) → record { weight = kilowatts (z .weight .0 + 0); weighed = z .weighed +ℤ pos 0; paying = kilowatts (z .paying .0 + 0) } ≡ z
+      same z =
+          let w : z .weight .0 + 0 ≡ z .weight .0 = omega arith in
+          let p : z .paying .0 + 0 ≡ z .paying .0 = omega arith in
+          rw (w, p, add-zero (z .weighed)) refl
 
   sums-none : (k : ℕ) → sums 0 k ≡ noSums
   unfolding sumsTo
@@ -89,7 +138,6 @@ module _ (side : Side) (zone : List ℕ) (weight paying : List Kw) (wider : List
   pub sums-start : replicate 32 noSums ≡ rows 32 (sums 0)
   sums-start = rows-none 32 _ noSums (λ k h. sums-none k)
 
-  -- one node more
   pub sums-turn : (v : ℕ) {all : List ZoneSums} {z : ZoneSums} → all ≡ rows 32 (sums v) → z ≡ withPart (getD all (part v .slot) noSums) (part v)
       → set all (part v .slot) z ≡ rows 32 (sums (v + 1))
   sums-turn v {z = z} e q =
@@ -102,11 +150,11 @@ module _ (side : Side) (zone : List ℕ) (weight paying : List Kw) (wider : List
   sums-fit : (n k : ℕ) → n ≤ 256 → SumsFit (sums n k)
   unfolding sumsTo
   sums-fit n k few =
-      let w = sum-bound 100000000 n (λ v. cond (eqb (part v .slot) k) (part v .weight .0) 0) (λ v l. kw-most (eqb (part v .slot) k) (part v .weight .0) 100000000 (fits-at v .weight)) in
-      let p = sum-bound 100000000 n (λ v. cond (eqb (part v .slot) k) (part v .paying .0) 0) (λ v l. kw-most (eqb (part v .slot) k) (part v .paying .0) 100000000 (fits-at v .paying)) in
+      let w = sum-bound 100000000 n (weightOf k) (λ v l. rw (weight-of k v) (kw-most (eqb (part v .slot) k) (part v .weight .0) 100000000 (fits-at v .weight))) in
+      let p = sum-bound 100000000 n (payingOf k) (λ v l. rw (paying-of k v) (kw-most (eqb (part v .slot) k) (part v .paying .0) 100000000 (fits-at v .paying))) in
       record {
         weight = omega (arith, w);
-        weighed = Σ-within 10000000 n _ _ (λ v l. far-most (eqb (part v .slot) k) (part v .weighed) (part v .weight .0) (fits-at v .weighed));
+        weighed = Σ-within 10000000 n (weighedOf k) (weightOf k) (λ v l. rw (weighed-of k v, weight-of k v) (far-most (eqb (part v .slot) k) (part v .weighed) (part v .weight .0) (fits-at v .weighed)));
         paying = omega (arith, p);
       }
 
@@ -117,35 +165,6 @@ module _ (side : Side) (zone : List ℕ) (weight paying : List Kw) (wider : List
   pub zone-fits : (n k : ℕ) → k < 32 → SumsFit (getD (zoneSums side n zone weight paying wider) k noSums)
   unfolding zoneSums
   zone-fits n k l = all-fit (nodesIn n (length wider)) k (reached-most n (length wider) .0) l refl
-
-  -- where all nodes are in range, each adds its own to its zone
-  abbrev pub plainSums : (n k : ℕ) → ZoneSums
-  plainSums n k =
-      record {
-        weight = kilowatts (sum n (λ v. cond (eqb (numberAt zone v) (suc k)) (kwAt weight v) 0));
-        weighed = Σ n (λ v. cond (eqb (numberAt zone v) (suc k)) (turned side (metres (potential wider v)) *ℤ pos (kwAt weight v)) (pos 0));
-        paying = kilowatts (sum n (λ v. cond (eqb (numberAt zone v) (suc k)) (kwAt paying v) 0));
-      }
-
-  module _ (n : ℕ) (h : (v : ℕ) → v < n → Counts (numberAt zone v) (kwAt weight v) (kwAt paying v) (turned side (metres (potential wider v)))) where
-    abbrev own : ℕ → Part
-    own v = full side (numberAt zone v) (getD weight v (kilowatts 0)) (getD paying v (kilowatts 0)) (potential wider v)
-
-    whole : (v : ℕ) → v < n → part v ≡ own v
-    whole v l = part-full side (numberAt zone v) (getD weight v (kilowatts 0)) (getD paying v (kilowatts 0)) (potential wider v) (counting _ _ _ _ (h v l))
-
-    taken : {A : Type 0} (none : A) (of : Part → A) (k v : ℕ) → v < n
-        → cond (eqb (part v .slot) k) (of (part v)) none ≡ cond (eqb (numberAt zone v) (suc k)) (of (own v)) none
-    taken none of k v l =
-        ap (λ (p : Part). cond (eqb (p .slot) k) (of p) none) (whole v l) ∙ ap (λ (b : Bool). cond b (of (own v)) none) (slot-is (numberAt zone v) k (h v l .least))
-
-    pub sums-plain : (k : ℕ) → sums n k ≡ plainSums n k
-    unfolding sumsTo
-    sums-plain k =
-        let a = sum-same n _ _ (taken 0 (λ (p : Part). p .weight .0) k) in
-        let b = Σ-same n _ _ (taken (pos 0) (λ (p : Part). p .weighed) k) in
-        let c = sum-same n _ _ (taken 0 (λ (p : Part). p .paying .0) k) in
-        rw (a, b, c)
 
 -- an average of distances is within what they are within
 pub metres-near : (z : ZoneSums) → SumsFit z → natAbs (nearest (z .weighed) (z .weight .0)) ≤ 10000000

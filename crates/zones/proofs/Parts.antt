@@ -1,7 +1,7 @@
 -- What a node adds is small, whatever its numbers are.
-use mathlib.Core.Path.{_≡_, refl, sym, _∙_}
-use mathlib.Core.Bool.{Bool, true, false, cond}
-use Prim.Native.Nat.{ℕ, _-_, _*_, _≤_, _<_}
+use mathlib.Core.Path.{_≡_, refl}
+use mathlib.Core.Bool.{Bool, true, false}
+use Prim.Native.Nat.{ℕ, _-_, _*_, _≤_}
 use native.Mathlib.Omega.{arith}
 use lib.IntN.{ℤ, pos, natAbs, _*ℤ_}
 use mir.Syntax.{w64}
@@ -10,10 +10,9 @@ use Rattle.integers.proofs.Core.{Z}
 use Rattle.integers.proofs.Laws.{abs-mul-le}
 use Rattle.meaning.specs.declared.Kw.{Kw}
 use Rattle.meaning.specs.declared.Side.{Side}
-use Rattle.meaning.specs.Figures.{metres}
+use Rattle.meaning.specs.Charging.{metres, turned}
 use Rattle.meaning.specs.Rows.{_between_and_}
 use Rattle.meaning.proofs.Says.{says-le, _also_}
-use Rattle.steps.specs.Steps.{turned}
 use Rattle.zones.specs.declared.node.Part.{Part}
 use Rattle.zones.specs.Sums.{inRanges, noPart, partOf, PartFits}
 

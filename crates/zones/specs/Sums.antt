@@ -1,18 +1,16 @@
 -- 01, steps 6 and 7, over columns as code has them: what the nodes of each zone add up to.
 use mathlib.Core.Bool.{Bool, cond, _&&_}
 use mathlib.Core.List.{List}
-use Prim.Native.Nat.{ℕ, _+_, _-_, _*_, _≤_, _<_}
-use lib.Dec.{eqb, leb}
+use Prim.Native.Nat.{ℕ, suc, _+_, _-_, _*_, _≤_, _<_}
+use lib.Dec.{leb}
 use lib.IntN.{ℤ, pos, natAbs, _+ℤ_, _*ℤ_}
 use lib.ListN.{length, getD}
-use Rattle.integers.specs.Numbers.{sum, Σ}
 use Rattle.meaning.specs.declared.Kw.{Kw}
 use Rattle.meaning.specs.declared.Side.{Side}
-use Rattle.meaning.specs.Columns.{kilowatts, numberAt}
-use Rattle.meaning.specs.Figures.{metres}
+use Rattle.meaning.specs.Columns.{kilowatts, numberAt, kwAt}
+use Rattle.meaning.specs.Charging.{metres, turned, inZone, weighedIn}
 use Rattle.meaning.specs.Proposal.{potential}
 use Rattle.meaning.specs.Rows.{rows, _between_and_}
-use Rattle.steps.specs.Steps.{turned}
 use Rattle.zones.specs.declared.ZoneSums.{ZoneSums}
 use Rattle.zones.specs.declared.node.Part.{Part}
 
@@ -37,13 +35,27 @@ module _ (side : Side) (zone : List ℕ) (weight paying : List Kw) (wider : List
   abbrev pub partAt : ℕ → Part
   partAt v = partOf side (numberAt zone v) (getD weight v (kilowatts 0)) (getD paying v (kilowatts 0)) (potential wider v)
 
-  -- the sums of zone k + 1 over the first n nodes
-  unfoldable pub sumsTo : (n k : ℕ) → ZoneSums
-  sumsTo n k =
+  -- its distance, and whether it counts
+  abbrev pub far : ℕ → ℤ
+  far v = turned side (metres (potential wider v))
+
+  abbrev pub counts : ℕ → Bool
+  counts v = inRanges (numberAt zone v) (kwAt weight v) (kwAt paying v) (far v)
+
+  -- its kilowatts, of which there are none where it does not
+  abbrev pub weighs : ℕ → ℕ
+  weighs v = cond (counts v) (kwAt weight v) 0
+
+  abbrev pub pays : ℕ → ℕ
+  pays v = cond (counts v) (kwAt paying v) 0
+
+  -- step 7: the sums of a zone over the first n nodes
+  unfoldable pub sumsTo : (n zone : ℕ) → ZoneSums
+  sumsTo n z =
       record {
-        weight = kilowatts (sum n (λ v. cond (eqb (partAt v .slot) k) (partAt v .weight .0) 0));
-        weighed = Σ n (λ v. cond (eqb (partAt v .slot) k) (partAt v .weighed) (pos 0));
-        paying = kilowatts (sum n (λ v. cond (eqb (partAt v .slot) k) (partAt v .paying .0) 0));
+        weight = kilowatts (inZone n (numberAt zone) weighs z);
+        weighed = weighedIn n (numberAt zone) far weighs z;
+        paying = kilowatts (inZone n (numberAt zone) pays z);
       }
 
 -- a zone without nodes
@@ -56,7 +68,7 @@ nodesIn n run = cond (leb n 256 && leb n run) n 0
 
 -- zones 1 to 32 of n nodes
 unfoldable pub zoneSums : Side → (n : ℕ) (zone : List ℕ) (weight paying : List Kw) (wider : List ℤ) → List ZoneSums
-zoneSums side n zone weight paying wider = rows 32 (sumsTo side zone weight paying wider (nodesIn n (length wider)))
+zoneSums side n zone weight paying wider = rows 32 (λ k. sumsTo side zone weight paying wider (nodesIn n (length wider)) (suc k))
 
 -- the sums with one node more
 unfoldable pub withPart : ZoneSums → Part → ZoneSums

@@ -13,12 +13,30 @@ settings-requires c κs = search needs
 returns : tie.Need-returns
 returns c = settings-whole _ (c .settings .ensures) (sym (c .before .before .whole .ensures) ∙ c .before .if1 .taken)
 
-no-settings-requires : tie.Need-no-settings-requires
-no-settings-requires c κs = search needs
+sub-settings : tie.Need-sub-settings
+sub-settings c = search needs
+
+part-settings-start : tie.Need-part-settings-start
+part-settings-start c = search needs
+
+part-settings-end : tie.Need-part-settings-end
+part-settings-end c = search needs
+
+settings-requires-2 : tie.Need-settings-requires-2
+settings-requires-2 c κs = search needs
 
 returns-2 : tie.Need-returns-2
-returns-2 c = settings-none _ (c .no-settings .ensures) (sym (c .before .before .whole .ensures) ∙ c .before .if1 .left)
+returns-2 c = settings-none _ (c .settings2 .ensures) (sym (c .before .before .before .whole .ensures) ∙ c .before .before .if1 .left)
 
 pub settings-spec : {M : Type 1} → statement M
 settings-spec =
-    tie.close (tie.spec whole-requires settings-requires returns no-settings-requires returns-2)
+    tie.close
+    (tie.spec
+    whole-requires
+    settings-requires
+    returns
+    sub-settings
+    part-settings-start
+    part-settings-end
+    settings-requires-2
+    returns-2)

@@ -2,7 +2,7 @@
 use native.Mathlib.Omega.{arith}
 use Rattle.integers.proofs.Machine.{back}
 use Rattle.meaning.specs.Text.{line}
-use Rattle.lines.specs.LineText.{constantText}
+use Rattle.meaning.specs.Sheet.{constantFields}
 use Rattle.lines.proofs.Making.{both}
 use borrow.Author.Needs.{needs}
 use Rattle.lines.proofs.constant_line.Statement.{statement}
@@ -14,19 +14,18 @@ slice-aggregate-line-of c = search needs
 line-of-requires : tie.Need-line-of-requires
 line-of-requires c κs = search needs
 
-with-number-requires : tie.Need-with-number-requires
-with-number-requires c κs = search needs
+slice-aggregate-with-numbers : tie.Need-slice-aggregate-with-numbers
+slice-aggregate-with-numbers c = search needs
 
-with-byte-requires : tie.Need-with-byte-requires
-with-byte-requires c κs = search needs
+with-numbers-requires : tie.Need-with-numbers-requires
+with-numbers-requires c κs = search needs
 
 returns : tie.Need-returns
-unfolding constantText line
+unfolding constantFields line
 returns c =
-    let n = c .before in
-    let w = n .before .before in
-    let s = w .before .before in
-    both (w .line-of .ensures) (both (rw (back (s .args .c .0) (omega (arith, n .before .struct-told .given))) at (n .with-number .ensures)) (c .with-byte .ensures))
+    let t = c .before .before in
+    let w = t .before in
+    both (w .line-of .ensures) (rw (back (w .before .before .args .c .0) (omega (arith, t .struct-told .given))) at (c .with-numbers .ensures))
 
 pub constant-line-spec : {M : Type 1} → statement M
 constant-line-spec =
@@ -34,6 +33,6 @@ constant-line-spec =
     (tie.spec
     slice-aggregate-line-of
     line-of-requires
-    with-number-requires
-    with-byte-requires
+    slice-aggregate-with-numbers
+    with-numbers-requires
     returns)

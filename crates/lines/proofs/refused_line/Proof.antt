@@ -1,6 +1,6 @@
 -- `lines::refused_line` meets its contract: each call adds the next part of the text.
-use Rattle.meaning.specs.Text.{line}
-use Rattle.lines.specs.LineText.{refusedText}
+use Rattle.meaning.specs.Text.{ends, line}
+use Rattle.meaning.specs.Outcome.{refusedFields}
 use Rattle.lines.proofs.Making.{both}
 use borrow.Author.Needs.{needs}
 use Rattle.lines.proofs.refused_line.Statement.{statement}
@@ -25,7 +25,7 @@ with-byte-requires : tie.Need-with-byte-requires
 with-byte-requires c κs = search needs
 
 returns : tie.Need-returns
-unfolding refusedText line
+unfolding refusedFields line ends
 returns c =
     let r = c .before in
     let s = r .before in

@@ -1,7 +1,7 @@
 -- `lines::remainder_line` meets its contract: each call adds the next part of the text.
 use Rattle.integers.proofs.Machine.{fit-back}
 use Rattle.meaning.specs.Text.{line}
-use Rattle.lines.specs.LineText.{remainderText}
+use Rattle.meaning.specs.Sheet.{remainderFields}
 use Rattle.lines.proofs.Making.{both}
 use borrow.Author.Needs.{needs}
 use Rattle.lines.proofs.remainder_line.Statement.{statement}
@@ -13,25 +13,18 @@ slice-aggregate-line-of c = search needs
 line-of-requires : tie.Need-line-of-requires
 line-of-requires c κs = search needs
 
-with-number-requires : tie.Need-with-number-requires
-with-number-requires c κs = search needs
+slice-aggregate-with-numbers : tie.Need-slice-aggregate-with-numbers
+slice-aggregate-with-numbers c = search needs
 
-with-number-requires-2 : tie.Need-with-number-requires-2
-with-number-requires-2 c κs = search needs
-
-with-byte-requires : tie.Need-with-byte-requires
-with-byte-requires c κs = search needs
+with-numbers-requires : tie.Need-with-numbers-requires
+with-numbers-requires c κs = search needs
 
 returns : tie.Need-returns
-unfolding remainderText line
+unfolding remainderFields line
 returns c =
-    let d = c .before in
-    let g = d .before in
-    let w = g .before in
+    let w = c .before .before in
     let s = w .before .before in
-    both (w .line-of .ensures)
-    (both (rw (fit-back (s .fits .generation)) at (g .with-number .ensures))
-    (both (rw (fit-back (s .fits .demand)) at (d .with-number2 .ensures)) (c .with-byte .ensures)))
+    both (w .line-of .ensures) (rw (fit-back (s .fits .generation), fit-back (s .fits .demand)) at (c .with-numbers .ensures))
 
 pub remainder-line-spec : {M : Type 1} → statement M
 remainder-line-spec =
@@ -39,7 +32,6 @@ remainder-line-spec =
     (tie.spec
     slice-aggregate-line-of
     line-of-requires
-    with-number-requires
-    with-number-requires-2
-    with-byte-requires
+    slice-aggregate-with-numbers
+    with-numbers-requires
     returns)

@@ -1,7 +1,8 @@
 -- `lines::zone_line` meets its contract, by the case of the zone.
-use Rattle.lines.proofs.Making.{both, longer}
-use Rattle.lines.proofs.Lined.{zone-dash, zone-figures}
 use native.Mathlib.Omega.{arith}
+use Rattle.meaning.specs.Sheet.{zoneNumbers}
+use Rattle.lines.proofs.Making.{both, longer}
+use Rattle.lines.proofs.Lined.{zone-dash, zone-full}
 use borrow.Author.Needs.{needs}
 use Rattle.lines.proofs.zone_line.Statement.{statement}
 use Rattle.lines.proofs.zone_line.Tie as tie
@@ -22,20 +23,28 @@ returns : tie.Need-returns
 returns c =
     let t = c .before .before in
     let n = t .before .before .before in
-    let s = n .before .before in
-    rw (zone-dash (s .args .side) (s .args .zone) (s .args .residual) (s .args .z) (t .if1 .taken))
+    let a = n .before .before .args in
+    rw (zone-dash (a .side) (a .zone) (a .residual .0) (a .z) (t .if1 .taken))
     (longer (both (both (n .before .letter-of .ensures) (n .with-count .ensures)) (c .with-word .ensures)) (omega arith))
 
-with-figures-requires : tie.Need-with-figures-requires
-with-figures-requires c κs = search needs
+zone-numbers-requires : tie.Need-zone-numbers-requires
+zone-numbers-requires c κs = search needs
+
+slice-aggregate-with-numbers : tie.Need-slice-aggregate-with-numbers
+slice-aggregate-with-numbers c = search needs
+
+with-numbers-requires : tie.Need-with-numbers-requires
+with-numbers-requires c κs = search needs
 
 returns-2 : tie.Need-returns-2
+unfolding zoneNumbers
 returns-2 c =
-    let e = c .before in
+    let z = c .before .before in
+    let e = z .before in
     let n = e .before .before .before in
-    let s = n .before .before in
-    rw (zone-figures (s .args .side) (s .args .zone) (s .args .residual) (s .args .z) (e .if1 .left))
-    (both (both (n .before .letter-of .ensures) (n .with-count .ensures)) (c .with-figures .ensures))
+    let a = n .before .before .args in
+    rw (zone-full (a .side) (a .zone) (a .residual .0) (a .z) (e .if1 .left))
+    (both (both (n .before .letter-of .ensures) (n .with-count .ensures)) (rw (z .zone-numbers .ensures) at (c .with-numbers .ensures)))
 
 pub zone-line-spec : {M : Type 1} → statement M
 zone-line-spec =
@@ -46,5 +55,7 @@ zone-line-spec =
     slice-aggregate-with-word
     with-word-requires
     returns
-    with-figures-requires
+    zone-numbers-requires
+    slice-aggregate-with-numbers
+    with-numbers-requires
     returns-2)

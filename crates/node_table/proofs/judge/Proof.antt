@@ -1,4 +1,3 @@
-use Rattle.node_table.proofs.NodeLaws.{told-zones}
 use borrow.Author.Needs.{needs}
 use Rattle.node_table.proofs.judge.Statement.{statement}
 use Rattle.node_table.proofs.judge.Tie as tie
@@ -10,7 +9,7 @@ settings-requires : tie.Need-settings-requires
 settings-requires c κs = search needs
 
 stage-requires : tie.Need-stage-requires
-stage-requires c κs = (c .before .section .ensures, told-zones _ (c .settings .ensures))
+stage-requires c κs = (c .before .section .ensures, c .settings .ensures)
 
 returns : tie.Need-returns
 returns c = search needs

@@ -1,8 +1,11 @@
 -- `proposal::open` meets its contract: the tables' judgement where they stop the case, else the proposals'.
 use mathlib.Core.List.{List}
 use Prim.Native.Nat.{ℕ}
+use lib.ListN.{length}
 use Rattle.meaning.specs.Study.{Runs, runsOf}
+use Rattle.meaning.proofs.Systems.{by-system}
 use Rattle.tables.specs.declared.Opened.{Opened}
+use Rattle.tables.specs.Opens.{Opens}
 use Rattle.proposal.proofs.Opening.{tables-stop, passed-reference, passed-judgeable, proposals-decide}
 use borrow.Author.Needs.{needs}
 use Rattle.proposal.proofs.open.Statement.{statement}
@@ -22,6 +25,9 @@ module _ (c : tie.After-open) where
   abbrev read : Opened
   read = c .«open» .result
 
+  opened : Opens bytes (λ s. length (runs s)) read
+  opened = rw (by-system length (s .args .base .now) (s .args .wider .now) (s .args .local .now)) at (c .«open» .ensures)
+
 open-requires : tie.Need-open-requires
 open-requires c κs = search needs
 
@@ -34,13 +40,13 @@ enum-told-2 c = search needs
 case-of-requires : tie.Need-case-of-requires
 case-of-requires c κs =
     let a = c .before .before in
-    passed-reference (bytes a) (runs a) (read a) (a .«open» .ensures) (c .enum-told2 .given .1)
+    passed-reference (bytes a) (runs a) (read a) (opened a) (c .enum-told2 .given .1)
 
 proposals-requires : tie.Need-proposals-requires
 proposals-requires c κs =
     let d = c .before in
     let a = d .before .before in
-    passed-judgeable (bytes a) (runs a) (read a) (a .«open» .ensures) (d .enum-told2 .given .1) _ (c .case-of .ensures)
+    passed-judgeable (bytes a) (runs a) (read a) (opened a) (d .enum-told2 .given .1) _ (c .case-of .ensures)
 
 with-judgement-requires : tie.Need-with-judgement-requires
 with-judgement-requires c κs = search needs
@@ -48,14 +54,14 @@ with-judgement-requires c κs = search needs
 returns : tie.Need-returns
 returns c =
     let a = c .before .before in
-    tables-stop (bytes a) (runs a) (read a) (a .«open» .ensures) (c .enum-told .given .1)
+    tables-stop (bytes a) (runs a) (read a) (opened a) (c .enum-told .given .1)
 
 returns-2 : tie.Need-returns-2
 returns-2 c =
     let p = c .before in
     let d = p .before .before in
     let a = d .before .before in
-    proposals-decide (bytes a) (runs a) (read a) (a .«open» .ensures) (d .enum-told2 .given .1) _ (p .before .case-of .ensures) _ (p .proposals .ensures) _ (c .with-judgement .ensures)
+    proposals-decide (bytes a) (runs a) (read a) (opened a) (d .enum-told2 .given .1) _ (p .before .case-of .ensures) _ (p .proposals .ensures) _ (c .with-judgement .ensures)
 
 pub open-spec : {M : Type 1} → statement M
 open-spec =

@@ -55,7 +55,8 @@ returns c =
     let rows = s .before in
     let nodes = nodes-from _ (rows .before .before .section .ensures) in
     let stations = stations-from _ (rows .section2 .ensures) in
-    (t .before .before .stage .ensures, c .by-node .ensures ∙ tec-is _ _ (by-type-is _ _ _ _ _ (sym (nodes .count)) (sym (stations .count)) (s .columns .ensures) (stations-few _ (rows .section2 .ensures)) (t .by-type .ensures)))
+    let by = by-type-is _ _ _ _ _ (sym (nodes .count)) (sym (stations .count)) (s .columns .ensures) (stations-few _ (rows .section2 .ensures)) (t .by-type .ensures) in
+    (t .before .before .stage .ensures, by, c .by-node .ensures ∙ tec-is _ _ by)
 
 pub judge-spec : {M : Type 1} → statement M
 judge-spec =

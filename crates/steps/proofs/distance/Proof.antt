@@ -8,8 +8,7 @@ use mir.Facts.{toZ-ofZ}
 use Rattle.integers.proofs.Core.{Z}
 use Rattle.integers.proofs.Div.{nearest-within}
 use Rattle.integers.proofs.Machine.{Back, fit-back}
-use Rattle.meaning.specs.Figures.{metres}
-use Rattle.steps.specs.Steps.{turned}
+use Rattle.meaning.specs.Charging.{metres}
 use Rattle.steps.proofs.distance.Statement.{statement}
 use Rattle.steps.proofs.distance.Tie as tie
 
@@ -43,11 +42,9 @@ sub-t5 : tie.Need-sub-t5
 sub-t5 c = simp (E, Z) (omega (arith, simp Z at (near (c .before .before .before .before .before))))
 
 returns : tie.Need-returns
-unfolding turned
 returns c = rw (c .enum-told .given .1) (simp E)
 
 returns-2 : tie.Need-returns-2
-unfolding turned
 returns-2 c = toZ-ofZ (sub-t5 c) ∙ rw (c .before .before .enum-told2 .given .1) (simp (E, Z) (omega arith))
 
 pub distance-spec : {M : Type 1} → statement M

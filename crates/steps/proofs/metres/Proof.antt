@@ -2,7 +2,7 @@
 use mathlib.Core.Path.{_∙_}
 use borrow.Author.Needs.{needs}
 use Rattle.integers.proofs.Machine.{fit-back, back}
-use Rattle.meaning.specs.Figures.{metres}
+use Rattle.meaning.specs.Charging.{metres}
 use Rattle.steps.proofs.metres.Statement.{statement}
 use Rattle.steps.proofs.metres.Tie as tie
 

@@ -2,7 +2,7 @@
 use mathlib.Core.Path.{_∙_}
 use borrow.Author.Needs.{needs}
 use Rattle.integers.proofs.Machine.{fit-back, back}
-use Rattle.meaning.specs.Figures.{residualOf}
+use Rattle.meaning.specs.Charging.{residualOf}
 use Rattle.steps.proofs.residual.Statement.{statement}
 use Rattle.steps.proofs.residual.Tie as tie
 

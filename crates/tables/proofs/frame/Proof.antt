@@ -2,6 +2,7 @@
 use mathlib.Core.Path.{_≡_, sym, _∙_}
 use mathlib.Core.Bool.{true}
 use native.Mathlib.Omega.{arith}
+use Rattle.meaning.specs.Study.{bySystem}
 use Rattle.meaning.specs.File.{fileWhole, runsWhole}
 use Rattle.tables.proofs.FrameLaws.{file-stops, runs-stop, settings-decide, few-rows, setting-is, runs-are}
 use borrow.Author.Needs.{needs}
@@ -17,7 +18,7 @@ counts-requires c κs = search needs
 is-whole : (c : tie.Then1) → fileWhole (c .before .before .before .args .file .now) ≡ true
 is-whole c = sym (c .before .whole .ensures) ∙ c .if1 .taken
 
-runs-told : (c : tie.After-same-lengths) → let a = c .before .before .before .before .before .before .args in c .same-lengths .result ≡ runsWhole (a .file .now) (a .base) (a .wider) (a .local)
+runs-told : (c : tie.After-same-lengths) → let a = c .before .before .before .before .before .before .args in c .same-lengths .result ≡ runsWhole (a .file .now) (bySystem (a .base) (a .wider) (a .local))
 runs-told c =
     let n = c .before .before in
     let a = n .before .before .before .before .args in
@@ -39,13 +40,13 @@ returns : tie.Need-returns
 returns c =
     let l = c .before .before .before in
     let n = l .before .before in
-    settings-decide _ _ _ _ (is-whole (n .before)) (sym (runs-told l) ∙ c .before .before .if2 .taken) (setting-is _ (n .counts .ensures) _ (c .before .settings .ensures) (c .stage .ensures))
+    settings-decide _ _ (is-whole (n .before)) (sym (runs-told l) ∙ c .before .before .if2 .taken) (setting-is _ (n .counts .ensures) (c .before .settings .ensures) (c .stage .ensures))
 
 returns-2 : tie.Need-returns-2
-returns-2 c = runs-stop _ _ _ _ (is-whole (c .before .before .before .before)) (sym (runs-told (c .before)) ∙ c .if2 .left)
+returns-2 c = runs-stop _ _ (is-whole (c .before .before .before .before)) (sym (runs-told (c .before)) ∙ c .if2 .left)
 
 returns-3 : tie.Need-returns-3
-returns-3 c = file-stops _ _ _ _ (sym (c .before .whole .ensures) ∙ c .if1 .left)
+returns-3 c = file-stops _ _ (sym (c .before .whole .ensures) ∙ c .if1 .left)
 
 pub frame-spec : {M : Type 1} → statement M
 frame-spec =

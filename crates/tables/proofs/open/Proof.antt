@@ -1,4 +1,5 @@
 -- `tables::open` meets its contract.
+use Rattle.meaning.specs.Study.{bySystem}
 use Rattle.tables.specs.Order.{frameStage}
 use Rattle.tables.specs.Reads.{Reads}
 use Rattle.tables.proofs.ReadLaws.{columns-kept}
@@ -7,7 +8,7 @@ use borrow.Author.Needs.{needs}
 use Rattle.tables.proofs.open.Statement.{statement}
 use Rattle.tables.proofs.open.Tie as tie
 
-rows-of : (c : tie.After-tables) → let a = c .before .before .before .args in Reads (frameStage (a .file .now) (a .base) (a .wider) (a .local)) (a .file .now) (c .tables .result)
+rows-of : (c : tie.After-tables) → let a = c .before .before .before .args in Reads (frameStage (a .file .now) (bySystem (a .base) (a .wider) (a .local))) (a .file .now) (c .tables .result)
 rows-of c = rw (c .before .frame .ensures) at (c .tables .ensures)
 
 frame-requires : tie.Need-frame-requires
@@ -26,7 +27,7 @@ returns : tie.Need-returns
 returns c =
     let j = c .before in
     let t = rows-of (j .before) in
-    rw (c .with-judgement .ensures) (record { judgement = tables-judged _ _ _ t (j .judgement .ensures); columns = columns-kept (t .columns) _ })
+    rw (c .with-judgement .ensures) (record { judgement = tables-judged _ t (j .judgement .ensures); columns = columns-kept (t .columns) _ })
 
 pub open-spec : {M : Type 1} → statement M
 open-spec = tie.close (tie.spec frame-requires tables-requires judgement-requires with-judgement-requires returns)

@@ -1,8 +1,8 @@
 -- `text::refuse` meets its contract.
 use mathlib.Core.Path.{refl}
 use native.Mathlib.Omega.{arith}
+use Rattle.meaning.specs.Outcome.{refusedLine}
 use Rattle.lines.proofs.Making.{ready, copied}
-use Rattle.text.proofs.Refusing.{refused-written}
 use Rattle.text.proofs.Sizing.{written}
 use borrow.Author.Needs.{needs}
 use Rattle.text.proofs.refuse.Statement.{statement}
@@ -24,16 +24,13 @@ same-length : tie.Need-same-length
 same-length c = search needs
 
 returns-2 : tie.Need-returns-2
+unfolding refusedLine
 returns-2 c =
     let p = c .before .before in
     let l = p .before in
     let v = l .before .before in
-    let s = v .before .before .before in
-    let line = copied (l .refused-line .result) (l .refused-line .ensures) (omega arith) (p .put-line .ensures) in
-    record {
-      long = λ h. refused-written (s .args .cause) (v .of-refusal .result) (s .args .out .now) _ _ (v .of-refusal .ensures) (written line (omega (arith, h)));
-      short = λ h. absurd (omega (arith, h, v .before .if1 .left));
-    }
+    let line = copied (l .refused-line .result) (rw (v .of-refusal .ensures) at (l .refused-line .ensures)) (omega arith) (p .put-line .ensures) in
+    record { long = λ h. written line (omega (arith, h)); short = λ h. absurd (omega (arith, h, v .before .if1 .left)) }
 
 pub refuse-spec : {M : Type 1} → statement M
 refuse-spec =

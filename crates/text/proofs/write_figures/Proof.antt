@@ -6,7 +6,8 @@ use Prim.Native.Nat.{ℕ, _-_, _≤_}
 use native.Mathlib.Omega.{arith}
 use lib.ListN.{length, take, replicate, length-replicate}
 use borrow.Author.Needs.{needs}
-use Rattle.text.specs.SheetText.{sheetText, nameOf, textOf, sized}
+use Rattle.meaning.specs.Sheet.{sheetText}
+use Rattle.text.specs.SheetText.{shownIn, textOf, sized}
 use Rattle.lines.proofs.Making.{front}
 use Rattle.text.proofs.Sizing.{written, says-sized, text-sized, text-none, fitted-written, fitted-short, fitted-none}
 use Rattle.text.proofs.write_figures.Statement.{statement}
@@ -20,7 +21,7 @@ is-sized : (t : tie.Then1) → let a = start (t .before) .args in sized (a .figu
 is-sized t = sym (t .before .sized .ensures) ∙ t .if1 .taken
 
 abbrev whole : tie.Then1 → List ℕ
-whole t = let a = start (t .before) .args in sheetText (a .figures) (nameOf (a .file .now) (a .rows))
+whole t = let a = start (t .before) .args in sheetText (shownIn (a .figures) (a .file .now) (a .rows))
 
 is-text : (t : tie.Then1) → let a = start (t .before) .args in textOf (a .figures) (a .file .now) (a .rows) ≡ whole t
 is-text t = let a = start (t .before) .args in text-sized (a .figures) (a .file .now) (a .rows) (is-sized t)

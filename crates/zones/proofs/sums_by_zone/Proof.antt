@@ -1,6 +1,6 @@
 -- The invariant: the sums over the nodes passed.
-use mathlib.Core.Path.{_≡_, _∙_}
-use Prim.Native.Nat.{ℕ, _≤_, _-_}
+use mathlib.Core.Path.{_≡_}
+use Prim.Native.Nat.{suc, _≤_, _-_}
 use native.Mathlib.Omega.{arith}
 use lib.ListN.{length}
 use Rattle.integers.proofs.Machine.{back}
@@ -14,7 +14,7 @@ use Rattle.zones.proofs.sums_by_zone.Tie as tie
 
 abbrev Inv-loop : tie.InvT-loop
 Inv-loop side nodes wider zone weight paying count all₀ v₀ all v =
-    (v ≤ count) × (count ≤ 256) × (count ≤ length wider) × (all ≡ rows 32 (sumsTo side zone weight paying wider v))
+    (v ≤ count) × (count ≤ 256) × (count ≤ length wider) × (all ≡ rows 32 (λ k. sumsTo side zone weight paying wider v (suc k)))
 
 abbrev μ-loop : tie.MeasureT-loop
 μ-loop side nodes wider zone weight paying count all₀ v₀ all v = count - v

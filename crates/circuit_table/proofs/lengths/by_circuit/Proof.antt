@@ -4,13 +4,12 @@ use borrow.Author.Needs.{needs}
 use Rattle.meaning.proofs.Columns.{Filling, filling-none, filling-on, filling-more, filling-done}
 use Rattle.meaning.specs.File.{rowAt, circuitAt}
 use Rattle.meaning.proofs.Frame.{row-low}
-use Rattle.layout.specs.Frame.{settingsIn}
 use Rattle.circuit_table.specs.Lengths.{lengthIfInRange}
 use Rattle.circuit_table.proofs.lengths.by_circuit.Statement.{statement}
 use Rattle.circuit_table.proofs.lengths.by_circuit.Tie as tie
 
 abbrev Inv-loop : tie.InvT-loop
-Inv-loop file rows factors size all₀ i₀ all i = Filling 0 512 (rows .count) (λ j. lengthIfInRange (settingsIn factors) (circuitAt file (rows .size) (rowAt rows j))) all i
+Inv-loop file rows factors size all₀ i₀ all i = Filling 0 512 (rows .count) (λ j. lengthIfInRange factors (circuitAt file (rows .size) (rowAt rows j))) all i
 
 abbrev μ-loop : tie.MeasureT-loop
 μ-loop file rows factors size all₀ i₀ all i = 512 - i

@@ -1,4 +1,4 @@
-use Rattle.layout.proofs.Rows.{settings-read}
+use Rattle.meaning.specs.File.{settingsAt}
 use borrow.Author.Needs.{needs}
 use Rattle.layout.proofs.settings_row.settings.Statement.{statement}
 use Rattle.layout.proofs.settings_row.settings.Tie as tie
@@ -46,22 +46,25 @@ u64-at-requires : tie.Need-u64-at-requires
 u64-at-requires c κs = search needs
 
 returns : tie.Need-returns
+unfolding settingsAt
 returns c =
-    settings-read _ _ _ _ _ _ _ _ _ _ _ _ _ _ _
-    (c .before .before .before .before .before .before .before .before .before .before .before .before .before .u32-at .ensures .value)
-    (c .before .before .before .before .before .before .before .before .before .before .before .before .u32-at2 .ensures .value)
-    (c .before .before .before .before .before .before .before .before .before .before .before .u32-at3 .ensures .value)
-    (c .before .before .before .before .before .before .before .before .before .before .u32-at4 .ensures .value)
-    (c .before .before .before .before .before .before .before .before .before .u32-at5 .ensures .value)
-    (c .before .before .before .before .before .before .before .before .u32-at6 .ensures .value)
-    (c .before .before .before .before .before .before .before .u32-at7 .ensures .value)
-    (c .before .before .before .before .before .before .u32-at8 .ensures .value)
-    (c .before .before .before .before .before .u32-at9 .ensures .value)
-    (c .before .before .before .before .u32-at10 .ensures .value)
-    (c .before .before .before .u32-at11 .ensures .value)
-    (c .before .before .u32-at12 .ensures .value)
-    (c .before .u32-at13 .ensures .value)
-    (c .u64-at .ensures)
+    let q = c .before .before .before .before .before .before .before in
+    rw (
+      q .before .before .before .before .before .before .u32-at .ensures .value,
+      q .before .before .before .before .before .u32-at2 .ensures .value,
+      q .before .before .before .before .u32-at3 .ensures .value,
+      q .before .before .before .u32-at4 .ensures .value,
+      q .before .before .u32-at5 .ensures .value,
+      q .before .u32-at6 .ensures .value,
+      q .u32-at7 .ensures .value,
+      c .before .before .before .before .before .before .u32-at8 .ensures .value,
+      c .before .before .before .before .before .u32-at9 .ensures .value,
+      c .before .before .before .before .u32-at10 .ensures .value,
+      c .before .before .before .u32-at11 .ensures .value,
+      c .before .before .u32-at12 .ensures .value,
+      c .before .u32-at13 .ensures .value,
+      c .u64-at .ensures,
+    )
 
 pub settings-spec : {M : Type 1} → statement M
 settings-spec =

@@ -1,12 +1,11 @@
 -- `lines::digits::put_number` meets its contract: by the sign, the text is the digits of the magnitude, after a minus sign below zero.
 use mathlib.Core.Path.{_≡_, sym, ap, _∙_}
-use mathlib.Core.List.{List, _++_}
+use mathlib.Core.List.{_++_}
 use Prim.Native.Nat.{ℕ, _+_}
 use native.Mathlib.Omega.{arith}
 use lib.ListN.{length}
 use Rattle.integers.proofs.Machine.{Back, fit-back, lt-true, lt-false}
 use Rattle.meaning.specs.Text.{text, natural, decimal}
-use Rattle.lines.specs.Making.{Put}
 use Rattle.lines.proofs.Making.{both, within, put-one}
 use Rattle.lines.proofs.Numbers.{decimal-below, decimal-above, decimal-i64}
 use borrow.Author.Needs.{needs}

@@ -7,22 +7,21 @@ use Rattle.meaning.specs.File.{rowAt, nodeAt}
 use Rattle.meaning.specs.Tables.{soundNodeRow}
 use Rattle.meaning.proofs.Frame.{row-low}
 use Rattle.meaning.proofs.Rows.{Passed, passed-zero, passed-more}
-use Rattle.layout.specs.Readable.{readable}
 use Rattle.node_table.specs.Told.{unsoundNode}
 use Rattle.meaning.proofs.First.{first-stops, first-ends}
 use Rattle.node_table.proofs.row.first_unsound.Statement.{statement}
 use Rattle.node_table.proofs.row.first_unsound.Tie as tie
 
 abbrev Inv-loop : tie.InvT-loop
-Inv-loop file rows generation demand count i₀ i = (i ≤ count) × Passed (unsoundNode file rows) i
+Inv-loop file rows settings count i₀ i = (i ≤ count) × Passed (unsoundNode settings file rows) i
 
 abbrev μ-loop : tie.MeasureT-loop
-μ-loop file rows generation demand count i₀ i = count - i
+μ-loop file rows settings count i₀ i = count - i
 
 -- what the test tells of a row
 told : (c : tie.After-sound-row Inv-loop μ-loop)
     → let l = c .before .before .before in
-    let a = l .before .before .args in soundNodeRow (readable (a .file .now) .settings) (nodeAt (a .file .now) (rowAt (a .rows) (l .loop .i))) ≡ c .sound-row .result
+    let a = l .before .before .args in soundNodeRow (a .settings) (nodeAt (a .file .now) (rowAt (a .rows) (l .loop .i))) ≡ c .sound-row .result
 told c = sym (rw (c .before .row-at .ensures) at (c .sound-row .ensures))
 
 loop-holds : tie.Need-loop-holds Inv-loop μ-loop
@@ -33,8 +32,7 @@ row-at-requires c κs = search needs
 
 sound-row-requires : tie.Need-sound-row-requires Inv-loop μ-loop
 sound-row-requires c κs =
-    let s = c .before .before .before .before in
-    (omega (arith, c .row-at .ensures, row-low (s .args .rows) {i = c .before .before .loop .i} (omega arith) (omega arith) (omega arith)), s .pre)
+    omega (arith, c .row-at .ensures, row-low (c .before .before .before .before .args .rows) {i = c .before .before .loop .i} (omega arith) (omega arith) (omega arith))
 
 add-i : tie.Need-add-i Inv-loop μ-loop
 add-i c = search needs

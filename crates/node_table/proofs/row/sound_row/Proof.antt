@@ -28,9 +28,7 @@ at-most-requires c κs = search needs
 
 returns : tie.Need-returns
 unfolding soundNodeRow nodeAt
-returns c =
-    let s = c .before .before .before .before .before in
-    rw (c .at-most .ensures, c .before .between2 .ensures, c .before .before .between .ensures, c .before .before .before .name-formed .ensures, s .pre .1 .generation, s .pre .1 .demand) refl
+returns c = rw (c .at-most .ensures, c .before .between2 .ensures, c .before .before .between .ensures, c .before .before .before .name-formed .ensures) refl
 
 pub sound-row-spec : {M : Type 1} → statement M
 sound-row-spec =

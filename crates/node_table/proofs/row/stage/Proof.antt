@@ -14,20 +14,20 @@ cast-count c = search needs
 repeated-requires : tie.Need-repeated-requires
 repeated-requires c κs = search needs
 
-add-t9 : tie.Need-add-t9
-add-t9 c = search needs
+add-t8 : tie.Need-add-t8
+add-t8 c = search needs
 
 returns : tie.Need-returns
-returns c = let p = c .before .before in node-unsound _ (p .before .before .before .pre .0) (p .first-unsound .ensures) (first-lowest (c .before .repeated .ensures)) (omega arith)
+returns c = let p = c .before .before in node-unsound _ (p .before .before .before .pre .0) (p .before .before .before .pre .1) (p .first-unsound .ensures) (first-lowest (c .before .repeated .ensures)) (omega arith)
 
-add-t11 : tie.Need-add-t11
-add-t11 c = search needs
+add-t10 : tie.Need-add-t10
+add-t10 c = search needs
 
 returns-2 : tie.Need-returns-2
-returns-2 c = let p = c .before .before .before in node-repeated _ (p .before .before .before .pre .0) (p .first-unsound .ensures) (first-lowest (c .before .before .repeated .ensures)) (omega arith) (omega arith)
+returns-2 c = let p = c .before .before .before in node-repeated _ (p .before .before .before .pre .0) (p .before .before .before .pre .1) (p .first-unsound .ensures) (first-lowest (c .before .before .repeated .ensures)) (omega arith) (omega arith)
 
 returns-3 : tie.Need-returns-3
-returns-3 c = let p = c .before .before .before in nodes-sound _ (p .before .before .before .pre .0) (p .first-unsound .ensures) (first-lowest (c .before .before .repeated .ensures)) (omega arith) (omega arith)
+returns-3 c = let p = c .before .before .before in nodes-sound _ (p .before .before .before .pre .0) (p .before .before .before .pre .1) (p .first-unsound .ensures) (first-lowest (c .before .before .repeated .ensures)) (omega arith) (omega arith)
 
 pub stage-spec : {M : Type 1} → statement M
 stage-spec =
@@ -36,8 +36,8 @@ stage-spec =
     cast-count
     first-unsound-requires
     repeated-requires
-    add-t9
+    add-t8
     returns
-    add-t11
+    add-t10
     returns-2
     returns-3)

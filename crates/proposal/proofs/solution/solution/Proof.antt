@@ -1,8 +1,15 @@
-use mathlib.Core.Path.{_∙_}
+use mathlib.Core.Path.{refl, _∙_}
+use Rattle.meaning.proofs.Answers.{stops-first, passes-first}
 use Rattle.proposal.proofs.Cases.{ready, judged-as}
 use borrow.Author.Needs.{needs}
 use Rattle.proposal.proofs.solution.solution.Statement.{statement}
 use Rattle.proposal.proofs.solution.solution.Tie as tie
+
+enum-known-earlier : tie.Need-enum-known-earlier
+enum-known-earlier c = search needs
+
+enum-told : tie.Need-enum-told
+enum-told c = search needs
 
 in-system-requires : tie.Need-in-system-requires
 in-system-requires c κs = search needs
@@ -12,15 +19,20 @@ offsets-requires c κs = search needs
 
 judge-system-requires : tie.Need-judge-system-requires
 judge-system-requires c κs =
-    let s = c .before .before .before in
+    let s = c .before .before .before .before .before in
     ready _ _ _ _ _ _ (s .pre) (c .before .in-system .ensures) (c .offsets .ensures)
 
 returns : tie.Need-returns
-returns c =
+returns c = stops-first _ refl (c .before .earlier .given .1)
+
+returns-2 : tie.Need-returns-2
+returns-2 c =
     let o = c .before in
-    let s = o .before .before .before in
-    c .judge-system .ensures ∙ judged-as _ _ _ _ _ _ (s .pre) (o .before .in-system .ensures) (o .offsets .ensures)
+    let p = o .before .before .before in
+    let s = p .before .before in
+    passes-first _ refl (p .enum-told .given .1)
+    (c .judge-system .ensures ∙ judged-as _ _ _ _ _ _ (s .pre) (o .before .in-system .ensures) (o .offsets .ensures))
 
 pub solution-spec : {M : Type 1} → statement M
 solution-spec =
-    tie.close (tie.spec in-system-requires offsets-requires judge-system-requires returns)
+    tie.close (tie.spec enum-known-earlier enum-told in-system-requires offsets-requires judge-system-requires returns returns-2)

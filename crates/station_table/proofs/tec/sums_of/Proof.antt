@@ -2,16 +2,16 @@ use mathlib.Core.Path.{_≡_}
 use Prim.Native.Nat.{_-_, _≤_}
 use native.Mathlib.Omega.{arith}
 use borrow.Author.Needs.{needs}
-use Rattle.station_table.specs.Tec.{added}
+use Rattle.plants.specs.Counted.{isCounted}
 use Rattle.station_table.proofs.TecLaws.{typeSums, types-none, types-more, types-fit, types-done}
 use Rattle.station_table.proofs.tec.sums_of.Statement.{statement}
 use Rattle.station_table.proofs.tec.sums_of.Tie as tie
 
 abbrev Inv-loop : tie.InvT-loop
-Inv-loop paying by-type sums₀ cell₀ sums cell = (cell ≤ 1792) × (sums ≡ typeSums (added paying) by-type cell)
+Inv-loop counted by-type sums₀ cell₀ sums cell = (cell ≤ 1792) × (sums ≡ typeSums (isCounted counted) by-type cell)
 
 abbrev μ-loop : tie.MeasureT-loop
-μ-loop paying by-type sums₀ cell₀ sums cell = 1792 - cell
+μ-loop counted by-type sums₀ cell₀ sums cell = 1792 - cell
 
 loop-holds : tie.Need-loop-holds Inv-loop μ-loop
 loop-holds c = (omega arith, types-none _ _)

@@ -1,6 +1,5 @@
 use mathlib.Core.Path.{refl}
 use Rattle.meaning.specs.Tables.{soundSettings}
-use Rattle.layout.specs.Frame.{settingsIn}
 use borrow.Author.Needs.{needs}
 use Rattle.tables.proofs.settings.sound.Statement.{statement}
 use Rattle.tables.proofs.settings.sound.Tie as tie
@@ -27,7 +26,7 @@ between-requires-6 : tie.Need-between-requires-6
 between-requires-6 c κs = search needs
 
 returns : tie.Need-returns
-unfolding soundSettings settingsIn
+unfolding soundSettings
 returns c =
     let p = c .before .before .before in
     let q = p .before .before .before in

@@ -1,6 +1,5 @@
 use mathlib.Core.Path.{refl}
 use Rattle.meaning.specs.Tables.{soundScales}
-use Rattle.layout.specs.Frame.{settingsIn}
 use borrow.Author.Needs.{needs}
 use Rattle.tables.proofs.settings.sound_scales.Statement.{statement}
 use Rattle.tables.proofs.settings.sound_scales.Tie as tie
@@ -21,7 +20,7 @@ between-requires-5 : tie.Need-between-requires-5
 between-requires-5 c κs = search needs
 
 returns : tie.Need-returns
-unfolding soundScales settingsIn
+unfolding soundScales
 returns c =
     let p = c .before .before in
     rw (c .between5 .ensures, c .before .between4 .ensures, p .between3 .ensures, p .before .before .between2 .ensures, p .before .before .before .between .ensures) refl

@@ -1,11 +1,9 @@
-use mathlib.Core.Path.{ap}
 use native.Mathlib.Omega.{arith}
 use lib.IntN.{ℤ, _+ℤ_}
 use mir.Syntax.{w64}
 use mir.Val.{SFits}
 use Rattle.integers.proofs.Laws.{abs-add, sfits-abs}
 use Rattle.integers.proofs.Machine.{Back, fit-back}
-use Rattle.meaning.specs.Columns.{price}
 use Rattle.tariffs.proofs.by_zone.total_of.Statement.{statement}
 use Rattle.tariffs.proofs.by_zone.total_of.Tie as tie
 

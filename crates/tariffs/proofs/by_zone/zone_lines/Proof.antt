@@ -10,8 +10,7 @@ use Rattle.meaning.specs.Columns.{column, noLine}
 use Rattle.meaning.proofs.Columns.{column-none, column-turn}
 use Rattle.zones.specs.declared.ZoneSums.{ZoneSums}
 use Rattle.tariffs.specs.declared.by_zone.Terms.{Terms}
-use Rattle.tariffs.specs.Over.{sumsIn}
-use Rattle.tariffs.specs.Lines.{lineFrom}
+use Rattle.tariffs.specs.Sides.{sumsIn, lineFrom}
 use Rattle.tariffs.proofs.by_zone.zone_lines.Statement.{statement}
 use Rattle.tariffs.proofs.by_zone.zone_lines.Tie as tie
 

@@ -3,12 +3,11 @@ use mathlib.Core.Path.{_≡_, _∙_}
 use Prim.Native.Nat.{ℕ, _*_, _-_, _≤_}
 use borrow.Author.Needs.{needs}
 use native.Mathlib.Omega.{arith}
-use lib.IntN.{ℤ, pos, natAbs, _-ℤ_, _*ℤ_}
+use lib.IntN.{ℤ, pos, _-ℤ_, _*ℤ_}
 use mir.Syntax.{w64}
-use mir.Val.{SFits, toZ, ofZ}
+use mir.Val.{SFits, toZ}
 use Rattle.integers.proofs.Machine.{Back, fit-back, back, of-nat}
 use Rattle.integers.proofs.Laws.{sfits-abs}
-use Rattle.tariffs.specs.Over.{cFrom}
 use Rattle.tariffs.proofs.Laws.{below-first, below-second, first-fits, second-fits, mixed-fits}
 use Rattle.tariffs.proofs.over.c_of.Statement.{statement}
 use Rattle.tariffs.proofs.over.c_of.Tie as tie
@@ -92,7 +91,6 @@ nearest-requires : tie.Need-nearest-requires
 nearest-requires c κs = search needs
 
 returns : tie.Need-returns
-unfolding cFrom
 returns c = back _ (c .nearest .ok) ∙ simp E at (c .nearest .ensures)
 
 pub c-of-spec : {M : Type 1} → statement M

@@ -1,7 +1,7 @@
 -- `tariffs::over::metres_of` meets its contract.
 use borrow.Author.Needs.{needs}
 use Rattle.integers.proofs.Machine.{back}
-use Rattle.tariffs.specs.Over.{metresFrom}
+use Rattle.tariffs.specs.Sides.{metresFrom}
 use Rattle.tariffs.proofs.over.metres_of.Statement.{statement}
 use Rattle.tariffs.proofs.over.metres_of.Tie as tie
 

@@ -1,9 +1,9 @@
 -- The invariant: what the zones passed come to.
 use mathlib.Core.Path.{_≡_, sym, _∙_, ap}
-use Prim.Native.Nat.{ℕ, _≤_, _-_}
+use Prim.Native.Nat.{_≤_, _-_}
 use native.Mathlib.Omega.{arith}
 use Rattle.tariffs.specs.declared.over.Over.{Over}
-use Rattle.tariffs.specs.Over.{sumsIn, withZone, overFrom}
+use Rattle.tariffs.specs.Sides.{sumsIn, withZone, overFrom}
 use Rattle.tariffs.proofs.Laws.{over-none, over-more, over-fits}
 use Rattle.tariffs.proofs.over.over_zones.Statement.{statement}
 use Rattle.tariffs.proofs.over.over_zones.Tie as tie

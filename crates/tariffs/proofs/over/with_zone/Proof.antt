@@ -1,4 +1,4 @@
-use mathlib.Core.Path.{_≡_, _∙_}
+use mathlib.Core.Path.{_≡_}
 use Prim.Native.Nat.{ℕ, _≤_}
 use borrow.Author.Needs.{needs}
 use native.Mathlib.Omega.{arith}
@@ -7,7 +7,7 @@ use mir.Syntax.{w64}
 use mir.Val.{SFits, toZ}
 use Rattle.integers.proofs.Laws.{abs-add, abs-mul-le, sfits-abs}
 use Rattle.integers.proofs.Machine.{Back, fit-back, of-nat}
-use Rattle.tariffs.specs.Over.{metresFrom, metresTimes, withZone}
+use Rattle.tariffs.specs.Sides.{metresFrom, withZone}
 use Rattle.tariffs.proofs.Laws.{near}
 use Rattle.tariffs.proofs.over.with_zone.Statement.{statement}
 use Rattle.tariffs.proofs.over.with_zone.Tie as tie

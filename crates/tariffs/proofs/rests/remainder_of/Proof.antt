@@ -9,7 +9,7 @@ use mir.Syntax.{w64}
 use mir.Val.{SFits, toZ, ofZ}
 use Rattle.integers.specs.Numbers.{floorDiv}
 use Rattle.integers.proofs.Machine.{Back, fit-back, back, of-nat}
-use Rattle.meaning.specs.Figures.{residualOf, remainderOf}
+use Rattle.meaning.specs.Charging.{residualOf, remainderOf}
 use Rattle.tariffs.proofs.Laws.{multiple-fits, left-fits}
 use Rattle.tariffs.proofs.rests.remainder_of.Statement.{statement}
 use Rattle.tariffs.proofs.rests.remainder_of.Tie as tie

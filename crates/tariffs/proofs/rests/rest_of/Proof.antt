@@ -8,7 +8,6 @@ use mir.Facts.{toZ-ofZ}
 use mir.Syntax.{w64}
 use mir.Val.{SFits, toZ}
 use Rattle.integers.proofs.Machine.{Back, fit-back, of-nat}
-use Rattle.tariffs.specs.Sides.{restFrom}
 use Rattle.tariffs.proofs.Laws.{less-fits, rest-fits}
 use Rattle.tariffs.proofs.rests.rest_of.Statement.{statement}
 use Rattle.tariffs.proofs.rests.rest_of.Tie as tie
@@ -47,7 +46,6 @@ sub-result-2 : tie.Need-sub-result-2
 sub-result-2 c = simp E (f2 c)
 
 returns : tie.Need-returns
-unfolding restFrom
 returns c = toZ-ofZ (sub-result-2 c) ∙ simp E
 
 pub rest-of-spec : {M : Type 1} → statement M

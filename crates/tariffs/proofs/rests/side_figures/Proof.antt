@@ -5,25 +5,26 @@ use lib.IntN.{ℤ, natAbs}
 use mir.Syntax.{w64}
 use mir.Val.{toZ, ofZ}
 use Rattle.integers.proofs.Machine.{Back, fit-back, back}
-use Rattle.meaning.specs.Figures.{residualOf}
-use Rattle.tariffs.specs.Lines.{incomeFrom}
-use Rattle.tariffs.specs.Sides.{restFrom}
-use Rattle.tariffs.proofs.Laws.{income-most, rest-within, residual-within, side-made}
+use Rattle.meaning.specs.Charging.{overZones, rest, residualOf}
+use Rattle.tariffs.specs.Sides.{sumsOf, zonesIn, tariffFrom, pricedIn}
+use Rattle.tariffs.proofs.Laws.{few-pay, income-most, rest-is, rest-within, residual-within, side-made}
 use Rattle.tariffs.proofs.rests.side_figures.Statement.{statement}
 use Rattle.tariffs.proofs.rests.side_figures.Tie as tie
 
 module _ (s : tie.Start) where
   abbrev income : ℤ
-  income = let a = s .args in incomeFrom (a .terms) (a .sums) (a .count)
+  income = let a = s .args in overZones (a .count) (zonesIn (a .sums) (a .count) .paying) (λ zone. tariffFrom (a .terms) (sumsOf (a .sums) zone))
 
-  abbrev rest : ℤ
-  rest = restFrom (s .args .terms .target) income (s .args .local-income)
+  abbrev left-over : ℤ
+  left-over = let a = s .args in rest (pricedIn (a .sums) (a .count) (a .terms) (a .target) (a .local-income))
 
   bl : Back (s .args .local-income)
   bl = fit-back (s .fits .local-income)
 
 zone-income-requires : tie.Need-zone-income-requires
-zone-income-requires c κs = (c .pre .all, c .pre .income)
+zone-income-requires c κs =
+    let a = c .args in
+    (c .pre .all, c .pre .few, few-pay (a .sums) (a .count) (a .kw .0) (a .terms) (a .target) (a .local-income) (c .pre), c .pre .terms)
 
 -- the income
 earned : (c : tie.After-zone-income) → toZ w64 (ofZ w64 (c .zone-income .result)) ≡ income (c .before)
@@ -34,13 +35,16 @@ rest-of-requires c κs =
     let s = c .before in
     let a = s .args in (
       s .pre .target,
-      subst (λ (x : ℤ). natAbs x ≤ 1000000000000000000) (sym (earned c)) (income-most (a .sums) (a .count) (a .terms) (s .pre .income)),
+      subst (λ (x : ℤ). natAbs x ≤ 1000000000000000000) (sym (earned c)) (income-most (a .sums) (a .count) (a .kw .0) (a .terms) (a .target) (a .local-income) (s .pre)),
       subst (λ (x : ℤ). natAbs x ≤ 1000000000000000000) (sym (bl s)) (s .pre .local),
     )
 
 -- the rest
-left : (c : tie.After-rest-of) → toZ w64 (ofZ w64 (c .rest-of .result)) ≡ rest (c .before .before)
-left c = back _ (c .rest-of .ok) ∙ simp (earned, bl) at (c .rest-of .ensures)
+left : (c : tie.After-rest-of) → toZ w64 (ofZ w64 (c .rest-of .result)) ≡ left-over (c .before .before)
+left c =
+    let s = c .before .before in
+    let a = s .args in
+    back _ (c .rest-of .ok) ∙ simp (earned, bl) at (c .rest-of .ensures) ∙ rest-is (a .sums) (a .count) (a .kw .0) (a .terms) (a .target) (a .local-income) (s .pre)
 
 residual-requires : tie.Need-residual-requires
 residual-requires c κs = search needs
@@ -49,13 +53,13 @@ remainder-of-requires : tie.Need-remainder-of-requires
 remainder-of-requires c κs =
     let s = c .before .before .before in
     let a = s .args in (
-      subst (λ (x : ℤ). natAbs x ≤ 3000000000000000000) (sym (left (c .before))) (rest-within (a .sums) (a .count) (a .kw) (a .terms) (a .local-income) (s .pre)),
+      subst (λ (x : ℤ). natAbs x ≤ 3000000000000000000) (sym (left (c .before))) (rest-within (a .sums) (a .count) (a .kw .0) (a .terms) (a .target) (a .local-income) (s .pre)),
       s .pre .some,
       s .pre .most,
     )
 
 -- the residual
-floored : (c : tie.After-residual) → (let s = c .before .before .before in c .residual .result .0 ≡ residualOf (rest s) (s .args .kw .0))
+floored : (c : tie.After-residual) → (let s = c .before .before .before in c .residual .result .0 ≡ residualOf (left-over s) (s .args .kw .0))
 floored c = simp left at (c .residual .ensures)
 
 zone-lines-requires : tie.Need-zone-lines-requires
@@ -63,9 +67,9 @@ zone-lines-requires c κs =
     let s = c .before .before .before .before in
     let a = s .args in (
       s .pre .all,
-      s .pre .income .few,
-      s .pre .income .near,
-      subst (λ (x : ℤ). natAbs x ≤ 3000000000000000000) (sym (floored (c .before))) (residual-within (a .sums) (a .count) (a .kw) (a .terms) (a .local-income) (s .pre)),
+      s .pre .few,
+      s .pre .terms,
+      subst (λ (x : ℤ). natAbs x ≤ 3000000000000000000) (sym (floored (c .before))) (residual-within (a .sums) (a .count) (a .kw .0) (a .terms) (a .target) (a .local-income) (s .pre)),
     )
 
 returns : tie.Need-returns
@@ -73,7 +77,7 @@ returns c =
     let m = c .before in
     let s = m .before .before .before .before in
     let a = s .args in
-    side-made (a .sums) (a .count) (a .kw) (a .terms) (a .local-income) (s .pre)
+    side-made (a .sums) (a .count) (a .kw .0) (a .terms) (a .target) (a .local-income) (s .pre)
     (floored (m .before))
     (back _ (m .remainder-of .ok) ∙ simp left at (m .remainder-of .ensures))
     (c .zone-lines .ensures)

@@ -1,8 +1,8 @@
 -- `text::sections::put_figures` meets its contract: each call writes the next part of the text.
 use native.Mathlib.Omega.{arith}
 use Rattle.integers.proofs.Machine.{back}
+use Rattle.meaning.specs.Sheet.{sheetText}
 use Rattle.lines.proofs.Making.{both, ready, copied}
-use Rattle.text.specs.SheetText.{sheetText, localTexts}
 use borrow.Author.Needs.{needs}
 use Rattle.text.proofs.sections.put_figures.Statement.{statement}
 use Rattle.text.proofs.sections.put_figures.Tie as tie
@@ -47,7 +47,7 @@ same-length c =
     omega (arith, p .put-line2 .kept .0, n .put-nodes .kept .0, d .put-zones2 .kept .0, g .put-zones .kept .0, f .put-line .kept .0)
 
 returns : tie.Need-returns
-unfolding sheetText localTexts
+unfolding sheetText
 returns c =
     let p = c .before .before in
     let r = p .before .before in

@@ -1,26 +1,34 @@
 -- `text::sections::put_nodes` meets its contract: the rows before v are written.
 use mathlib.Core.Path.{_≡_}
-use Prim.Native.Nat.{_≤_, _-_, _*_}
+use mathlib.Core.List.{List}
+use Prim.Native.Nat.{ℕ, _≤_, _-_, _*_}
 use lib.ListN.{length}
 use Rattle.meaning.specs.Rows.{joined}
+use Rattle.meaning.specs.declared.Section.{Section}
+use Rattle.meaning.specs.declared.LocalFigures.{LocalFigures}
+use Rattle.meaning.specs.Sheet.{nodeLine, nodeLines}
 use Rattle.meaning.proofs.Frame.{row-rise}
 use Rattle.lines.specs.Making.{Put}
-use Rattle.lines.proofs.Making.{kept, longer, ready, copied}
-use Rattle.text.proofs.Joined.{rows-start, rows-more}
-use Rattle.text.proofs.Rows.{nodeRow, node-row, node-rows}
+use Rattle.lines.proofs.Making.{kept, longer, ready, copied, rows-start, rows-more}
+use Rattle.text.specs.SheetText.{nameOf, localIn}
+use Rattle.text.proofs.Names.{name-read}
 use borrow.Author.Needs.{needs}
 use native.Mathlib.Omega.{arith}
 use Rattle.text.proofs.sections.put_nodes.Statement.{statement}
 use Rattle.text.proofs.sections.put_nodes.Tie as tie
 
+-- the text of row v
+abbrev row : List LocalFigures → (file : List ℕ) → Section → ℕ → List ℕ
+row local file rows v = nodeLine (nameOf file rows v) (localIn local v)
+
 abbrev Inv-loop : tie.InvT-loop
-Inv-loop out₀ from file rows nodes local at₀ v₀ out at v = (v ≤ nodes) × Put (57 * v) out₀ from (joined v (nodeRow local file rows)) out at
+Inv-loop out₀ from file rows nodes local at₀ v₀ out at v = (v ≤ nodes) × Put (57 * v) out₀ from (joined v (row local file rows)) out at
 
 abbrev μ-loop : tie.MeasureT-loop
 μ-loop out₀ from file rows nodes local at₀ v₀ out at v = nodes - v
 
 loop-holds : tie.Need-loop-holds Inv-loop μ-loop
-loop-holds c = let a = c .before .before .args in (omega arith, rows-start (a .out .now) (a .from) (nodeRow (a .t6) (a .file .now) (a .rows)))
+loop-holds c = let a = c .before .before .args in (omega arith, rows-start (a .out .now) (a .from) (row (a .t6) (a .file .now) (a .rows)))
 
 cast-row-at : tie.Need-cast-row-at Inv-loop μ-loop
 cast-row-at c = search needs
@@ -73,18 +81,20 @@ loop-again c =
     let nn = n .before .before .before in
     let l = nn .before .before in
     let a = l .before .before .before .args in
-    let row = copied (n .node-line .result) (n .node-line .ensures) (omega arith) (p .put-line .ensures) in
-    (omega arith, longer (rows-more {w = 57} (nodeRow (a .t6) (a .file .now) (a .rows)) (l .loop .v) (l .loop .inv .1) (rw (node-row (a .t6) (a .file .now) (a .rows) (l .loop .v) _ (nn .row-at .ensures)) row)) (omega arith))
+    let named = rw (name-read (a .file .now) (a .rows) (l .loop .v) _ (nn .row-at .ensures)) at (n .node-line .ensures) in
+    let next = copied (n .node-line .result) named (omega arith) (p .put-line .ensures) in
+    (omega arith, longer (rows-more {w = 57} (row (a .t6) (a .file .now) (a .rows)) (l .loop .v) (l .loop .inv .1) next) (omega arith))
 
 same-length : tie.Need-same-length Inv-loop μ-loop
 same-length c = kept (c .before .loop .inv .1)
 
 returns : tie.Need-returns Inv-loop μ-loop
+unfolding nodeLines
 returns c =
     let l = c .before in
     let a = l .before .before .before .args in
     let e : l .loop .v ≡ a .nodes = omega arith in
-    rw (node-rows (a .nodes) (a .t6) (a .file .now) (a .rows)) (longer (rw e at (l .loop .inv .1)) (omega arith))
+    longer (rw e at (l .loop .inv .1)) (omega arith)
 
 pub put-nodes-spec : {M : Type 1} → statement M
 put-nodes-spec =

@@ -1,24 +1,33 @@
 -- `text::sections::put_zones` meets its contract: the rows before k are written.
 use mathlib.Core.Path.{_≡_}
-use Prim.Native.Nat.{_≤_, _-_, _*_}
-use Rattle.meaning.specs.Rows.{joined}
-use Rattle.lines.specs.Making.{Put}
-use Rattle.lines.proofs.Making.{kept, longer, ready, copied}
-use Rattle.text.proofs.Joined.{rows-start, rows-more}
-use Rattle.text.proofs.Rows.{zoneRow, zone-row, zone-rows}
-use borrow.Author.Needs.{needs}
+use mathlib.Core.List.{List}
+use Prim.Native.Nat.{ℕ, _≤_, _-_, _*_}
+use native.Mathlib.Numerals.{add-one}
 use native.Mathlib.Omega.{arith}
+use Rattle.meaning.specs.Rows.{joined}
+use Rattle.meaning.specs.Text.{line}
+use Rattle.meaning.specs.declared.Side.{Side}
+use Rattle.meaning.specs.declared.SideFigures.{SideFigures}
+use Rattle.meaning.specs.Sheet.{zoneRow, zoneLines}
+use Rattle.lines.specs.Making.{Put, width}
+use Rattle.lines.proofs.Making.{kept, longer, ready, copied, rows-start, rows-more}
+use Rattle.text.specs.SheetText.{sideIn}
+use borrow.Author.Needs.{needs}
 use Rattle.text.proofs.sections.put_zones.Statement.{statement}
 use Rattle.text.proofs.sections.put_zones.Tie as tie
 
+-- the text of row k
+abbrev row : Side → SideFigures → ℕ → List ℕ
+row side f k = line (zoneRow side (sideIn f) k)
+
 abbrev Inv-loop : tie.InvT-loop
-Inv-loop out₀ from side f at₀ k₀ out at k = (k ≤ f .zones) × Put (128 * k) out₀ from (joined k (zoneRow side f)) out at
+Inv-loop out₀ from side f at₀ k₀ out at k = (k ≤ f .zones) × Put (width * k) out₀ from (joined k (row side f)) out at
 
 abbrev μ-loop : tie.MeasureT-loop
 μ-loop out₀ from side f at₀ k₀ out at k = f .zones - k
 
 loop-holds : tie.Need-loop-holds Inv-loop μ-loop
-loop-holds c = let a = c .before .args in (omega arith, rows-start (a .out .now) (a .from) (zoneRow (a .side) (a .t4)))
+loop-holds c = let a = c .before .args in (omega arith, rows-start (a .out .now) (a .from) (row (a .side) (a .t4)))
 
 mul-z : tie.Need-mul-z Inv-loop μ-loop
 mul-z c = search needs
@@ -51,18 +60,19 @@ loop-again c =
     let z = p .before .before in
     let l = z .before .before .before .before in
     let a = l .before .before .args in
-    let row = copied (z .zone-line .result) (z .zone-line .ensures) (omega arith) (p .put-line .ensures) in
-    (omega arith, longer (rows-more {w = 128} (zoneRow (a .side) (a .t4)) (l .loop .k) (l .loop .inv .1) (rw (zone-row (a .side) (a .t4) (l .loop .k)) row)) (omega arith))
+    let next = copied (z .zone-line .result) (rw (add-one (l .loop .k)) at (z .zone-line .ensures)) (omega arith) (p .put-line .ensures) in
+    (omega arith, longer (rows-more {w = width} (row (a .side) (a .t4)) (l .loop .k) (l .loop .inv .1) next) (omega arith))
 
 same-length : tie.Need-same-length Inv-loop μ-loop
 same-length c = kept (c .before .loop .inv .1)
 
 returns : tie.Need-returns Inv-loop μ-loop
+unfolding zoneLines
 returns c =
     let l = c .before in
     let a = l .before .before .args in
     let e : l .loop .k ≡ a .t4 .zones = omega arith in
-    rw (zone-rows (a .side) (a .t4)) (longer (rw e at (l .loop .inv .1)) (omega arith))
+    longer (rw e at (l .loop .inv .1)) (omega arith)
 
 pub put-zones-spec : {M : Type 1} → statement M
 put-zones-spec =

@@ -1,15 +1,11 @@
 use mathlib.Core.Path.{_≡_, sym, _∙_}
-use mathlib.Core.Bool.{true, false}
-use Prim.Native.Nat.{ℕ}
 use borrow.Author.Needs.{needs}
 use native.Mathlib.Omega.{arith}
 use lib.IntN.{ℤ, pos, _*ℤ_}
 use mir.Syntax.{w64}
 use mir.Val.{toZ, ofZ}
 use Rattle.integers.proofs.Machine.{fit-back, back}
-use Rattle.meaning.specs.declared.Kw.{Kw}
-use Rattle.meaning.specs.Figures.{metres}
-use Rattle.steps.specs.Steps.{turned}
+use Rattle.meaning.specs.Charging.{metres, turned}
 use Rattle.zones.specs.Sums.{inRanges}
 use Rattle.zones.proofs.Parts.{Counts, counted, part-full, part-none}
 use Rattle.zones.proofs.node.part_of.Statement.{statement}

@@ -2,11 +2,10 @@ use mathlib.Core.Path.{_≡_, _∙_}
 use Prim.Native.Nat.{ℕ}
 use borrow.Author.Needs.{needs}
 use native.Mathlib.Omega.{arith}
-use lib.IntN.{ℤ, pos, _*ℤ_}
+use lib.IntN.{ℤ, pos}
 use mir.Facts.{toZ-ofZ}
 use mir.Syntax.{w64}
-use mir.Val.{SFits, toZ}
-use Rattle.integers.proofs.Core.{Z}
+use mir.Val.{toZ}
 use Rattle.integers.proofs.Machine.{Back, fit-back, of-nat}
 use Rattle.integers.proofs.Laws.{sfits-abs}
 use Rattle.zones.proofs.Parts.{times-fits}

@@ -1,0 +1,2 @@
+-- What the contracts of `plants` cite beside `meaning`.
+pub mod Counted
