@@ -1,20 +1,43 @@
 // What an answer says, as 01 lists it: number, system and row. And which of two stages stops a case.
 ghost use mathlib.Core.Path.{_≡_};
+ghost use Rattle.meaning.specs.declared.System.the-variants.{Base, Wider};
 ghost use Rattle.meaning.specs.declared.Answer.the-variants.{Refused};
-ghost use Rattle.meaning.specs.Answers.{values, systemNumber, _orElse_};
+ghost use Rattle.meaning.specs.Editions.{systemNumber};
+ghost use Rattle.meaning.specs.Answers.{values, _orElse_};
 use meaning::Answer;
+use meaning::Background;
 use meaning::Judgement;
 use meaning::Refusal;
 use meaning::System;
 use meaning::Values;
+
+// The number of a background's base system.
+fn base_number(background: Background) -> usize
+    ensures { λ r. ⌜ r ≡ systemNumber (Base background) ⌝ }
+{
+    match background {
+        Background::YearRound => 1,
+        Background::Peak => 4,
+    }
+}
+
+// The number of its wider system.
+fn wider_number(background: Background) -> usize
+    ensures { λ r. ⌜ r ≡ systemNumber (Wider background) ⌝ }
+{
+    match background {
+        Background::YearRound => 2,
+        Background::Peak => 5,
+    }
+}
 
 // The number of a system.
 fn system_number(system: System) -> usize
     ensures { λ r. ⌜ r ≡ systemNumber system ⌝ }
 {
     match system {
-        System::Base(_) => 1,
-        System::Wider(_) => 2,
+        System::Base(background) => base_number(background),
+        System::Wider(background) => wider_number(background),
         System::Local => 3,
     }
 }
@@ -46,9 +69,11 @@ pub fn of_refusal(cause: Refusal) -> Values
         Refusal::BadNumber(system, row) => refusal(8, system_number(system), row),
         Refusal::Unbalanced(system, row) => refusal(9, system_number(system), row),
         Refusal::MissesTooHigh(system) => refusal(10, system_number(system), 0),
-        Refusal::DirectionInDoubt(row) => refusal(11, 1, row),
+        Refusal::DirectionInDoubt(background, row) => refusal(11, base_number(background), row),
         Refusal::ShortBuffer => refusal(12, 0, 0),
         Refusal::NoChargeableTec => refusal(13, 0, 0),
+        Refusal::Unscalable => refusal(14, 0, 0),
+        Refusal::BackgroundInDoubt(row) => refusal(15, 0, row),
     }
 }
 

@@ -1,4 +1,4 @@
-// The entry called with KILN, lent buffers of several lengths and runs of wrong lengths: prints each answer's values, and whether the buffer changed.
+// The entry called with KILN, lent buffers of several lengths and runs of wrong lengths, peak's too: prints each answer's values, and whether the buffer changed.
 // Then the line of a refusal, into a buffer that is long enough and one that is a byte too short; and walks along ends that no sound table has.
 use libc::STDIN_FILENO;
 use libc::STDOUT_FILENO;
@@ -48,12 +48,26 @@ fn print_length(length: usize, out: &[u8]) {
 }
 
 // One call: what it answers, and how much of the buffer is as it was.
-fn call(file: &[u8], base: &[i64], wider: &[i64], local: &[i64], out: &mut [u8]) {
-    let carried = answers::values(sheet::write(file, base, wider, local, out));
+fn call_five(
+    file: &[u8],
+    base: &[i64],
+    wider: &[i64],
+    local: &[i64],
+    peak_base: &[i64],
+    peak_wider: &[i64],
+    out: &mut [u8],
+) {
+    let answer = sheet::write(file, base, wider, local, peak_base, peak_wider, out);
+    let carried = answers::values(answer);
     print_number(carried.number);
     print_number(carried.system);
     print_number(carried.row);
     print_length(carried.length, out);
+}
+
+// A call with no run for peak.
+fn call(file: &[u8], base: &[i64], wider: &[i64], local: &[i64], out: &mut [u8]) {
+    call_five(file, base, wider, local, &[], &[], out);
 }
 
 // A call with a buffer of 200 bytes.
@@ -84,6 +98,14 @@ fn wrong_runs(file: &[u8], base: &[i64], wider: &[i64], local: &[i64], long: &[i
     call_with_room(file, base, wider, &local[..0]);
     call_with_room(file, wider, base, local);
     call_with_room(&file[..0], base, wider, local);
+}
+
+// Runs for peak, which edition 1 has not: one, the other, and both.
+fn peak_runs(file: &[u8], base: &[i64], wider: &[i64], local: &[i64]) {
+    let mut out = [7u8; 200];
+    call_five(file, base, wider, local, base, &[], &mut out);
+    call_five(file, base, wider, local, &[], wider, &mut out);
+    call_five(file, base, wider, local, base, wider, &mut out);
 }
 
 // The line of a refusal: how long it is, and how much of the buffer is as it was.
@@ -151,6 +173,7 @@ fn main() {
     buffers(file, &base[0..6], &wider[0..6], &local[0..6]);
     let long = run_at(file, 380);
     wrong_runs(file, &base[0..6], &wider[0..6], &local[0..6], &long);
+    peak_runs(file, &base[0..6], &wider[0..6], &local[0..6]);
     lines();
     walks();
 }

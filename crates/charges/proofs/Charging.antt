@@ -3,9 +3,10 @@ use mathlib.Core.Path.{_≡_, refl, sym, _∙_}
 use mathlib.Core.List.{List}
 use Prim.Native.Nat.{ℕ}
 use lib.ListN.{length}
-use Rattle.meaning.specs.declared.Background.the-variants.{YearRound}
+use Rattle.meaning.specs.declared.Background.the-variants.{YearRound, Peak}
 use Rattle.meaning.specs.declared.System.the-variants.{Wider, Local}
 use Rattle.meaning.specs.Study.{Runs}
+use Rattle.meaning.specs.declared.Kw.{Kw}
 use Rattle.meaning.specs.declared.Figures.{Figures}
 use Rattle.meaning.specs.declared.Refusal.{Refusal}
 use Rattle.meaning.specs.declared.Judgement.{Judgement}
@@ -19,10 +20,12 @@ use Rattle.tables.specs.declared.Opened.{Opened}
 use Rattle.tables.specs.Order.{frameStage}
 use Rattle.tables.proofs.OrderLaws.{frame-stops}
 use Rattle.proposal.specs.Judges.{Judges}
+use Rattle.plants.specs.declared.Counted.the-variants.{All, Paying}
+use Rattle.station_table.specs.Tec.{byNode}
 use Rattle.steps.specs.Nothing.{noFigures}
 use Rattle.tariffs.specs.Case.{figuresOver}
 use Rattle.charges.specs.declared.Charged.{Charged}
-use Rattle.charges.specs.Charged.{figuresBy, chargedOf}
+use Rattle.charges.specs.Charged.{peakPayers, figuresBy, chargedOf}
 use Rattle.charges.proofs.OfFile.{figures-of-file}
 
 module _ (file : List ℕ) (runs : Runs) (o : Opened) (j : Judges file runs o) where
@@ -31,11 +34,11 @@ module _ (file : List ℕ) (runs : Runs) (o : Opened) (j : Judges file runs o) w
   unfolding chargedOf figuresBy
   stopped h ef = rw (sym (j .judgement), h, ef) refl
 
-  pub charged : {f : Figures} → o .judgement ≡ Passes
-      → f ≡ figuresOver (o .counts .nodes) (o .settings) (o .nodes .«generation_zone») (o .tec .scaling) (o .tec .paying) (o .nodes .«demand_zone») (o .nodes .demand) (runs (Wider YearRound)) (runs Local)
+  pub charged : {f : Figures} {tec paying payingAtPeak : List Kw} → o .judgement ≡ Passes → tec ≡ byNode (o .«by_type») All → paying ≡ byNode (o .«by_type») Paying → payingAtPeak ≡ peakPayers (o .settings .edition) (o .«by_type»)
+      → f ≡ figuresOver (o .counts .nodes) (o .settings) (o .nodes .«generation_zone») tec paying payingAtPeak (o .nodes .«demand_zone») (o .nodes .demand) (runs (Wider YearRound)) (runs (Wider Peak)) (runs Local)
       → _≡_ {A = Charged} (record { judgement = o .judgement; figures = f }) (chargedOf file runs)
   unfolding chargedOf figuresBy
-  charged h ef = rw (ef, figures-of-file file runs (sym (j .judgement) ∙ h) o j, sym (j .judgement), h) refl
+  charged h et ep ek ef = rw (ef, et, ep, ek, figures-of-file file runs (sym (j .judgement) ∙ h) o j, sym (j .judgement), h) refl
 
 -- a case that its frame stops
 pub frame-stopped : (file : List ℕ) (runs : Runs) {r : Refusal} {j : Judgement} {f : Figures} → j ≡ frameStage file (λ s. length (runs s)) → j ≡ Stops r → f ≡ noFigures

@@ -1,70 +1,131 @@
 -- The columns of a grid: what steps 8 to 10 ask of them is what they ask of the grid, so the figures are the same.
-use mathlib.Core.Path.{_≡_, refl, _∙_, ap}
-use mathlib.Core.Bool.{true}
+use mathlib.Core.Path.{_≡_, refl, sym, _∙_, ap}
+use mathlib.Core.Bool.{Bool, true}
 use mathlib.Core.List.{List}
-use Prim.Native.Nat.{ℕ, _≤_, _<_}
+use Prim.Native.Nat.{ℕ, suc, _≤_, _<_}
+use native.Mathlib.Nat.{le-trans}
 use native.Mathlib.Omega.{arith}
 use borrow.Author.Tests.{le-leb}
 use lib.ListN.{length}
 use Rattle.integers.specs.Numbers.{sum}
-use Rattle.integers.proofs.Sum.{sum-same}
-use Rattle.meaning.specs.declared.Background.the-variants.{YearRound}
+use Rattle.integers.proofs.Sum.{sum-same, sum-zero}
+use Rattle.meaning.specs.declared.Edition.{Edition}
+use Rattle.meaning.specs.declared.Edition.the-variants.{First, Second}
+use Rattle.meaning.specs.declared.Background.{Background}
+use Rattle.meaning.specs.declared.Background.the-variants.{YearRound, Peak}
 use Rattle.meaning.specs.declared.System.the-variants.{Wider, Local}
 use Rattle.meaning.specs.declared.Kw.{Kw}
 use Rattle.meaning.specs.declared.Side.{Side}
 use Rattle.meaning.specs.declared.Side.the-variants.{Generation, Demand}
 use Rattle.meaning.specs.declared.Settings.{Settings}
+use Rattle.meaning.specs.Editions.{Of}
 use Rattle.meaning.specs.Study.{Runs}
 use Rattle.meaning.specs.Grid.{Grid}
+use Rattle.meaning.specs.Grid as grid
 use Rattle.meaning.specs.Rows.{_between_and_}
-use Rattle.meaning.specs.Columns.{kwAt, noLocal}
+use Rattle.meaning.specs.Columns.{kwAt, noLine, noLocal}
 use Rattle.meaning.specs.Proposal.{potential}
-use Rattle.meaning.specs.Charging.{Basis, Zones, localFigures}
-use Rattle.meaning.specs.Figures.{zones, weight, paying, totalPaying, localMetres, basis}
-use Rattle.meaning.proofs.Bases.{Alike, C-same, priced-same, line-same}
+use Rattle.meaning.specs.Charging.{Basis, Priced, Zones, localFigures, zoneFigures}
+use Rattle.meaning.specs.Figures.{zones, weight, paying, payingIn, totalPaying, totalPayingIn, localMetres, basis}
+use Rattle.meaning.proofs.Bases.{Alike, AlikePriced, C-same, priced-same, line-same, residual-alike, remainder-alike, zone-alike}
+use Rattle.meaning.proofs.Sides.{of-peak}
 use Rattle.meaning.proofs.Columns.{column-same}
 use Rattle.meaning.proofs.Says.{says-le, _also_}
 use Rattle.totals.specs.Totals.{totalOf}
 use Rattle.totals.proofs.TotalLaws.{added-up}
 use Rattle.zones.specs.declared.ZoneSums.{ZoneSums}
 use Rattle.zones.proofs.Laws.{reached-all}
-use Rattle.tariffs.specs.Sides.{overFrom, zonesIn}
-use Rattle.tariffs.specs.Case.{localFrom, basisIn, figuresOf, settingsFit, totalsFit, figuresIn, figuresOver}
+use Rattle.tariffs.specs.declared.zonal.Sides.{Sides}
+use Rattle.tariffs.specs.Sides.{paysIn, overFrom, sideFigures}
+use Rattle.tariffs.specs.Case.{localFrom, bySide, byBackground, sideIn, basisIn, figuresOf, settingsFit, totalsFit, figuresIn, sidesOver, atPeak, figuresOver}
 use Rattle.charges.proofs.OfSide.{SideOf, GridFits, sums, zones-are}
+
+-- ---- bases that are alike
+side-same : {S S′ : Priced} → AlikePriced S S′ → sideFigures S ≡ sideFigures S′
+unfolding sideFigures
+side-same {S = S} {S′ = S′} a =
+    rw (residual-alike a, remainder-alike a, column-same noLine 32 (S .zones YearRound .count) (λ k. zoneFigures S (suc k)) (λ k. zoneFigures S′ (suc k)) (λ k h. zone-alike a (suc k)), a .zones YearRound tt) refl
 
 figures-same : {B B′ : Basis} → Alike B B′ → figuresOf B ≡ figuresOf B′
 unfolding figuresOf
 figures-same {B = B} {B′ = B′} a =
-    rw (C-same a, priced-same a Generation, priced-same a Demand, column-same noLocal 256 (B .nodes) (localFigures B) (localFigures B′) (line-same a), a .nodes) refl
+    rw (
+      C-same a YearRound tt,
+      of-peak _ (ap (λ (s : Settings). s .edition) (a .settings)) (C-same a Peak),
+      side-same (priced-same a Generation),
+      side-same (priced-same a Demand),
+      column-same noLocal 256 (B .nodes) (localFigures B) (localFigures B′) (line-same a),
+      a .nodes,
+      a .settings,
+    ) refl
+
+-- ---- peak, where an edition has it and where it has not
+has-all : (e : Edition) → Of Peak e → (count : ℕ) → atPeak e count ≡ count
+has-all First h count = absurd h
+has-all Second h count = refl
+
+peak-most : (e : Edition) (count : ℕ) (kw : ℕ → ℕ) {most : ℕ} → (Of Peak e → sum (atPeak e count) kw ≤ most) → sum (atPeak e count) kw ≤ most
+peak-most First count kw h = rw (sum-zero kw) (omega arith)
+peak-most Second count kw h = h tt
 
 -- ---- the columns of a grid
-module _ (G : Grid) (runs : Runs) (f : GridFits G runs) (n : ℕ) (gz : List ℕ) (tec payers : List Kw) (dz : List ℕ) (demand : List Kw)
-    (og : SideOf G Generation n gz tec payers) (od : SideOf G Demand n dz demand demand) where
+pub record ColumnsOf (G : Grid) (n : ℕ) (gz : List ℕ) (tec payers atPeak : List Kw) (dz : List ℕ) (demand : List Kw) : Type 0 where
+  pub generation : (b : Background) → Of b (G .settings .edition) → SideOf G b Generation n gz tec (byBackground payers atPeak b)
+  pub demanded : (b : Background) → SideOf G b Demand n dz demand demand
+
+module _ (G : Grid) (runs : Runs) (f : GridFits G runs) (n : ℕ) (gz : List ℕ) (tec payers payersAtPeak : List Kw) (dz : List ℕ) (demand : List Kw)
+    (o : ColumnsOf G n gz tec payers payersAtPeak dz demand) where
   abbrev s : Settings
   s = G .settings
 
-  abbrev tecSums : List ZoneSums
-  tecSums = sums G runs f Generation n gz tec payers og
+  abbrev og : SideOf G YearRound Generation n gz tec payers
+  og = o .generation YearRound tt
 
-  abbrev demandSums : List ZoneSums
-  demandSums = sums G runs f Demand n dz demand demand od
+  abbrev yearRound : Sides
+  yearRound = sidesOver (s .«generation_zones») (s .«demand_zones») n gz tec payers dz demand (runs (Wider YearRound))
+
+  abbrev peak : Sides
+  peak = sidesOver (atPeak (s .edition) (s .«generation_zones»)) (atPeak (s .edition) (s .«demand_zones»)) (atPeak (s .edition) n) gz tec payersAtPeak dz demand (runs (Wider Peak))
 
   few : n ≤ 256
   few = omega (arith, og .nodes, f .few)
 
+  -- the kilowatts that pay, and their sums
+  pays : (side : Side) (v : ℕ) → v < n → kwAt (bySide payers demand side) v ≡ paying G side v
+  unfolding paying payingIn grid.paysIn
+  pays Generation = og .paid
+  pays Demand = o .demanded YearRound .paid
+
+  payers-are : (side : Side) → sum n (kwAt (bySide payers demand side)) ≡ totalPaying G side
+  unfolding totalPaying
+  payers-are side = sum-same n _ _ (pays side) ∙ ap (λ (m : ℕ). sum m (paying G side)) (og .nodes)
+
+  total-is : (side : Side) → totalOf n (bySide payers demand side) .0 ≡ totalPaying G side
+  total-is side = let e = payers-are side in rw (← added-up n (bySide payers demand side) few (rw e (f .kilowattsFit .all side .most))) e
+
+  abbrev B : Basis
+  B = basisIn s yearRound peak (totalOf n payers .0) (totalOf n demand .0) n tec payers (runs Local)
+
   -- the local metres of a node are in their range
   local-is : (v : ℕ) → v < n → localFrom (potential (runs Local) v) ≡ localMetres runs v
   unfolding localFrom localMetres
-  local-is v h = rw (le-leb _ _ (f .metresFit .localNode v (omega (arith, og .nodes)))) refl
+  local-is v h = rw (le-leb _ _ (f .locals .node v (omega (arith, og .nodes)))) refl
 
-  sides : (side : Side) → basisIn s tecSums demandSums n tec payers (runs Local) .side side ≡ basis G runs .side side
+  sides : (b : Background) → Of b (s .edition) → (side : Side) → B .side b side ≡ basis G runs .side b side
   unfolding basisIn zones
-  sides Generation = zones-are G runs f Generation n gz tec payers og
-  sides Demand = zones-are G runs f Demand n dz demand demand od
+  sides YearRound h Generation = zones-are G runs f YearRound h Generation n gz tec payers og
+  sides YearRound h Demand = zones-are G runs f YearRound h Demand n dz demand demand (o .demanded YearRound)
+  sides Peak h Generation = rw (has-all (s .edition) h n, has-all (s .edition) h (s .«generation_zones»)) (zones-are G runs f Peak h Generation n gz tec payersAtPeak (o .generation Peak h))
+  sides Peak h Demand = rw (has-all (s .edition) h n, has-all (s .edition) h (s .«demand_zones»)) (zones-are G runs f Peak h Demand n dz demand demand (o .demanded Peak))
 
-  alike : Alike (basisIn s tecSums demandSums n tec payers (runs Local)) (basis G runs)
+  payers-alike : (side : Side) → B .payers side ≡ totalPaying G side
+  unfolding basisIn
+  payers-alike Generation = total-is Generation
+  payers-alike Demand = total-is Demand
+
+  alike : Alike B (basis G runs)
   unfolding basisIn basis weight paying
-  alike = record { settings = refl; side = sides; nodes = og .nodes; tec = og .weighs; paying = og .paid; local = local-is }
+  alike = record { settings = refl; side = sides; payers = payers-alike; nodes = og .nodes; tec = og .weighs; paying = pays Generation; local = local-is }
 
   -- settings and totals are in theirs
   settings-fit : settingsFit s ≡ true
@@ -74,21 +135,24 @@ module _ (G : Grid) (runs : Runs) (f : GridFits G runs) (n : ℕ) (gz : List ℕ
       (says-le also says-le also says-le also says-le also says-le also says-le also says-le) .1
       ((((((r .zonesMost Generation, r .zonesMost Demand), r .p), r .constant), r .widerFactor), r .localFactor), r .revenue)
 
-  payers-are : sum n (kwAt payers) ≡ totalPaying G Generation
-  unfolding totalPaying
-  payers-are = sum-same n _ _ (og .paid) ∙ ap (λ (m : ℕ). sum m (paying G Generation)) (og .nodes)
+  -- what pays in the zones is some of what pays
+  in-zones : (b : Background) → Of b (s .edition) → (side : Side) → (let z = sideIn (byBackground yearRound peak b) side in sum (z .count) (paysIn (z .sums)) ≤ totalPaying G side)
+  unfolding basisIn basis
+  in-zones b h side = let e = ap (λ (z : Zones). z .total) (sides b h side) in rw e (f .kilowattsFit .inAll b side)
 
-  totals-fit : totalsFit (overFrom tecSums (s .«generation_zones»)) (overFrom demandSums (s .«demand_zones»)) (totalOf n payers) ≡ true
-  unfolding totalsFit _between_and_ overFrom basis basisIn
-  totals-fit =
-      let u : zonesIn tecSums (s .«generation_zones») .total ≡ totalPaying G Generation = ap (λ (z : Zones). z .total) (sides Generation) in
-      let d : zonesIn demandSums (s .«demand_zones») .total ≡ totalPaying G Demand = ap (λ (z : Zones). z .total) (sides Demand) in
-      let a = f .kilowattsFit .all Generation in
-      let b = f .kilowattsFit .all Demand in
-      let e = payers-are in
-      let light : sum n (kwAt payers) ≤ 100000000 = rw e (a .most) in
-      rw (u, d, ← added-up n payers few light) (((says-le also says-le) also (says-le also says-le) also says-le) .1 (((a .least, a .most), (b .least, b .most)), light))
+  light : (b : Background) (side : Side) → sideIn (byBackground yearRound peak b) side .over .total .0 ≤ totalPaying G side
+  unfolding overFrom
+  light YearRound Generation = in-zones YearRound tt Generation
+  light YearRound Demand = in-zones YearRound tt Demand
+  light Peak Generation = peak-most (s .edition) (s .«generation_zones») _ (λ h. in-zones Peak h Generation)
+  light Peak Demand = peak-most (s .edition) (s .«demand_zones») _ (λ h. in-zones Peak h Demand)
 
-  pub case-is : figuresOver n s gz tec payers dz demand (runs (Wider YearRound)) (runs Local) ≡ figuresOf (basis G runs)
+  totals-fit : (side : Side) → totalsFit (totalOf n (bySide payers demand side)) (sideIn yearRound side .over) (sideIn peak side .over) ≡ true
+  unfolding totalsFit _between_and_
+  totals-fit side =
+      let a = f .kilowattsFit .all side in
+      rw (total-is side) (((says-le also says-le) also says-le also says-le) .1 (((a .least, a .most), light YearRound side), light Peak side))
+
+  pub case-is : figuresOver n s gz tec payers payersAtPeak dz demand (runs (Wider YearRound)) (runs (Wider Peak)) (runs Local) ≡ figuresOf (basis G runs)
   unfolding figuresOver figuresIn
-  case-is = rw (reached-all n (length (runs Local)) few (omega (arith, og .nodes, f .long Local)), settings-fit, totals-fit) (figures-same alike)
+  case-is = rw (settings-fit, reached-all n (length (runs Local)) few (omega (arith, og .nodes, f .long Local tt)), totals-fit Generation, totals-fit Demand) (figures-same alike)

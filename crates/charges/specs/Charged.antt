@@ -1,24 +1,35 @@
--- 01, steps 6 to 10 of a case file and its three runs: the figures, or what stops the case.
+-- 01, steps 6 to 10 of a case file and its runs: the figures, or what stops the case.
 use mathlib.Core.List.{List}
+use lib.ListN.{replicate}
 use Prim.Native.Nat.{ℕ}
+use Rattle.meaning.specs.declared.Kw.{Kw}
+use Rattle.meaning.specs.declared.Edition.{Edition}
 use Rattle.meaning.specs.declared.Figures.{Figures}
 use Rattle.meaning.specs.declared.Judgement.{Judgement}
 use Rattle.meaning.specs.declared.Judgement.the-variants.{Passes, Stops}
+use Rattle.meaning.specs.Editions.{byEdition}
+use Rattle.meaning.specs.Columns.{kilowatts}
 use Rattle.meaning.specs.Study.{Runs}
 use Rattle.meaning.specs.File.{studyOf}
 use Rattle.meaning.specs.Grid.{gridOf}
 use Rattle.meaning.specs.Figures.{basis}
 use Rattle.meaning.specs.Outcome.{judged}
+use Rattle.plants.specs.declared.Counted.the-variants.{PayingAtPeak}
+use Rattle.station_table.specs.Tec.{byNode}
 use Rattle.steps.specs.Nothing.{noFigures}
 use Rattle.tariffs.specs.Case.{figuresOf}
 use Rattle.charges.specs.declared.Charged.{Charged}
+
+-- the TEC that pays in peak, by node: a column that edition 1 leaves empty
+abbrev pub peakPayers : Edition → (byType : List Kw) → List Kw
+peakPayers e byType = byEdition (replicate 256 (kilowatts 0)) (byNode byType PayingAtPeak) e
 
 -- a case that is stopped has no figures
 unfoldable pub figuresBy : Judgement → Figures → Figures
 figuresBy Passes figures = figures
 figuresBy (Stops r) figures = noFigures
 
--- What stops a case, "Order", 1 to 11 and 13; and the figures of steps 6 to 10 where nothing does
+-- What stops a case, "Order", 1 to 11 and 13 to 15; and the figures of steps 6 to 10 where nothing does
 unfoldable pub chargedOf : (file : List ℕ) → Runs → Charged
 chargedOf file runs =
     record {

@@ -3,13 +3,16 @@
 -- metres after C of -1 and 1 at 0.5 a metre are tariffs of -1 and 1; WEIR's local -2.5 m are -3, and its tariff of -1.5 is -2
 use mathlib.Core.Path.{_≡_, refl}
 use mathlib.Core.List.{List, [], _∷_, _++_}
-use Prim.Native.Nat.{ℕ, _<_}
+use Prim.Native.Nat.{ℕ, _≤_, _<_}
 use lib.IntN.{ℤ, pos, negℤ}
 use Rattle.meaning.specs.declared.System.{System}
 use Rattle.meaning.specs.declared.System.the-variants.{Base, Wider, Local}
 use Rattle.meaning.specs.Proposal.{potential}
 use Rattle.meaning.specs.Text.{text}
-use Rattle.meaning.specs.Study.{Study, Runs, OfDistances}
+use Rattle.meaning.specs.Study.{Study, Runs}
+use Rattle.meaning.specs.declared.Background.{Background}
+use Rattle.meaning.specs.declared.Background.the-variants.{YearRound, Peak}
+use Rattle.meaning.specs.Editions.{OfDistances}
 use Rattle.meaning.specs.File.{studyOf}
 use Rattle.meaning.specs.declared.Side.{Side}
 use Rattle.meaning.specs.declared.Side.the-variants.{Generation, Demand}
@@ -17,7 +20,6 @@ use Rattle.meaning.specs.Grid.{Grid, gridOf}
 use Rattle.meaning.specs.Figures.{zones}
 use Rattle.meaning.specs.Outcome.{sheetOf, prints}
 use Rattle.meaning.specs.Read.{field, readWhole, lineAt}
-use Rattle.meaning.specs.Conditions.{InRange}
 use Rattle.meaning.specs.Mirror.{NegativeHalf, Divides, zonal, WeighAlike, Opposite, LinesAlike, other, Exchanged, MirrorImage, MoneyImage}
 use Rattle.meaning.proofs.Write.{fileOf}
 use Rattle.meaning.proofs.Opened.{opened}
@@ -53,15 +55,16 @@ zone-moved = record { below = record { lt = tt }; half = refl; was = refl }
 
 zone-divides : Divides tarnGrid tarnRuns (negℤ (pos 3000)) 2000 (negℤ (pos 2))
 unfolding opened
-zone-divides = zonal Generation 1
+zone-divides = zonal YearRound Generation 1
 
 -- on the sheet's bytes these are lines 1 and 3, counted from 0
 tarn-lines : LinesAlike tarnGrid (lineAt 1 (sheetOf tarn tarnRuns)) (lineAt 3 (sheetOf tarn tarnRuns))
 unfolding opened
 tarn-lines = record { generation = refl; demand = refl; alike = alike }
 
-tarn-printed : (k : ℕ) → InRange k 2 4
+tarn-printed : (k : ℕ) → 2 ≤ k → k < 5
     → readWhole (field k (lineAt 3 (sheetOf tarn tarnRuns))) ≡ negℤ (readWhole (field k (lineAt 1 (sheetOf tarn tarnRuns))))
+unfolding opened
 tarn-printed k = printed-mirror tarn tarnRuns tarn-acceptable .opposite 1 3 k tarn-lines
 
 -- ---- its mirror image: TEC and demand exchanged at each node, p 100 for 900, flows and potentials turned round. C is -0.5, so -1
@@ -98,6 +101,12 @@ sides : (P : Side → ℕ → Type 0) → ((v : ℕ) → v < 4 → P Generation 
 sides P g d Generation = g
 sides P g d Demand = d
 
+-- and in each background
+grounds : (P : Background → Side → ℕ → Type 0) → ((side : Side) (v : ℕ) → v < 4 → P YearRound side v) → ((side : Side) (v : ℕ) → v < 4 → P Peak side v)
+    → (b : Background) (side : Side) (v : ℕ) → v < 4 → P b side v
+grounds P y p YearRound = y
+grounds P y p Peak = p
+
 exchanged-with : (mark : ℕ) (wider local : ℤ)
     → Exchanged (gridOf (tarnStudy mark)) (gridOf (imageStudy mark)) (runsWith wider local) (turnedRound (runsWith wider local))
 unfolding opened
@@ -107,6 +116,8 @@ exchanged-with mark wider local = record {
   zonesOf = sides _ (four _ refl refl refl refl) (four _ refl refl refl refl);
   weights = sides _ (four _ refl refl refl refl) (four _ refl refl refl refl);
   payers = sides _ (four _ refl refl refl refl) (four _ refl refl refl refl);
+  payersIn = grounds _ (sides _ (four _ refl refl refl refl) (four _ refl refl refl refl)) (sides _ (four _ refl refl refl refl) (four _ refl refl refl refl));
+  editions = refl;
   shares = refl;
   constants = refl;
   widerFactors = refl;
@@ -120,7 +131,8 @@ exchanged-with mark wider local = record {
 
     turned-in : (s : System) → OfDistances s → (v : ℕ) → v < 4 → potential (turnedRound (runsWith wider local) s) v ≡ negℤ (potential (runsWith wider local s) v)
     turned-in (Base b) d = absurd d
-    turned-in (Wider b) d = four _ refl refl refl refl
+    turned-in (Wider YearRound) d = four _ refl refl refl refl
+    turned-in (Wider Peak) d = four _ refl refl refl refl
     turned-in Local d = four _ refl refl refl refl
 
 tarn-image : MirrorImage tarnGrid (gridOf (studyOf image)) tarnRuns imageRuns

@@ -35,7 +35,7 @@ judged-after file runs p =
     ap (λ (a : Judgement). a orElse proposalsStage (gridOf (studyOf file)) runs)
     (orElse-passes _ (w .0) ∙ orElse-passes _ (w .1) ∙ orElse-passes _ (judge-rows (studyOf file) .passes .1 (p .1)))
 
--- so 1 to 11 and 13 judge both cases alike
+-- so 1 to 11 and 13 to 15 judge both cases alike
 pub judged-alike : (file file′ : List ℕ) (runs : Runs) → PassesToFive file runs → PassesToFive file′ runs
     → SameButStations (studyOf file) (studyOf file′)
     → judged file runs ≡ judged file′ runs

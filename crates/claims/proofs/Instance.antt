@@ -1,5 +1,5 @@
 -- The demands are not empty: KILN, KILN with its stations divided and listed differently and with another proposal, with an interconnector, with other plant types, and as a file of version 2.
-use mathlib.Core.Path.{_≡_, refl, sym, _∙_, ap}
+use mathlib.Core.Path.{_≡_, refl, sym, _∙_, ap, fun-ext}
 use mathlib.Core.Logic.{inl}
 use mathlib.Core.List.{List, [], _∷_}
 use Prim.Native.Nat.{ℕ, zero, suc, _+_, _≤_, _<_}
@@ -7,11 +7,12 @@ use Prim.Native.String.{String}
 use native.Mathlib.Omega.{arith}
 use lib.IntN.{pos}
 use lib.ListN.{getD, replicate, set}
-use Rattle.meaning.specs.Study.{Station, Study, Runs, runsOf}
+use Rattle.meaning.specs.Study.{Station, Study, Runs, threeRuns}
 use Rattle.meaning.specs.File.{u32, versionOf, studyOf, runsIn}
 use Rattle.meaning.specs.Rows.{rows}
-use Rattle.meaning.specs.declared.Background.the-variants.{YearRound}
-use Rattle.meaning.specs.declared.System.the-variants.{Base}
+use Rattle.meaning.specs.declared.Background.the-variants.{YearRound, Peak}
+use Rattle.meaning.specs.declared.System.{System}
+use Rattle.meaning.specs.declared.System.the-variants.{Base, Wider, Local}
 use Rattle.meaning.specs.declared.Refusal.the-variants.{Unbalanced, MissesTooHigh}
 use Rattle.meaning.specs.declared.Refusal.{Refusal}
 use Rattle.meaning.specs.Answers.{refusal, values}
@@ -63,7 +64,7 @@ divided =
     ∷ []
 
 abbrev otherRuns : Runs
-otherRuns = runsOf (set kilnBase 0 (pos 11000010000000)) (set kilnWider 0 (pos 32000040000000)) kilnLocal
+otherRuns = threeRuns (set kilnBase 0 (pos 11000010000000)) (set kilnWider 0 (pos 32000040000000)) kilnLocal
 
 abbrev dividedWith : Runs → List ℕ
 dividedWith runs = fileOf (record { settings = kilnSettings; nodes = kilnNodes; circuits = kilnCircuits; stations = divided }) runs
@@ -79,7 +80,7 @@ other-acceptable : Acceptable other otherRuns
 other-acceptable = judged-pass other otherRuns .0 other-judged
 
 -- equal tables of capacity say equal capacities
-capacity-at : (S S′ : Study) (n : ℕ)
+pub capacity-at : (S S′ : Study) (n : ℕ)
     → rows n (λ v. rows 7 (λ t. capacityOf S v (suc t))) ≡ rows n (λ v. rows 7 (λ t. capacityOf S′ v (suc t)))
     → (v plantType : ℕ) → v < n → InRange plantType 1 7 → capacityOf S v plantType ≡ capacityOf S′ v plantType
 capacity-at S S′ n e v zero h r = absurd (omega (arith, r .least))
@@ -123,7 +124,7 @@ one-sheet = solvers-agree kiln twin kilnRuns kilnRuns kiln-acceptable twin-accep
 
 -- ---- one milliwatt more on A-B, with KILN's stations and with the divided ones: one answer, in two buffers
 abbrev leaking : Runs
-leaking = runsOf (set kilnBase 3 (pos 45000000001)) kilnWider kilnLocal
+leaking = threeRuns (set kilnBase 3 (pos 45000000001)) kilnWider kilnLocal
 
 passes-five : PassesToFive kiln leaking
 unfolding opened
@@ -164,7 +165,7 @@ kiln-without (suc (suc (suc v))) h = absurd (omega arith)
 
 kiln-as-in-01 : AsIn01 (studyOf kiln) kilnRuns
 unfolding opened
-kiln-as-in-01 = no-interconnector-no-change (studyOf kiln) kilnRuns kiln-without
+kiln-as-in-01 = no-interconnector-no-change (studyOf kiln) kilnRuns refl kiln-without
 
 half-acceptable : Acceptable half kilnRuns
 unfolding opened
@@ -173,8 +174,8 @@ half-acceptable = judged-pass half kilnRuns .0 refl
 half-recovered : Recovered (gridOf (studyOf half)) (sheetOf half kilnRuns)
 half-recovered = revenue-recovered half kilnRuns half-acceptable
 
-half-balances : Balances (gridOf (studyOf half)) kilnRuns
-half-balances = centre-balances half kilnRuns half-acceptable
+half-balances : Balances (gridOf (studyOf half)) kilnRuns YearRound
+half-balances = centre-balances half kilnRuns half-acceptable YearRound tt
 
 -- and KILN with a nuclear and a hydro station in place of two others: one sheet
 abbrev typed : String → String → (plantType tec : ℕ) → Station
@@ -187,7 +188,7 @@ retyped =
 
 retyped-totals : SameTotals (studyOf kiln) (studyOf retyped)
 unfolding opened
-retyped-totals = record { settings = refl; nodes = refl; circuits = refl; tec = tec; interconnectors = none }
+retyped-totals = record { edition = refl; settings = refl; nodes = refl; circuits = refl; tec = tec; interconnectors = none }
   where
     tec : (v : ℕ) → v < 3 → nodeTec (gridOf (studyOf kiln)) v ≡ nodeTec (gridOf (studyOf retyped)) v
     tec zero h = refl
@@ -212,9 +213,17 @@ two-judged : judged kilnTwo kilnRuns ≡ Passes
 unfolding opened
 two-judged = refl
 
+-- of each system
+by-each : (P : System → Type 0) → P (Base YearRound) → P (Wider YearRound) → P Local → P (Base Peak) → P (Wider Peak) → (s : System) → P s
+by-each P b w l pb pw (Base YearRound) = b
+by-each P b w l pb pw (Wider YearRound) = w
+by-each P b w l pb pw Local = l
+by-each P b w l pb pw (Base Peak) = pb
+by-each P b w l pb pw (Wider Peak) = pw
+
 own-runs : (runsIn kiln ≡ kilnRuns) × (runsIn kilnTwo ≡ kilnRuns)
 unfolding opened
-own-runs = (refl, refl)
+own-runs = (fun-ext (by-each _ refl refl refl refl refl), fun-ext (by-each _ refl refl refl refl refl))
 
 say-the-same : SayTheSame kiln kilnTwo
 unfolding opened

@@ -27,9 +27,12 @@ pub mod Interconnectors
 pub mod Types
 -- 02, request 2: generation and demand mirror each other
 pub mod Mirrored
+-- 02, request 5: what edition 1 can answer, and the runs of an edition
+pub mod Backgrounds
 -- a refusal read back from its line
 pub mod Told
 -- nothing of it is vacuous
 pub mod Instance
+pub mod InstanceBoth
 pub mod Tarn
 pub mod Halves

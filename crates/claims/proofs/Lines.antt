@@ -2,19 +2,25 @@
 use mathlib.Core.Path.{_≡_, refl, sym}
 use mathlib.Core.List.{List, [], _∷_}
 use mathlib.Core.Bool.{Bool, true, false, cond, true≢false}
-use Prim.Native.Nat.{ℕ, zero, suc, _<_}
+use Prim.Native.Nat.{ℕ, zero, suc, _≤_, _<_}
 use native.Mathlib.Omega.{arith}
 use lib.Dec.{eqb}
 use lib.IntN.{ℤ, pos, _+ℤ_}
 use lib.ListN.{getD}
 use Rattle.integers.specs.Numbers.{Σ}
 use Rattle.meaning.specs.Study.{MicroPerKw}
+use Rattle.meaning.specs.declared.Edition.{Edition}
+use Rattle.meaning.specs.declared.Edition.the-variants.{First, Second}
+use Rattle.meaning.specs.declared.Background.{Background}
+use Rattle.meaning.specs.declared.Background.the-variants.{YearRound, Peak}
+use Rattle.meaning.specs.Editions.{Of}
 use Rattle.meaning.specs.declared.Side.{Side}
 use Rattle.meaning.specs.declared.Side.the-variants.{Generation, Demand}
 use Rattle.meaning.specs.declared.ZoneFigures.{ZoneFigures}
 use Rattle.meaning.specs.Text.{text, decimals, line}
 use Rattle.meaning.specs.Sheet.{constantFields, letter, zoneNumbers, zoneFields, nodeFields, nodeLine, remainderFields, Shown, zoneRow, zoneLines, nodeLines, sheetText}
-use Rattle.meaning.specs.Read.{readNatural, readWhole}
+use Rattle.meaning.specs.Read.{readNatural, readWhole, metresField, tariffField, residualField, totalField}
+use Rattle.sizes.proofs.SheetLength.{figuresIn}
 use Rattle.meaning.proofs.Says.{Says, says-eq}
 use Rattle.claims.proofs.Digits.{From, none, more, from-lower, natural-from, decimal-from, read-decimal}
 use Rattle.claims.proofs.Pieces.{Fields, end, field, Adds, adds-none, adds-line, adds-append, adds-joined}
@@ -25,8 +31,8 @@ Line = List (List ℕ)
 
 -- what each line is worth: a node's line is worth 0 where it is not printed
 pub record Worth (s : Shown) (F : Line → ℤ) (zone : Side → ℕ → ℤ) (local : ℕ → ℤ) (left : ℤ) : Type 0 where
-  pub start : F (constantFields (s .c)) ≡ pos 0
-  pub zones : (side : Side) (k : ℕ) → F (zoneRow side (s .side side) k) ≡ zone side k
+  pub start : F (constantFields (s .edition) (s .c) (s .peakC)) ≡ pos 0
+  pub zones : (side : Side) (k : ℕ) → F (zoneRow (s .edition) side (s .side side) k) ≡ zone side k
   pub silent : (v : ℕ) → s .local v .tec .0 ≡ 0 → pos 0 ≡ local v
   pub printed : (v : ℕ) → v < s .nodes → F (nodeFields (s .name v) (s .local v)) ≡ local v
   pub last : F (remainderFields (s .side Generation .remainder) (s .side Demand .remainder)) ≡ left
@@ -56,14 +62,14 @@ worth a e = rw e at a
 
 module _ (s : Shown) (named : (v : ℕ) → v < s .nodes → From 45 (s .name v))
     (F : Line → ℤ) (zone : Side → ℕ → ℤ) (local : ℕ → ℤ) (left : ℤ) (w : Worth s F zone local left) where
-  add-zone : (side : Side) (k : ℕ) → Adds F (line (zoneRow side (s .side side) k)) (zone side k)
+  add-zone : (side : Side) (k : ℕ) → Adds F (line (zoneRow (s .edition) side (s .side side) k)) (zone side k)
   unfolding zoneFields
   add-zone side k =
       let z = s .side side .zone k in
-      let rest = numbers-or-none (eqb (z .weight .0) 0) (zoneNumbers (s .side side .residual) z) in
+      let rest = numbers-or-none (eqb (z .weight .0) 0) (zoneNumbers (s .edition) (s .side side .residual) z) in
       worth (adds-line F (letter-from side) (field (from-lower (omega arith) (natural-from (suc k))) rest)) (w .zones side k)
 
-  add-zones : (side : Side) → Adds F (zoneLines side (s .side side)) (Σ (s .side side .zones) (zone side))
+  add-zones : (side : Side) → Adds F (zoneLines (s .edition) side (s .side side)) (Σ (s .side side .zones) (zone side))
   unfolding zoneLines
   add-zones side = adds-joined F (s .side side .zones) _ _ (λ k h. add-zone side k)
 
@@ -94,15 +100,59 @@ read-numbers [] i = refl
 read-numbers (z ∷ zs) zero = read-decimal z
 read-numbers (z ∷ zs) (suc i) = read-numbers zs i
 
--- number i of a zone's line as it reads: 0 where the zone has no kilowatts
-unfoldable pub zoneRead : MicroPerKw → ZoneFigures → (i : ℕ) → ℤ
-zoneRead r z i = cond (eqb (z .weight .0) 0) (pos 0) (getD (zoneNumbers r z) i (pos 0))
+-- field k of a zone's line, from 2 on
+abbrev pub zoneField : Edition → MicroPerKw → ZoneFigures → (k : ℕ) → ℤ
+zoneField e r z k = getD (pos 0 ∷ pos 0 ∷ zoneNumbers e r z) k (pos 0)
 
-pub zone-read : (side : Side) (zone : ℕ) (r : MicroPerKw) (z : ZoneFigures) (i : ℕ) → readWhole (getD (zoneFields side zone r z) (suc (suc i)) []) ≡ zoneRead r z i
+-- as it reads: 0 where the zone has no kilowatts
+unfoldable pub zoneRead : Edition → MicroPerKw → ZoneFigures → (k : ℕ) → ℤ
+zoneRead e r z k = cond (eqb (z .weight .0) 0) (pos 0) (zoneField e r z k)
+
+pub zone-read : (e : Edition) (side : Side) (zone : ℕ) (r : MicroPerKw) (z : ZoneFigures) (k : ℕ) → 2 ≤ k
+    → readWhole (getD (zoneFields e side zone r z) k []) ≡ zoneRead e r z k
 unfolding zoneFields zoneRead readWhole readNatural
-zone-read side zone r z i = go (eqb (z .weight .0) 0) i
+zone-read e side zone r z zero h = absurd (omega arith)
+zone-read e side zone r z (suc zero) h = absurd (omega arith)
+zone-read e side zone r z (suc (suc i)) h = go (eqb (z .weight .0) 0) i
   where
-    go : (b : Bool) (i : ℕ) → readWhole (getD (cond b (text "-" ∷ []) (decimals (zoneNumbers r z))) i []) ≡ cond b (pos 0) (getD (zoneNumbers r z) i (pos 0))
+    go : (b : Bool) (i : ℕ) → readWhole (getD (cond b (text "-" ∷ []) (decimals (zoneNumbers e r z))) i []) ≡ cond b (pos 0) (getD (zoneNumbers e r z) i (pos 0))
     go true zero = refl
     go true (suc i) = refl
-    go false i = read-numbers (zoneNumbers r z) i
+    go false i = read-numbers (zoneNumbers e r z) i
+
+-- ---- which field is which number
+pub metres-from : (e : Edition) (b : Background) → 2 ≤ metresField e b
+unfolding metresField
+metres-from First b = omega arith
+metres-from Second Peak = omega arith
+metres-from Second YearRound = omega arith
+
+pub residual-from : (e : Edition) → 2 ≤ residualField e
+unfolding residualField
+residual-from First = omega arith
+residual-from Second = omega arith
+
+module _ (r : MicroPerKw) (z : ZoneFigures) where
+  pub metres-field : (e : Edition) (b : Background) → Of b e → zoneField e r z (metresField e b) ≡ figuresIn b z .metres .0
+  unfolding zoneNumbers metresField
+  metres-field First YearRound h = refl
+  metres-field First Peak h = absurd h
+  metres-field Second YearRound h = refl
+  metres-field Second Peak h = refl
+
+  pub tariff-field : (e : Edition) (b : Background) → Of b e → zoneField e r z (tariffField e b) ≡ figuresIn b z .tariff .0
+  unfolding zoneNumbers metresField
+  tariff-field First YearRound h = refl
+  tariff-field First Peak h = absurd h
+  tariff-field Second YearRound h = refl
+  tariff-field Second Peak h = refl
+
+  pub residual-field : (e : Edition) → zoneField e r z (residualField e) ≡ r
+  unfolding zoneNumbers residualField
+  residual-field First = refl
+  residual-field Second = refl
+
+  pub total-field : (e : Edition) → zoneField e r z (totalField e) ≡ z .total .0
+  unfolding zoneNumbers residualField
+  total-field First = refl
+  total-field Second = refl

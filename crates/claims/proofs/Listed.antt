@@ -1,38 +1,66 @@
 -- What stops a case carries its own row of 01's table, with its row in range.
 use mathlib.Core.Path.{_≡_, refl, sym, _∙_, subst}
 use mathlib.Core.Logic.{_⊎_, inl, inr, _≢_}
-use mathlib.Core.List.{List, [], _∷_}
+use mathlib.Core.List.{List, [], _∷_, _++_, List·Memᴰ, List·Memᴰ·head, List·Memᴰ·tail}
 use mathlib.Core.Bool.{false, true≢false}
-use Prim.Native.Nat.{ℕ, suc, _+_, _≤_, _<_}
+use Prim.Native.Nat.{ℕ, suc, _+_, _-_, _≤_, _<_}
 use lib.Dec.{eqb}
+use lib.IntN.{ℤ}
 use lib.ListN.{length}
 use native.Mathlib.Omega.{arith}
-use Rattle.meaning.specs.Study.{Runs, flowSystems, distanceSystems}
+use Rattle.meaning.specs.Study.{Runs, circuit}
+use Rattle.meaning.specs.Editions.{Of, systemNumber, HasSystem, flowSystems, distanceSystems}
 use Rattle.meaning.specs.File.{studyOf}
-use Rattle.meaning.specs.declared.Background.the-variants.{YearRound}
+use Rattle.meaning.specs.declared.Edition.{Edition}
+use Rattle.meaning.specs.declared.Edition.the-variants.{First, Second}
+use Rattle.meaning.specs.declared.Background.{Background}
+use Rattle.meaning.specs.declared.Background.the-variants.{YearRound, Peak}
 use Rattle.meaning.specs.declared.System.{System}
 use Rattle.meaning.specs.declared.System.the-variants.{Base, Wider, Local}
 use Rattle.meaning.specs.declared.Refusal.{Refusal}
-use Rattle.meaning.specs.Answers.{systemNumber, refusal, values}
-use Rattle.meaning.specs.declared.Refusal.the-variants.{BadNumber, Unbalanced, MissesTooHigh, ShortBuffer}
+use Rattle.meaning.specs.Answers.{refusal, values}
+use Rattle.meaning.specs.declared.Refusal.the-variants.{BadNumber, Unbalanced, MissesTooHigh, DirectionInDoubt, ShortBuffer}
 use Rattle.meaning.specs.declared.Answer.the-variants.{Refused}
 use Rattle.meaning.specs.Outcome.{sheetOf}
 use Rattle.meaning.proofs.Says.{says-eq}
 use Rattle.meaning.proofs.Order.{first-of-two}
-use Rattle.meaning.specs.Grid.{gridOf}
+use Rattle.meaning.proofs.Systems.{has-flow, has-distance}
+use Rattle.meaning.specs.Grid.{Grid, gridOf}
+use Rattle.meaning.specs.Direction.{countsFor, background}
+use Rattle.meaning.specs.Systems.{baseFlow, counting, backgroundOf}
 use Rattle.meaning.specs.Conditions.{InRange}
-use Rattle.meaning.specs.Refusals.{Condition, whole, eachRow, Unmet, AllMet, FirstUnmet, systemsOrder, caseOrder, Stopped}
-use Rattle.meaning.specs.Demands.{SystemListed, base, wider, local, badFile, badSetting, badNode, badCircuit, badStation, unreached, badTotal, noChargeableTec, badNumber, unbalanced, missesTooHigh, inDoubt, shortBuffer, ListedFor}
+use Rattle.meaning.specs.Refusals.{Condition, whole, eachRow, Unmet, AllMet, FirstUnmet, onlySecond, scalingOrder, systemsOrder, proposalsOrder, caseOrder, Stopped}
+use Rattle.meaning.specs.Demands.{SystemListed, base, wider, local, peakBase, peakWider, badFile, badSetting, badNode, badCircuit, badStation, unreached, badTotal, noChargeableTec, badNumber, unbalanced, missesTooHigh, inDoubt, shortBuffer, unscalable, backgroundInDoubt, ListedFor}
 
 -- row i is printed as row i + 1
 in-rows : {i n : ℕ} → i < n → InRange (suc i) 1 n
 in-rows h = record { least = omega arith; most = omega arith }
 
-numbered : (s : System) → SystemListed s (systemNumber s)
+-- peak is of edition 2 alone
+has-peak : (e : Edition) → Of Peak e → e ≡ Second
+has-peak First h = absurd h
+has-peak Second h = refl
+
+numbered : (e : Edition) (s : System) → HasSystem e s → SystemListed e s (systemNumber s)
 unfolding systemNumber
-numbered (Base YearRound) = base
-numbered (Wider YearRound) = wider
-numbered Local = local
+numbered e (Base YearRound) h = base
+numbered e (Wider YearRound) h = wider
+numbered e Local h = local
+numbered e (Base Peak) h = peakBase (has-peak e h)
+numbered e (Wider Peak) h = peakWider (has-peak e h)
+
+-- a circuit counts for a background of the edition
+pub counts-in : (G : Grid) (runs : Runs) (c : ℕ) → Of (backgroundOf G runs c) (G .settings .edition)
+unfolding counting countsFor background
+counts-in G runs c = go (G .settings .edition) (circuit (G .circuits) c .localMark) (baseFlow G runs YearRound c) (baseFlow G runs Peak c)
+  where
+    any : (b : Background) → Of b Second
+    any YearRound = tt
+    any Peak = tt
+
+    go : (e : Edition) (localMark : ℕ) (y p : ℤ) → Of (background (countsFor e localMark y p)) e
+    go First localMark y p = tt
+    go Second localMark y p = any (background (countsFor Second localMark y p))
 
 -- what holds of each refusal that a list of conditions gives holds of the one that stops a case
 module _ (P : Refusal → Type 0) where
@@ -44,6 +72,11 @@ module _ (P : Refusal → Type 0) where
   data All : List Condition → Type 1 where
     end : All []
     _and_ : {c : Condition} {cs : List Condition} → Each c → All cs → All (c ∷ cs)
+
+  -- of what edition 2 alone asks, and what comes after
+  only : (e : Edition) (cs after : List Condition) → (e ≡ Second → All (cs ++ after)) → All after → All (onlySecond e cs ++ after)
+  only First cs after f rest = rest
+  only Second cs after f rest = f refl
 
   of-unmet : (c : Condition) → Each c → (r : Refusal) → Unmet c r → P r
   of-unmet (whole Holds q) n r u = subst P (sym (u .0)) n
@@ -59,30 +92,57 @@ module _ (file : List ℕ) (runs : Runs) where
   abbrev Row : Refusal → Type 0
   Row r = ListedFor (studyOf file) r × (eqb (values (Refused r) .number) 12 ≡ false)
 
-  number : (s : System) (i : ℕ) → i < length (studyOf file .nodes) + length (studyOf file .circuits) → Row (BadNumber s (suc i))
-  unfolding values refusal
-  number s i h = (badNumber s _ (suc i) (numbered s) (in-rows h), refl)
+  abbrev e : Edition
+  e = studyOf file .settings .edition
 
-  balance : (s : System) (i : ℕ) → i < length (studyOf file .nodes) → Row (Unbalanced s (suc i))
-  unfolding values refusal
-  balance s i h = (unbalanced s _ (suc i) (numbered s) (in-rows h), refl)
+  abbrev G : Grid
+  G = gridOf (studyOf file)
 
-  misses : (s : System) → Row (MissesTooHigh s)
+  number : (s : System) → HasSystem e s → (i : ℕ) → i < length (studyOf file .nodes) + length (studyOf file .circuits) → Row (BadNumber s (suc i))
   unfolding values refusal
-  misses s = (missesTooHigh s _ (numbered s), refl)
+  number s has i h = (badNumber s _ (suc i) (numbered e s has) (in-rows h), refl)
 
-  -- 8, 9 and 10 of these systems, and what comes after
-  systems-rows : (ss : List System) {after : List Condition} → All Row after → All Row (systemsOrder (gridOf (studyOf file)) runs ss after)
+  balance : (s : System) → HasSystem e s → (i : ℕ) → i < length (studyOf file .nodes) → Row (Unbalanced s (suc i))
+  unfolding values refusal
+  balance s has i h = (unbalanced s _ (suc i) (numbered e s has) (in-rows h), refl)
+
+  misses : (s : System) → HasSystem e s → Row (MissesTooHigh s)
+  unfolding values refusal
+  misses s has = (missesTooHigh s _ (numbered e s has), refl)
+
+  doubt : (i : ℕ) → i < length (studyOf file .circuits) → Row (DirectionInDoubt (backgroundOf G runs (suc i - 1)) (suc i))
+  unfolding values refusal gridOf
+  doubt i h = (inDoubt _ _ (suc i) (numbered e (Base (backgroundOf G runs (suc i - 1))) (counts-in G runs (suc i - 1))) (in-rows h), refl)
+
+  -- 8, 9 and 10 of these systems of the edition, and what comes after
+  systems-rows : (ss : List System) {after : List Condition} → ((s : System) → List·Memᴰ s ss → HasSystem e s) → All Row after → All Row (systemsOrder G runs ss after)
   unfolding gridOf
-  systems-rows [] rest = rest
-  systems-rows (s ∷ ss) rest = number s and balance s and misses s and systems-rows ss rest
+  systems-rows [] has rest = rest
+  systems-rows (s ∷ ss) has rest =
+      let h = has s (List·Memᴰ·head refl) in
+      number s h and balance s h and misses s h and systems-rows ss (λ q i. has q (List·Memᴰ·tail i)) rest
+
+  distance-rows : All Row (systemsOrder G runs (distanceSystems e) [])
+  distance-rows = systems-rows (distanceSystems e) (has-distance e) end
+
+  -- 15, which edition 2 alone asks, and 11
+  proposals-rows : All Row (proposalsOrder G runs)
+  unfolding gridOf values refusal
+  proposals-rows =
+      let after = doubt and distance-rows in
+      systems-rows (flowSystems e) (has-flow e) (only Row e _ _ (λ second. (λ i h. (backgroundInDoubt (suc i) second (in-rows h), refl)) and after) after)
+
+  -- 14, which edition 2 alone asks
+  scaling-rows : All Row (scalingOrder G ++ proposalsOrder G runs)
+  unfolding gridOf values refusal
+  scaling-rows = only Row e _ _ (λ second. (unscalable second, refl) and (unscalable second, refl) and proposals-rows) proposals-rows
 
   case-row : (r : Refusal) → FirstUnmet (caseOrder file runs) r → Row r
   unfolding gridOf values refusal
   case-row = of-first Row (caseOrder file runs)
       ((badFile, refl) and (badSetting, refl) and (λ i h. (badNode (suc i) (in-rows h), refl)) and (λ i h. (badCircuit (suc i) (in-rows h), refl))
       and (λ i h. (badStation (suc i) (in-rows h), refl)) and (λ i h. (unreached (suc i) (in-rows h), refl)) and (badTotal, refl) and (noChargeableTec, refl)
-      and systems-rows flowSystems ((λ i h. (inDoubt (suc i) (in-rows h), refl)) and systems-rows distanceSystems end))
+      and scaling-rows)
 
   pub case-listed : (r : Refusal) → FirstUnmet (caseOrder file runs) r → ListedFor (studyOf file) r
   case-listed r f = case-row r f .0

@@ -1,34 +1,61 @@
--- The figures bring in the targets: of each side, the zones' totals, the local income and the remainder are the target.
-use mathlib.Core.Path.{_≡_, sym, _∙_, ap}
-use Prim.Native.Nat.{ℕ, suc, _+_, _*_, _-_, _≤_}
+-- The figures bring in the targets: of each side, what the zones pay, the local income and the remainder are the target.
+use mathlib.Core.Path.{_≡_, refl, sym, _∙_, ap, ap₂}
+use Prim.Native.Nat.{ℕ, zero, suc, _+_, _*_, _-_, _≤_}
 use native.Mathlib.Omega.{arith}
 use native.Mathlib.Nat.{mul-add, add-mul}
 use lib.IntN.{ℤ, pos, _+ℤ_, _-ℤ_, _*ℤ_}
+use Rattle.integers.specs.Numbers.{sum, Σ}
 use Rattle.integers.proofs.Core.{Z}
-use Rattle.integers.proofs.Sum.{Σ-raised}
+use Rattle.integers.proofs.Sum.{Σ-add}
 use Rattle.meaning.specs.Study.{Runs}
+use Rattle.meaning.specs.declared.Edition.{Edition}
+use Rattle.meaning.specs.declared.Edition.the-variants.{First, Second}
+use Rattle.meaning.specs.declared.Background.{Background}
+use Rattle.meaning.specs.declared.Background.the-variants.{YearRound, Peak}
+use Rattle.meaning.specs.Editions.{overBackgrounds}
 use Rattle.meaning.specs.Grid.{Grid}
 use Rattle.meaning.specs.declared.Side.{Side}
 use Rattle.meaning.specs.declared.Side.the-variants.{Generation, Demand}
-use Rattle.meaning.specs.Charging.{remainderOf}
-use Rattle.meaning.specs.Figures.{zones, zonePaying, totalPaying, overZones, target, zoneTariff, localIncome, rest, residual, remainder, zoneTotal, basis}
+use Rattle.meaning.specs.Charging.{remainderOf, widerIncome}
+use Rattle.meaning.specs.Figures.{zones, zonePaying, zonePayingIn, totalPaying, target, zoneTariff, localIncome, priced, rest, residual, remainder, basis}
 use Rattle.meaning.specs.Charging as charging
 use Rattle.sizes.specs.Bounds.{KilowattsFit}
+use Rattle.claims.proofs.ReadBack.{zoneWorth}
+
+-- a price r of every kilowatt
+flat : (r : ℤ) (kw : ℕ → ℕ) (n : ℕ) → Σ n (λ k. r *ℤ pos (kw k)) ≡ r *ℤ pos (sum n kw)
+unfolding Σ sum
+flat r kw zero = simp Z (omega arith)
+flat r kw (suc n) = rw (flat r kw n) (step r (sum n kw) (kw n))
+  where
+    step : (r : ℤ) (m k : ℕ) → r *ℤ pos m +ℤ r *ℤ pos k ≡ r *ℤ pos (m + k)
+    step r m k = simp Z (omega arith)
+
+-- of each background, added up over the zones
+over-each : (e : Edition) (n : ℕ) (t : Background → ℕ → ℤ) → Σ n (λ k. overBackgrounds e (λ b. t b k)) ≡ overBackgrounds e (λ b. Σ n (t b))
+unfolding overBackgrounds
+over-each First n t = refl
+over-each Second n t = Σ-add n (t YearRound) (t Peak)
 
 module _ (G : Grid) (fit : KilowattsFit G) (runs : Runs) where
-  -- the residual is paid by each kilowatt, and the zones have all of them
-  income-is : (side : Side)
-      → overZones G side (zoneTotal G runs side) ≡ overZones G side (zoneTariff G runs side) +ℤ residual G runs side *ℤ pos (totalPaying G side)
-  unfolding charging.zoneTotal charging.priced basis
-  income-is side =
-      Σ-raised (λ k. zoneTariff G runs side (suc k)) (residual G runs side) (λ k. zonePaying G side (suc k)) (zones G side)
-      ∙ ap (λ (m : ℕ). overZones G side (zoneTariff G runs side) +ℤ residual G runs side *ℤ pos m) (fit .zonesAll side)
+  -- what the zones of a side bring in
+  abbrev printed : Side → ℤ
+  printed side = Σ (zones G side) (λ k. zoneWorth G runs side (suc k))
 
-  pub side-recovered : (side : Side) → overZones G side (zoneTotal G runs side) +ℤ localIncome G runs side +ℤ remainder G runs side ≡ target G side
+  -- the residual is paid by each kilowatt, and the zones have all of them
+  income-is : (side : Side) → printed side ≡ widerIncome (priced G runs side) +ℤ residual G runs side *ℤ pos (totalPaying G side)
+  unfolding charging.priced basis
+  income-is side =
+      Σ-add (zones G side) _ _
+      ∙ ap₂ _+ℤ_
+      (over-each (G .settings .edition) (zones G side) (λ b k. zoneTariff G runs b side (suc k) *ℤ pos (zonePayingIn G b side (suc k))))
+      (flat (residual G runs side) (λ k. zonePaying G side (suc k)) (zones G side) ∙ ap (λ (m : ℕ). residual G runs side *ℤ pos m) (fit .zonesAll side))
+
+  pub side-recovered : (side : Side) → printed side +ℤ localIncome G runs side +ℤ remainder G runs side ≡ target G side
   unfolding charging.remainder remainderOf charging.residual charging.rest charging.priced basis
   side-recovered side =
       rw (income-is side)
-      (cancel (overZones G side (zoneTariff G runs side)) (residual G runs side) (localIncome G runs side) (target G side) (totalPaying G side))
+      (cancel (widerIncome (priced G runs side)) (residual G runs side) (localIncome G runs side) (target G side) (totalPaying G side))
     where
       cancel : (o r l t : ℤ) (k : ℕ) → o +ℤ r *ℤ pos k +ℤ l +ℤ (t -ℤ o -ℤ l -ℤ r *ℤ pos k) ≡ t
       cancel o r l t k = simp Z (omega arith)

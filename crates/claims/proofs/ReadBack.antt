@@ -1,4 +1,4 @@
--- Read back from its bytes, a sheet brings in the totals of its zones and the local tariffs of its nodes, and shows its two remainders.
+-- Read back from its bytes, a sheet brings in the tariffs and residuals of its zones and the local tariffs of its nodes, and shows its two remainders.
 use mathlib.Core.Path.{_≡_, refl, sym, _∙_, ap, ap₂}
 use mathlib.Core.List.{List, [], _∷_}
 use mathlib.Core.Bool.{Bool, true, false, cond}
@@ -13,13 +13,18 @@ use Rattle.integers.proofs.Sum.{Σ-none}
 use Rattle.meaning.specs.Study.{Study, Runs}
 use Rattle.meaning.specs.Name.{sameName}
 use Rattle.meaning.specs.Grid.{Grid, gridOf, place, nodeTec, payingTec}
+use Rattle.meaning.specs.declared.Edition.{Edition}
+use Rattle.meaning.specs.declared.WiderFigures.{WiderFigures}
+use Rattle.meaning.specs.declared.Edition.the-variants.{First, Second}
+use Rattle.meaning.specs.declared.Background.{Background}
+use Rattle.meaning.specs.Editions.{Of, overBackgrounds}
 use Rattle.meaning.specs.declared.Side.{Side}
 use Rattle.meaning.specs.declared.Side.the-variants.{Generation, Demand}
-use Rattle.meaning.specs.Figures.{zones, zoneWeight, zonePaying, zoneTariff, residual, zoneTotal, overZones, localIncome, localTariff, remainder, zoneFigures, localFigures, basis}
+use Rattle.meaning.specs.Figures.{zones, zoneWeight, zonePaying, zonePayingIn, zonalMetres, zoneTariff, residual, zoneTotal, localIncome, localTariff, remainder, zoneFigures, localFigures, basis}
 use Rattle.meaning.specs.Charging as charging
 use Rattle.meaning.specs.Text.{text, decimals}
-use Rattle.meaning.specs.Sheet.{constantFields, letter, zoneNumbers, zoneFields, nodeFields, remainderFields, SideShown, Shown, zoneRow, sideOf, shownOf, sheet}
-use Rattle.meaning.specs.Read.{pieces, field, readNatural, readWhole, hasLetter, padded, lineAt, zoneIncome, nodeIncome, lineIncome, sideIncome, remainderField, printedRemainder}
+use Rattle.meaning.specs.Sheet.{constantFields, letter, zoneFields, nodeFields, remainderFields, SideShown, Shown, zoneRow, sideOf, shownOf, sheet}
+use Rattle.meaning.specs.Read.{pieces, field, readNatural, readWhole, hasLetter, padded, lineAt, metresField, tariffField, residualField, totalField, printedTariffs, zoneIncome, nodeIncome, lineIncome, sideIncome, remainderField, printedRemainder}
 use Rattle.meaning.specs.Conditions.{SoundTables}
 use Rattle.meaning.proofs.Tables.{place-own, rowwise}
 use Rattle.claims.proofs.Digits.{From, from-lower, read-natural, read-decimal}
@@ -27,15 +32,22 @@ use Rattle.claims.proofs.Names.{name-from, name-back}
 use Rattle.meaning.proofs.Proposals.{not-apart, zero-apart}
 use Rattle.meaning.proofs.Plants.{node-pays}
 use Rattle.meaning.proofs.Says.{says-eq}
-use Rattle.claims.proofs.Pays.{zone-pays}
+use Rattle.meaning.proofs.Sides.{over-backgrounds}
+use Rattle.sizes.proofs.SheetLength.{wider-figures}
+use Rattle.claims.proofs.Pays.{zone-pays, zone-pays-in}
 use Rattle.claims.proofs.Pieces.{over, adds-all, each-none}
-use Rattle.claims.proofs.Lines.{Line, Worth, add-sheet, zoneRead, zone-read}
+use Rattle.claims.proofs.Lines.{Line, Worth, add-sheet, zoneRead, zone-read, metres-from, residual-from, metres-field, tariff-field, residual-field, total-field}
 
 -- ---- what the fields of a line bring in, and the remainder that they show
 module _ (G : Grid) where
+  -- each background's tariff times the kilowatts that pay in it, and the residual times those that pay
+  pub zonePaid : Side → Line → ℤ
+  zonePaid side fs =
+      overBackgrounds (G .settings .edition) (λ b. readWhole (getD fs (tariffField (G .settings .edition) b) []) *ℤ pos (zonePayingIn G b side (readNatural 0 (getD fs 1 []))))
+      +ℤ readWhole (getD fs (residualField (G .settings .edition)) []) *ℤ pos (zonePaying G side (readNatural 0 (getD fs 1 [])))
+
   ofZone : Side → Line → ℤ
-  ofZone side fs =
-      cond (sameName (getD fs 0 []) (letter side)) (readWhole (getD fs 6 []) *ℤ pos (zonePaying G side (readNatural 0 (getD fs 1 [])))) (pos 0)
+  ofZone side fs = cond (sameName (getD fs 0 []) (letter side)) (zonePaid side fs) (pos 0)
 
   ofNode : Line → ℤ
   ofNode fs =
@@ -51,7 +63,7 @@ module _ (G : Grid) where
   no-income Demand = refl
 
   income-over : (side : Side) (t : List ℕ) → sideIncome G side t ≡ over (ofSide side) t
-  unfolding sideIncome lineIncome zoneIncome nodeIncome hasLetter field ofSide ofZone ofNode
+  unfolding sideIncome lineIncome zoneIncome nodeIncome hasLetter field ofSide ofZone zonePaid ofNode
   income-over Generation t = refl
   income-over Demand t = refl
 
@@ -75,20 +87,35 @@ unfolding printedRemainder hasLetter field left
 left-over side t = refl
 
 -- a zone's letter is not the remainders'
-no-letter : (side s : Side) (t : SideShown) (k : ℕ) → left side (zoneRow s t k) ≡ pos 0
+no-letter : (e : Edition) (side s : Side) (t : SideShown) (k : ℕ) → left side (zoneRow e s t k) ≡ pos 0
 unfolding left sameName letter zoneFields
-no-letter side Generation t k = refl
-no-letter side Demand t k = refl
+no-letter e side Generation t k = refl
+no-letter e side Demand t k = refl
 
 -- an empty line
 no-remainder : (side : Side) → left side ([] ∷ []) ≡ pos 0
 unfolding left sameName
 no-remainder side = refl
 
+-- what a zone's line is worth: each background's tariff to the kilowatts that pay in it, and the residual to those that pay
+abbrev pub zoneWorth : Grid → Runs → Side → ℕ → ℤ
+zoneWorth G runs side z =
+    overBackgrounds (G .settings .edition) (λ b. zoneTariff G runs b side z *ℤ pos (zonePayingIn G b side z)) +ℤ residual G runs side *ℤ pos (zonePaying G side z)
+
+-- a sum, or nothing at all
+or-none : (t : Bool) (e : Edition) (f : Background → ℤ) (r : ℤ) → cond t (pos 0) (overBackgrounds e f +ℤ r) ≡ overBackgrounds e (λ b. cond t (pos 0) (f b)) +ℤ cond t (pos 0) r
+unfolding overBackgrounds
+or-none true First f r = refl
+or-none true Second f r = refl
+or-none false e f r = refl
+
 -- ---- line by line
 module _ (S : Study) (sound : SoundTables S) (runs : Runs) where
   abbrev G : Grid
   G = gridOf S
+
+  abbrev e : Edition
+  e = G .settings .edition
 
   abbrev page : Shown
   page = shownOf G runs
@@ -96,43 +123,85 @@ module _ (S : Study) (sound : SoundTables S) (runs : Runs) where
   abbrev pub nodeOf : ℕ → Line
   nodeOf v = nodeFields (page .name v) (page .local v)
 
-  -- number i of a zone's line, as it reads
-  abbrev pub readOf : Side → (zone i : ℕ) → ℤ
-  readOf side zone i = zoneRead (residual G runs side) (zoneFigures G runs side zone) i
+  -- field k of a zone's line, from 2 on, as it reads
+  abbrev pub readOf : Side → (zone k : ℕ) → ℤ
+  readOf side zone k = zoneRead e (residual G runs side) (zoneFigures G runs side zone) k
 
-  zoneWorth : Side → ℕ → ℤ
-  zoneWorth side z = zoneTotal G runs side z *ℤ pos (zonePaying G side z)
+  -- a figure of a zone, 0 where it has no kilowatts
+  abbrev pub orNone : Side → (zone : ℕ) → ℤ → ℤ
+  orNone side zone f = cond (eqb (zoneWeight G side zone) 0) (pos 0) f
+
+  module _ (side : Side) (zone : ℕ) where
+    pub metres-shown : (b : Background) → Of b e → readOf side zone (metresField e b) ≡ orNone side zone (zonalMetres G runs b side zone)
+    unfolding zoneRead charging.zoneFigures charging.widerFigures charging.priced basis
+    metres-shown b h = ap (orNone side zone) (metres-field _ _ e b h ∙ ap (λ (w : WiderFigures). w .metres .0) (wider-figures G runs b h side zone))
+
+    tariff-shown : (b : Background) → Of b e → readOf side zone (tariffField e b) ≡ orNone side zone (zoneTariff G runs b side zone)
+    unfolding zoneRead charging.zoneFigures charging.widerFigures charging.priced basis
+    tariff-shown b h = ap (orNone side zone) (tariff-field _ _ e b h ∙ ap (λ (w : WiderFigures). w .tariff .0) (wider-figures G runs b h side zone))
+
+    residual-shown : readOf side zone (residualField e) ≡ orNone side zone (residual G runs side)
+    unfolding zoneRead charging.zoneFigures charging.priced basis
+    residual-shown = ap (orNone side zone) (residual-field _ _ e)
+
+    total-shown : readOf side zone (totalField e) ≡ orNone side zone (zoneTotal G runs side zone)
+    unfolding zoneRead charging.zoneFigures charging.priced basis
+    total-shown = ap (orNone side zone) (total-field _ _ e)
 
   nodeWorth : ℕ → ℤ
   nodeWorth v = localTariff G runs v *ℤ pos (payingTec G v)
 
   -- what the lines of a zone and of a node are worth to a side
   zoneTo : (side s : Side) → ℕ → ℤ
-  zoneTo Generation Generation z = zoneWorth Generation z
+  zoneTo Generation Generation z = zoneWorth G runs Generation z
   zoneTo Generation Demand z = pos 0
   zoneTo Demand Generation z = pos 0
-  zoneTo Demand Demand z = zoneWorth Demand z
+  zoneTo Demand Demand z = zoneWorth G runs Demand z
 
   nodeTo : Side → ℕ → ℤ
   nodeTo Generation v = nodeWorth v
   nodeTo Demand v = pos 0
 
   -- a zone's line is worth the same with and without kilowatts
-  zone-worth : (side : Side) (z : ℕ) → readOf side z 4 *ℤ pos (zonePaying G side z) ≡ zoneWorth side z
-  unfolding zoneRead zoneNumbers charging.zoneFigures charging.zoneTotal zoneWorth charging.priced basis
-  zone-worth side z = go (eqb (zoneWeight G side z) 0) (says-eq .0) (zone-pays G side z)
+  none-paid : (side : Side) (z : ℕ) (f : ℤ) (kw : ℕ) → kw ≤ zoneWeight G side z → orNone side z f *ℤ pos kw ≡ f *ℤ pos kw
+  none-paid side z f kw = go (eqb (zoneWeight G side z) 0) (says-eq .0)
     where
-      go : (b : Bool) → (b ≡ true → zoneWeight G side z ≡ 0) → zonePaying G side z ≤ zoneWeight G side z
-          → cond b (pos 0) (zoneTotal G runs side z) *ℤ pos (zonePaying G side z) ≡ zoneTotal G runs side z *ℤ pos (zonePaying G side z)
-      go true e h = let q : zonePaying G side z ≡ 0 = omega (arith, e refl) in rw q (simp Z (omega arith))
+      go : (b : Bool) → (b ≡ true → zoneWeight G side z ≡ 0) → kw ≤ zoneWeight G side z → cond b (pos 0) f *ℤ pos kw ≡ f *ℤ pos kw
+      go true e h = let q : kw ≡ 0 = omega (arith, e refl) in rw q (simp Z (omega arith))
       go false e h = refl
 
-  zone-line : (side s : Side) (k : ℕ) → ofSide G side (zoneRow s (sideOf G runs s) k) ≡ zoneTo side s (suc k)
+  zone-paid : (side : Side) (k : ℕ) → zonePaid G side (zoneRow e side (sideOf G runs side) k) ≡ zoneWorth G runs side (suc k)
+  unfolding zonePaid zoneFields
+  zone-paid side k = ap₂ _+ℤ_ (over-backgrounds _ _ refl tariffs) residuals
+    where
+      z : ℕ
+      z = suc k
+
+      fs : Line
+      fs = zoneRow e side (sideOf G runs side) k
+
+      tariffs : (b : Background) → Of b e
+          → readWhole (getD fs (tariffField e b) []) *ℤ pos (zonePayingIn G b side (readNatural 0 (getD fs 1 []))) ≡ zoneTariff G runs b side z *ℤ pos (zonePayingIn G b side z)
+      tariffs b h =
+          ap₂ (λ (t : ℤ) (n : ℕ). t *ℤ pos (zonePayingIn G b side n))
+          (zone-read e side z (residual G runs side) (zoneFigures G runs side z) (tariffField e b) (omega (arith, metres-from e b)) ∙ tariff-shown side z b h) (read-natural z)
+          ∙ none-paid side z _ _ (zone-pays-in G b side z)
+
+      residuals : readWhole (getD fs (residualField e) []) *ℤ pos (zonePaying G side (readNatural 0 (getD fs 1 []))) ≡ residual G runs side *ℤ pos (zonePaying G side z)
+      residuals =
+          ap₂ (λ (t : ℤ) (n : ℕ). t *ℤ pos (zonePaying G side n))
+          (zone-read e side z (residual G runs side) (zoneFigures G runs side z) (residualField e) (residual-from e) ∙ residual-shown side z) (read-natural z)
+          ∙ none-paid side z _ _ (zone-pays G side z)
+
+  zone-line : (side s : Side) (k : ℕ) → ofSide G side (zoneRow e s (sideOf G runs s) k) ≡ zoneTo side s (suc k)
   unfolding ofSide ofZone ofNode sameName letter zoneFields zoneTo
-  zone-line Generation Generation k = rw (zone-read Generation (suc k) (residual G runs Generation) (zoneFigures G runs Generation (suc k)) 4, read-natural (suc k), zone-worth Generation (suc k)) (simp Z (omega arith))
+  zone-line Generation Generation k = ap (λ (z : ℤ). z +ℤ pos 0) (zone-paid Generation k) ∙ nothing-more (zoneWorth G runs Generation (suc k))
+    where
+      nothing-more : (z : ℤ) → z +ℤ pos 0 ≡ z
+      nothing-more z = simp Z (omega arith)
   zone-line Generation Demand k = refl
   zone-line Demand Generation k = refl
-  zone-line Demand Demand k = rw (zone-read Demand (suc k) (residual G runs Demand) (zoneFigures G runs Demand (suc k)) 4, read-natural (suc k)) (zone-worth Demand (suc k))
+  zone-line Demand Demand k = zone-paid Demand k
 
   node-line : (side : Side) (v : ℕ) → v < length (S .nodes) → ofSide G side (nodeOf v) ≡ nodeTo side v
   unfolding ofSide ofZone ofNode sameName letter nodeFields decimals charging.localFigures nodeWorth nodeTo gridOf basis
@@ -160,7 +229,7 @@ module _ (S : Study) (sound : SoundTables S) (runs : Runs) where
 
   left-worth : (side : Side) → Worth page (left side) (λ s k. pos 0) (λ v. pos 0) (remainder G runs side)
   unfolding left sameName constantFields nodeFields
-  left-worth side = record { start = refl; zones = λ s k. no-letter side s (sideOf G runs s) k; silent = λ v e. refl; printed = λ v h. refl; last = last-line side }
+  left-worth side = record { start = refl; zones = λ s k. no-letter e side s (sideOf G runs s) k; silent = λ v e. refl; printed = λ v h. refl; last = last-line side }
 
   -- ---- the whole sheet
   named : (v : ℕ) → v < length (G .nodes) → From 45 (page .name v)
@@ -170,8 +239,8 @@ module _ (S : Study) (sound : SoundTables S) (runs : Runs) where
   none : (n : ℕ) → Σ n (λ k. pos 0) ≡ pos 0
   none n = Σ-none n _ (λ k h. refl)
 
-  pub income-read : (side : Side) → sideIncome G side (sheet G runs) ≡ overZones G side (zoneTotal G runs side) +ℤ localIncome G runs side
-  unfolding sheet charging.localIncome zoneTo nodeTo zoneWorth nodeWorth basis
+  pub income-read : (side : Side) → sideIncome G side (sheet G runs) ≡ Σ (zones G side) (λ k. zoneWorth G runs side (suc k)) +ℤ localIncome G runs side
+  unfolding sheet charging.localIncome zoneTo nodeTo nodeWorth basis
   income-read side =
       income-over G side (sheet G runs)
       ∙ adds-all (ofSide G side) (add-sheet page named (ofSide G side) (λ s k. zoneTo side s (suc k)) (nodeTo side) (pos 0) (income-worth side)) (no-income G side)
@@ -180,7 +249,7 @@ module _ (S : Study) (sound : SoundTables S) (runs : Runs) where
       of : (side : Side)
           → pos 0 +ℤ (Σ (zones G Generation) (λ k. zoneTo side Generation (suc k))
           +ℤ (Σ (zones G Demand) (λ k. zoneTo side Demand (suc k)) +ℤ (Σ (length (G .nodes)) (nodeTo side) +ℤ pos 0)))
-          ≡ overZones G side (zoneTotal G runs side) +ℤ localIncome G runs side
+          ≡ Σ (zones G side) (λ k. zoneWorth G runs side (suc k)) +ℤ localIncome G runs side
       of Generation = rw (none (zones G Demand)) (simp Z (omega arith))
       of Demand = rw (none (zones G Generation), none (length (G .nodes))) (simp Z (omega arith))
 
@@ -211,9 +280,9 @@ module _ (S : Study) (sound : SoundTables S) (runs : Runs) where
 
     -- equal on the line of every zone of a side
     abbrev OnZones : Side → Type 0
-    OnZones side = (k : ℕ) → a (zoneRow side (sideOf G runs side) k) ≡ b (zoneRow side (sideOf G runs side) k)
+    OnZones side = (k : ℕ) → a (zoneRow e side (sideOf G runs side) k) ≡ b (zoneRow e side (sideOf G runs side) k)
 
-    zone-gap : (side s : Side) → OnZones side → (k : ℕ) → gap (letter side) a b (zoneRow s (sideOf G runs s) k) ≡ 0
+    zone-gap : (side s : Side) → OnZones side → (k : ℕ) → gap (letter side) a b (zoneRow e s (sideOf G runs s) k) ≡ 0
     unfolding gap sameName letter zoneFields
     zone-gap Generation Generation h k = closed _ _ (h k)
     zone-gap Generation Demand h k = refl
@@ -233,7 +302,7 @@ module _ (S : Study) (sound : SoundTables S) (runs : Runs) where
     abbrev OnNodes : Type 0
     OnNodes = (v : ℕ) → v < length (S .nodes) → a (nodeOf v) ≡ b (nodeOf v)
 
-    zone-apart : (s : Side) (t : SideShown) (k : ℕ) → gap (text "L") a b (zoneRow s t k) ≡ 0
+    zone-apart : (s : Side) (t : SideShown) (k : ℕ) → gap (text "L") a b (zoneRow e s t k) ≡ 0
     unfolding gap sameName letter zoneFields
     zone-apart Generation t k = refl
     zone-apart Demand t k = refl
@@ -249,23 +318,25 @@ module _ (S : Study) (sound : SoundTables S) (runs : Runs) where
     node-lines-agree h = lettered-agree (text "L") (node-gap-worth h) refl
 
   -- ---- the numbers behind a zone's read as those of the zone
-  pub field-read : (i : ℕ) (side : Side) (j : ℕ) → hasLetter (letter side) (lineAt j (sheet G runs)) ≡ true
-      → readWhole (field (suc (suc i)) (lineAt j (sheet G runs))) ≡ readOf side (readNatural 0 (field 1 (lineAt j (sheet G runs)))) i
+  pub field-read : (k : ℕ) → 2 ≤ k → (side : Side) (j : ℕ) → hasLetter (letter side) (lineAt j (sheet G runs)) ≡ true
+      → readWhole (field k (lineAt j (sheet G runs))) ≡ readOf side (readNatural 0 (field 1 (lineAt j (sheet G runs)))) k
   unfolding field zoneFields
-  field-read i side =
-      zone-lines-agree (λ fs. readWhole (getD fs (suc (suc i)) [])) (λ fs. readOf side (readNatural 0 (getD fs 1 [])) i) side
-      (λ k. zone-read side (suc k) (residual G runs side) (zoneFigures G runs side (suc k)) i ∙ sym (ap (λ (z : ℕ). readOf side z i) (read-natural (suc k))))
+  field-read k from side =
+      zone-lines-agree (λ fs. readWhole (getD fs k [])) (λ fs. readOf side (readNatural 0 (getD fs 1 [])) k) side
+      (λ i. zone-read e side (suc i) (residual G runs side) (zoneFigures G runs side (suc i)) k from ∙ sym (ap (λ (z : ℕ). readOf side z k) (read-natural (suc i))))
 
-  -- a printed total is its tariff and its residual
-  total-added : (side : Side) (z : ℕ) → readOf side z 4 ≡ readOf side z 2 +ℤ readOf side z 3
-  unfolding zoneRead zoneNumbers charging.zoneFigures charging.zoneTotal charging.priced basis
-  total-added side z = go (eqb (zoneWeight G side z) 0)
-    where
-      go : (b : Bool) → cond b (pos 0) (zoneTariff G runs side z +ℤ residual G runs side) ≡ cond b (pos 0) (zoneTariff G runs side z) +ℤ cond b (pos 0) (residual G runs side)
-      go true = refl
-      go false = refl
+  -- a printed total is its tariffs and its residual
+  total-added : (side : Side) (z : ℕ) → readOf side z (totalField e) ≡ overBackgrounds e (λ b. readOf side z (tariffField e b)) +ℤ readOf side z (residualField e)
+  unfolding charging.zoneTotal charging.priced basis
+  total-added side z =
+      total-shown side z
+      ∙ or-none (eqb (zoneWeight G side z) 0) e (λ b. zoneTariff G runs b side z) (residual G runs side)
+      ∙ sym (ap₂ _+ℤ_ (over-backgrounds _ _ refl (tariff-shown side z)) (residual-shown side z))
 
   pub total-read : (side : Side) (k : ℕ) → hasLetter (letter side) (lineAt k (sheet G runs)) ≡ true
-      → readWhole (field 6 (lineAt k (sheet G runs))) ≡ readWhole (field 4 (lineAt k (sheet G runs))) +ℤ readWhole (field 5 (lineAt k (sheet G runs)))
+      → readWhole (field (totalField e) (lineAt k (sheet G runs)))
+      ≡ printedTariffs e (lineAt k (sheet G runs)) +ℤ readWhole (field (residualField e) (lineAt k (sheet G runs)))
   total-read side k h =
-      field-read 4 side k h ∙ total-added side _ ∙ sym (ap₂ _+ℤ_ (field-read 2 side k h) (field-read 3 side k h))
+      field-read (totalField e) (omega (arith, residual-from e)) side k h
+      ∙ total-added side _
+      ∙ sym (ap₂ _+ℤ_ (over-backgrounds _ _ refl (λ b l. field-read (tariffField e b) (omega (arith, metres-from e b)) side k h)) (field-read (residualField e) (residual-from e) side k h))

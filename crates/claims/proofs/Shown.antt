@@ -8,23 +8,25 @@ use lib.Dec.{ltb}
 use lib.IntN.{ℤ, pos, natAbs}
 use lib.ListN.{length, getD}
 use Rattle.integers.proofs.Sum.{sum-item}
+use Rattle.meaning.specs.declared.Background.{Background}
+use Rattle.meaning.specs.Editions.{Of}
 use Rattle.meaning.specs.declared.Side.{Side}
 use Rattle.meaning.specs.Study.{Study, Runs}
 use Rattle.meaning.specs.Grid.{Grid, gridOf, place}
-use Rattle.meaning.specs.Figures.{zoneWeight, zonalMetres, distance, localMetres, zoneFigures, localFigures, basis}
+use Rattle.meaning.specs.Figures.{zoneWeight, zonalMetres, distance, localMetres, localFigures, basis}
 use Rattle.meaning.specs.Charging as charging
 use Rattle.meaning.specs.Text.{text, decimals}
-use Rattle.meaning.specs.Sheet.{zoneNumbers, nodeFields, sheet}
-use Rattle.meaning.specs.Read.{pieces, field, readNatural, readWhole, hasLetter, padded, lineAt}
+use Rattle.meaning.specs.Sheet.{nodeFields, sheet}
+use Rattle.meaning.specs.Read.{pieces, field, readNatural, readWhole, hasLetter, padded, lineAt, metresField}
 use Rattle.meaning.specs.Conditions.{SoundTables}
-use Rattle.meaning.specs.Distances.{weightIn, shownMetres, OfNode}
+use Rattle.meaning.specs.Distances.{weightIn, shownMetres, shownIn, OfNode}
 use Rattle.meaning.proofs.Says.{Says, says-le}
 use Rattle.meaning.proofs.Sides.{zone-of-one}
 use Rattle.meaning.proofs.Tables.{place-own, rowwise}
 use Rattle.claims.proofs.Digits.{differs, read-decimal}
 use Rattle.claims.proofs.Names.{name-back}
-use Rattle.claims.proofs.Lines.{Line, zoneRead}
-use Rattle.claims.proofs.ReadBack.{nodeOf, readOf, node-lines-agree, field-read}
+use Rattle.claims.proofs.Lines.{Line, metres-from}
+use Rattle.claims.proofs.ReadBack.{nodeOf, readOf, metres-shown, node-lines-agree, field-read}
 
 module _ (S : Study) (sound : SoundTables S) (runs : Runs) where
   abbrev G : Grid
@@ -35,18 +37,18 @@ module _ (S : Study) (sound : SoundTables S) (runs : Runs) where
   unfolding zoneWeight
   weighs side zone v h some e = omega (arith, sum-item (length (G .nodes)) v (weightIn G side zone) h)
 
-  -- the first of a zone's numbers, where it has kilowatts
-  first-read : (side : Side) (zone : ℕ) → (zoneWeight G side zone ≡ 0 → ⊥) → readOf S sound runs side zone 0 ≡ zonalMetres G runs side zone
-  unfolding zoneRead zoneNumbers charging.zoneFigures charging.zoneTotal charging.priced basis
-  first-read side zone h = rw (differs (zoneWeight G side zone) 0 h) refl
+  -- a background's metres, where the zone has kilowatts
+  metres-read : (b : Background) → Of b (G .settings .edition) → (side : Side) (zone : ℕ) → (zoneWeight G side zone ≡ 0 → ⊥)
+      → readOf S sound runs side zone (metresField (G .settings .edition) b) ≡ zonalMetres G runs b side zone
+  metres-read b h side zone some = metres-shown S sound runs side zone b h ∙ rw (differs (zoneWeight G side zone) 0 some) refl
 
-  pub zone-shows : (side : Side) (v i : ℕ) → v < length (G .nodes) → OfNode G side v (lineAt i (sheet G runs))
-      → shownMetres (lineAt i (sheet G runs)) ≡ distance runs side v
-  zone-shows side v i h o =
+  pub zone-shows : (b : Background) → Of b (G .settings .edition) → (side : Side) (v i : ℕ) → v < length (G .nodes) → OfNode G side v (lineAt i (sheet G runs))
+      → shownIn (G .settings .edition) b (lineAt i (sheet G runs)) ≡ distance runs b side v
+  zone-shows b of side v i h o =
       let zone = readNatural 0 (field 1 (lineAt i (sheet G runs))) in
-      field-read S sound runs 0 side i (o .zonal)
-      ∙ first-read side zone (weighs side zone v h (o .some))
-      ∙ zone-of-one G runs side zone v h (o .some) (o .others)
+      field-read S sound runs (metresField (G .settings .edition) b) (metres-from (G .settings .edition) b) side i (o .zonal)
+      ∙ metres-read b of side zone (weighs side zone v h (o .some))
+      ∙ zone-of-one G runs b side zone v h (o .some) (o .others)
 
   -- ---- an `L` line has the name of a node, and shows its local metres
   abbrev rowOf : Line → ℕ

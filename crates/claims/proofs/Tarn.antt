@@ -5,8 +5,9 @@ use Prim.Native.Nat.{ℕ, zero, suc, _<_}
 use Prim.Native.String.{String}
 use native.Mathlib.Omega.{arith}
 use lib.IntN.{ℤ, pos, negℤ}
+use Rattle.meaning.specs.declared.Edition.the-variants.{First}
 use Rattle.meaning.specs.declared.Settings.{Settings}
-use Rattle.meaning.specs.Study.{Node, Circuit, Station, Study, Runs, runsOf}
+use Rattle.meaning.specs.Study.{Node, Circuit, Station, Study, Runs, threeRuns}
 use Rattle.meaning.specs.declared.Judgement.the-variants.{Passes}
 use Rattle.meaning.specs.Outcome.{judged}
 use Rattle.meaning.specs.Conditions.{Acceptable}
@@ -31,6 +32,7 @@ settingsWith p =
       overhead132 = 2500;
       cable132 = 1000;
       reference = 2;
+      edition = First;
       revenue = 1;
     }
 
@@ -64,7 +66,7 @@ tarnStudy mark =
 -- by WEIR's wider and local potential
 abbrev pub runsWith : (wider local : ℤ) → Runs
 runsWith wider local =
-    runsOf
+    threeRuns
     (pos 1000000000 ∷ pos 0 ∷ negℤ (pos 1000000000) ∷ negℤ (pos 2000000000) ∷ pos 1000000000 ∷ pos 1000000000 ∷ pos 1000000000 ∷ [])
     (pos 4500000000 ∷ pos 0 ∷ negℤ (pos 2500000000) ∷ wider ∷ pos 0 ∷ pos 0 ∷ pos 0 ∷ [])
     (pos 0 ∷ pos 0 ∷ pos 0 ∷ local ∷ pos 0 ∷ pos 0 ∷ pos 0 ∷ [])

@@ -1,11 +1,15 @@
--- The user's demands, proved: each statement is a type of meaning/specs/Demands.antt or, for requests 2, 3 and 12, Mirror.antt, Versions.antt and OnlyDirections.antt, and its proof is in the file named here.
+-- The user's demands, proved: each statement is a type of meaning/specs/Demands.antt or, for requests 2, 3, 5 and 12, Mirror.antt, Versions.antt, Backgrounds.antt and OnlyDirections.antt, and its proof is in the file named here.
 use Rattle.meaning.specs.Demands.{EveryInputSettled, AcceptedExactlyWhen, RefusedExactlyWhen, OneAnswer, JudgeIsWrite, RevenueRecovered, CentreBalances, SolversAgree, StationsHidden, CapacityKept, SheetsFit, AllButInterconnectorsPay, NoInterconnectorNoChange, TypesHidden}
 use Rattle.meaning.specs.Mirror.{NearestMirrors, OnlyNegativeHalvesMove, FiguresMove, AveragesMirror, ZonesMirror, PrintedMirror, SidesMirror, MoneyMirrors}
 use Rattle.meaning.specs.Versions.{OneSheetInEitherVersion, EveryCaseInVersionTwo, VersionOneByVoltage, FactorLast, NewVoltagesInVersionTwo, OwnFactorForBothLengths, NoFactorNoChange}
+use Rattle.meaning.specs.Backgrounds.{SystemsInOrder, EditionOneIs01, EditionOneAnswers, RunsOfTheEdition, EachBackgroundServed, LengthsStandOnce, AllButIntermittentPayAtPeak, PeakIsPaid}
 use Rattle.meaning.specs.OnlyDirections.{OnlyDirectionsCount, OwnDirectionsCount}
 use Rattle.meaning.proofs.Mirror as Mirror
 use Rattle.meaning.proofs.Versions as Versions
 use Rattle.meaning.proofs.Twins as Twins
+use Rattle.meaning.proofs.Systems as Systems
+use Rattle.meaning.proofs.Present as Present
+use Rattle.meaning.proofs.Backgrounds as BackgroundLaws
 use Rattle.sizes.proofs.Accepted as Sizes
 use Rattle.claims.proofs.Accepted
 use Rattle.claims.proofs.Recovered
@@ -15,13 +19,14 @@ use Rattle.claims.proofs.Stations
 use Rattle.claims.proofs.Interconnectors
 use Rattle.claims.proofs.Types
 use Rattle.claims.proofs.Mirrored
+use Rattle.claims.proofs.Backgrounds
 use Rattle.claims.proofs.OnlyDirections
 
 -- demand 1: any bytes, runs and buffer give the sheet, or a refusal of 01's table with the buffer untouched
 pub every-input-settled : EveryInputSettled
 every-input-settled = Accepted.every-input-settled
 
--- demand 2: accepted exactly when 1 to 11 and 13 do not hold, in a person's words, and the sheet fits
+-- demand 2: accepted exactly when 1 to 11 and 13 to 15 do not hold, in a person's words, and the sheet fits
 pub accepted-exactly-when : AcceptedExactlyWhen
 accepted-exactly-when = Accepted.accepted-exactly-when
 
@@ -41,11 +46,11 @@ judge-is-write = Hidden.judge-is-write
 pub revenue-recovered : RevenueRecovered
 revenue-recovered = Recovered.revenue-recovered
 
--- step 8: with C, generation's and demand's zones balance by their shares, over the kilowatts that pay
+-- step 8: with C, generation's and demand's zones balance by their shares, over the kilowatts that pay, in each background
 pub centre-balances : CentreBalances
 centre-balances = Recovered.centre-balances
 
--- demand 3: whatever the solver, an accepted case has its directions, its metres to within one, and with equal proposals its sheet
+-- demand 3: whatever the solver, an accepted case has its backgrounds, its directions, its metres to within one, and with equal proposals its sheet
 pub solvers-agree : SolversAgree
 solvers-agree = Agree.solvers-agree
 
@@ -65,11 +70,11 @@ sheets-fit = Sizes.sheets-fit
 pub all-but-interconnectors-pay : AllButInterconnectorsPay
 all-but-interconnectors-pay = Interconnectors.all-but-interconnectors-pay
 
--- and a case without interconnectors has 01's own C, rest, residual and remainder, and is never refused as 13
+-- and a case of edition 1 without interconnectors has 01's own C, rest, residual and remainder, and is never refused as 13
 pub no-interconnector-no-change : NoInterconnectorNoChange
 no-interconnector-no-change = Interconnectors.no-interconnector-no-change
 
--- and of the stations no answer and no sheet shows more than each node's TEC and its interconnectors': other plant types stay hidden
+-- and in edition 1 no answer and no sheet shows more of the stations than each node's TEC and its interconnectors': other plant types stay hidden
 pub types-hidden : TypesHidden
 types-hidden = Types.types-hidden
 
@@ -133,7 +138,39 @@ own-factor-for-both-lengths = Versions.own-factor-for-both-lengths
 pub no-factor-no-change : NoFactorNoChange
 no-factor-no-change = Versions.no-factor-no-change
 
--- 02, request 12: accepted cases of one network and the same directions have the same nodal distances, to within one metre, whatever their demand and TEC; that nothing less will do is in the crate `tutorial`
+-- 02, request 5: systems 1 and 4 are judged before 15 and 11, and 2, 5 and 3 after them; in edition 1 1, and 2 and 3
+pub systems-in-order : SystemsInOrder
+systems-in-order = Systems.systems-in-order
+
+-- what is said over editions is, of edition 1, what 01 says, definition by definition
+pub edition-one-is-01 : EditionOneIs01
+edition-one-is-01 = Present.edition-one-is-01
+
+-- and edition 1 never answers 14 or 15, nor any refusal of system 4 or 5
+pub edition-one-answers : EditionOneAnswers
+edition-one-answers = Backgrounds.edition-one-answers
+
+-- a case of edition 2 with three runs is refused as 1, and so is one of edition 1 with a run for peak
+pub runs-of-the-edition : RunsOfTheEdition
+runs-of-the-edition = Backgrounds.runs-of-the-edition
+
+-- in each background of an accepted case what runs adds up to the demand, and at no node above its TEC
+pub each-background-served : EachBackgroundServed
+each-background-served = BackgroundLaws.each-background-served
+
+-- a circuit's length stands in the system of its own mark and background, and in no other
+pub lengths-stand-once : LengthsStandOnce
+lengths-stand-once = BackgroundLaws.lengths-stand-once
+
+-- year round all chargeable TEC pays, and at peak all but type 1's
+pub all-but-intermittent-pay-at-peak : AllButIntermittentPayAtPeak
+all-but-intermittent-pay-at-peak = BackgroundLaws.all-but-intermittent-pay-at-peak
+
+-- and at peak at least the demand's kilowatts pay, so that C's divisor is above 0, by 14
+pub peak-is-paid : PeakIsPaid
+peak-is-paid = BackgroundLaws.peak-is-paid
+
+-- 02, request 12: accepted cases of edition 1, of one network and the same directions have the same nodal distances, to within one metre, whatever their demand and TEC; that nothing less will do is in the crate `tutorial`
 pub only-directions-count : OnlyDirectionsCount
 only-directions-count = OnlyDirections.only-directions-count
 

@@ -8,18 +8,21 @@ use Prim.Native.Nat.{ℕ, _*_}
 use Prim.Native.String.{String}
 use lib.IntN.{pos, negℤ, _+ℤ_}
 use lib.ListN.{length}
+use Rattle.meaning.specs.declared.Edition.the-variants.{First}
 use Rattle.meaning.specs.Rows.{rows}
 use Rattle.meaning.specs.Text.{text}
-use Rattle.meaning.specs.Study.{Node, Circuit, Station, Study, Runs, runsOf}
+use Rattle.meaning.specs.Study.{Node, Circuit, Station, Study, Runs, threeRuns}
 use Rattle.meaning.specs.File.{runsIn}
 use Rattle.meaning.specs.Scaled.{missing, scaled}
 use Rattle.meaning.specs.Grid.{gridOf, nodeTec, totalDemand}
-use Rattle.meaning.specs.Direction.{direction}
 use Rattle.meaning.specs.declared.Settings.{Settings}
 use Rattle.meaning.specs.declared.Direction.the-variants.{Idle, Forward, Backward}
 use Rattle.meaning.specs.declared.Judgement.the-variants.{Passes}
 use Rattle.meaning.specs.declared.Side.the-variants.{Generation, Demand}
-use Rattle.meaning.specs.Systems.{baseFlow}
+use Rattle.meaning.specs.declared.Background.the-variants.{YearRound, Peak}
+use Rattle.meaning.specs.declared.System.{System}
+use Rattle.meaning.specs.declared.System.the-variants.{Base, Wider, Local}
+use Rattle.meaning.specs.Systems.{heading}
 use Rattle.meaning.specs.Outcome.{judged, prints}
 use Rattle.meaning.specs.Read.{sideIncome, printedRemainder}
 use Rattle.meaning.proofs.Write.{name, fileOf}
@@ -41,6 +44,7 @@ daleSettings =
       overhead132 = 2590;
       cable132 = 22780;
       reference = 2;
+      edition = First;
       revenue = 1234567;
     }
 
@@ -72,7 +76,7 @@ daleStudy =
 
 abbrev daleRuns : Runs
 daleRuns =
-    runsOf
+    threeRuns
     (pos 2260164479538 ∷ pos 0 ∷ pos 205796662677 ∷ pos 27985500739 ∷ pos 3355466260953 ∷ pos 12418486151 ∷ pos 1905524654 ∷ pos 29773446621 ∷ pos 53921967 ∷ negℤ (pos 2867921967) ∷ negℤ (pos 4773067228) ∷ pos 7205932772 ∷ [])
     (pos 46910180803479 ∷ pos 0 ∷ pos 47421572470026 ∷ pos 18591466561004 ∷ pos 38570593105083 ∷ pos 199473301118 ∷ negℤ (pos 290160717870) ∷ negℤ (pos 254339009660) ∷ pos 35821708210 ∷ negℤ (pos 35821708210) ∷ negℤ (pos 54865708542) ∷ negℤ (pos 54865708542) ∷ [])
     (pos 798561266966 ∷ pos 0 ∷ pos 454334724039 ∷ pos 405851500476 ∷ pos 10009787708394 ∷ pos 4387699269 ∷ pos 4206803000 ∷ pos 4988790477 ∷ pos 781987477 ∷ negℤ (pos 781987477) ∷ pos 9376489746 ∷ pos 9376489746 ∷ [])
@@ -84,9 +88,13 @@ dale = fileOf daleStudy daleRuns
 dale-length : length dale ≡ 1036
 dale-length = refl
 
-dale-runs : runsIn dale ≡ daleRuns
+dale-runs : (s : System) → runsIn dale s ≡ daleRuns s
 unfolding opened
-dale-runs = refl
+dale-runs (Base YearRound) = refl
+dale-runs (Wider YearRound) = refl
+dale-runs Local = refl
+dale-runs (Base Peak) = refl
+dale-runs (Wider Peak) = refl
 
 dale-judged : judged dale daleRuns ≡ Passes
 unfolding opened
@@ -110,7 +118,7 @@ unfolding opened
 dale-scaled = refl
 
 -- step 4: directions
-dale-directions : rows 7 (λ c. direction (baseFlow (gridOf daleStudy) daleRuns c)) ≡ Forward ∷ Forward ∷ Forward ∷ Idle ∷ Backward ∷ Backward ∷ Forward ∷ []
+dale-directions : rows 7 (heading (gridOf daleStudy) daleRuns) ≡ Forward ∷ Forward ∷ Forward ∷ Idle ∷ Backward ∷ Backward ∷ Forward ∷ []
 unfolding opened
 dale-directions = refl
 

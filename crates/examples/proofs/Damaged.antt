@@ -4,7 +4,7 @@ use mathlib.Core.List.{List, [], _∷_, _++_}
 use lib.IntN.{ℤ, pos, negℤ}
 use lib.ListN.{take, drop, set, replicate}
 use Rattle.meaning.specs.Text.{text}
-use Rattle.meaning.specs.Study.{Node, Circuit, Station, runsOf}
+use Rattle.meaning.specs.Study.{Node, Circuit, Station, threeRuns}
 use Rattle.meaning.specs.declared.Background.the-variants.{YearRound}
 use Rattle.meaning.specs.declared.System.the-variants.{Base, Local}
 use Rattle.meaning.specs.declared.Judgement.{Judgement}
@@ -21,7 +21,7 @@ withTables nodes circuits stations =
     judged (fileOf (record { settings = kilnSettings; nodes = nodes; circuits = circuits; stations = stations }) kilnRuns) kilnRuns
 
 abbrev withRuns : (b w l : List ℤ) → Judgement
-withRuns b w l = judged kiln (runsOf b w l)
+withRuns b w l = judged kiln (threeRuns b w l)
 
 -- 1: a byte short, a byte too many, the version (byte 532), a run too short
 not-whole : judged (take 539 kiln) kilnRuns ∷ judged (kiln ++ (0 ∷ [])) kilnRuns ∷ judged (set kiln 532 3) kilnRuns

@@ -8,3 +8,6 @@ pub mod Limits
 pub mod Links
 -- version 2 files: circuits with a factor of their own, and what 1 and 4 refuse
 pub mod Subsea
+-- edition 2: damaged forms of its case, and a case with every fault mended one after the other
+pub mod Backgrounds
+pub mod MendedBoth

@@ -6,8 +6,9 @@ use Prim.Native.Nat.{ℕ}
 use Prim.Native.String.{String}
 use lib.IntN.{ℤ, pos, negℤ}
 use lib.ListN.{replicate, set}
+use Rattle.meaning.specs.declared.Edition.the-variants.{First}
 use Rattle.meaning.specs.Text.{text}
-use Rattle.meaning.specs.Study.{Circuit, Study, Runs, runsOf}
+use Rattle.meaning.specs.Study.{Circuit, Study, Runs, threeRuns}
 use Rattle.meaning.specs.declared.Background.the-variants.{YearRound}
 use Rattle.meaning.specs.declared.System.{System}
 use Rattle.meaning.specs.declared.System.the-variants.{Base, Wider, Local}
@@ -42,6 +43,7 @@ studyOf reference circuits =
         overhead132 = 1000;
         cable132 = 1000;
         reference = reference;
+        edition = First;
         revenue = 10000000000;
       };
       nodes =
@@ -59,7 +61,7 @@ high =
 
 abbrev highRuns : Runs
 highRuns =
-    runsOf
+    threeRuns
     (pos 2000000000000000000 ∷ pos 1000000000000000000 ∷ pos 0 ∷ replicate 4 (negℤ (pos 20000000000000)) ++ (replicate 2 (pos 100000000000000) ++ replicate 4 (pos 20000000000000)))
     (pos 10000000000000000 ∷ replicate 12 (pos 0))
     (pos 10000000000000000 ∷ pos 10000000000000000 ∷ replicate 11 (pos 0))
@@ -77,7 +79,7 @@ low =
 
 abbrev lowRuns : Runs
 lowRuns =
-    runsOf
+    threeRuns
     (pos 0 ∷ negℤ (pos 1000000000000000000) ∷ negℤ (pos 1999900000000000000) ∷ replicate 4 (negℤ (pos 2000000000000000000)) ++ (replicate 2 (negℤ (pos 100000000000000)) ++ replicate 4 (pos 20000000000000)))
     (pos 0 ∷ replicate 6 (negℤ (pos 10000000000000000)) ++ replicate 6 (pos 0))
     (pos 0 ∷ pos 0 ∷ replicate 5 (negℤ (pos 10000000000000000)) ++ replicate 6 (pos 0))

@@ -4,7 +4,7 @@ use mathlib.Core.List.{List, [], _∷_}
 use Prim.Native.Nat.{_*_, _-_}
 use lib.IntN.{pos}
 use lib.ListN.{set}
-use Rattle.meaning.specs.Study.{Station, Runs, runsOf}
+use Rattle.meaning.specs.Study.{Station, Runs, threeRuns}
 use Rattle.meaning.specs.File.{studyOf}
 use Rattle.meaning.specs.declared.Background.the-variants.{YearRound}
 use Rattle.meaning.specs.declared.System.the-variants.{Base}
@@ -27,7 +27,7 @@ half-income = refl
 -- ---- 13 after 7 and before 8: KILN with interconnectors alone, and potential 1 at the reference
 abbrev linked : List Station → Judgement
 linked stations =
-    let runs : Runs = runsOf (set kilnBase 2 (pos 1)) kilnWider kilnLocal in
+    let runs : Runs = threeRuns (set kilnBase 2 (pos 1)) kilnWider kilnLocal in
     judged (fileOf (kilnWith stations) runs) runs
 
 -- too little TEC; enough, all of type 3; the same beside 0 kW that would pay; and beside 1 kW that pays

@@ -4,8 +4,9 @@ use mathlib.Core.List.{List, [], _∷_}
 use Prim.Native.Nat.{ℕ}
 use lib.IntN.{ℤ, pos}
 use lib.ListN.{set, replicate}
+use Rattle.meaning.specs.declared.Edition.the-variants.{First}
 use Rattle.meaning.specs.declared.Settings.{Settings}
-use Rattle.meaning.specs.Study.{Node, Circuit, Station, Runs, runsOf}
+use Rattle.meaning.specs.Study.{Node, Circuit, Station, Runs, threeRuns}
 use Rattle.meaning.specs.declared.Background.the-variants.{YearRound}
 use Rattle.meaning.specs.declared.System.the-variants.{Base, Wider, Local}
 use Rattle.meaning.specs.declared.Refusal.the-variants.{BadFile, BadSetting, BadNode, BadCircuit, BadStation, Unreached, BadTotal, BadNumber, Unbalanced, MissesTooHigh, ShortBuffer, NoChargeableTec}
@@ -33,6 +34,7 @@ lostReference = record {
   overhead132 = 1000;
   cable132 = 1000;
   reference = 4;
+  edition = First;
   revenue = 100000;
 }
 
@@ -95,14 +97,14 @@ local₈ = lifted local₉
 -- a case in a buffer of 5 bytes
 abbrev answer : Settings → List Node → List Circuit → List Station → (b w l : List ℤ) → Answer
 answer settings nodes circuits stations b w l =
-    let runs : Runs = runsOf b w l in
+    let runs : Runs = threeRuns b w l in
     settle (fileOf (record { settings = settings; nodes = nodes; circuits = circuits; stations = stations }) runs) runs (replicate 5 7) .answer
 
 abbrev inFive : (b w l : List ℤ) → Answer
 inFive b w l = answer kilnSettings kilnNodes kilnCircuits kilnStations b w l
 
 -- the same with version 3 (byte 532)
-version : (let runs : Runs = runsOf base₈ wider₈ local₈ in
+version : (let runs : Runs = threeRuns base₈ wider₈ local₈ in
     settle (set (fileOf (record { settings = lostReference; nodes = nameless; circuits = unknownEnd; stations = repeated }) runs) 532 3) runs (replicate 5 7) .answer)
     ≡ Refused BadFile
 unfolding opened

@@ -16,8 +16,7 @@ use Rattle.meaning.specs.Rows.{all}
 use Rattle.meaning.specs.Network.{Network}
 use Rattle.meaning.specs.Proposal.{potential, flow, miss, missSum}
 use Rattle.meaning.proofs.Says.{Says, agree, says-as, says-le, says-all, _also_}
-use Rattle.flows.specs.declared.Case.{Case}
-use Rattle.flows.specs.Flows.{number, netIn, inRanges, measured, missesLow}
+use Rattle.flows.specs.Flows.{number, netOf, inRanges, measured, missesLow}
 use Rattle.flows.specs.Turns.{missSize, sizeAt}
 
 -- ---- what a miss is made of, in range
@@ -89,9 +88,9 @@ module _ (p q : ℤ) (x : ℕ) (flow offset : ℤ) where
       go false e = absurd (omega (arith, size-out e))
 
 -- ---- the sum of the misses
-module _ (k : Case) (offset run : List ℤ) where
+module _ (n : ℕ) (first second x : List ℕ) (offset run : List ℤ) where
   abbrev N : Network
-  N = netIn k run
+  N = netOf n 0 first second x run
 
   abbrev sizes : ℕ
   sizes = sum (N .circuits) (sizeAt N offset run)
@@ -110,7 +109,7 @@ module _ (k : Case) (offset run : List ℤ) where
   all-ranged = says-all (N .circuits) (λ c. (λ e. e, λ e. e))
 
   -- as far as it is added, it decides
-  decided : leb sizes 100000000 ≡ missesLow k offset run
+  decided : leb sizes 100000000 ≡ missesLow n first second x offset run
   unfolding missesLow
   decided =
       agree (leb sizes 100000000) _ {P = AllRanged × (misses ≤ 100000000)}
@@ -120,13 +119,18 @@ module _ (k : Case) (offset run : List ℤ) where
       ranged : sizes ≤ 100000000 → AllRanged
       ranged h c l = low-size _ _ _ _ _ (omega (arith, sum-item (N .circuits) c (sizeAt N offset run) l))
 
-  pub too-high : (c total : ℕ) → c ≤ N .circuits → total ≡ sum c (sizeAt N offset run) → 100000000 < total → false ≡ missesLow k offset run
+  pub too-high : (c total : ℕ) → c ≤ N .circuits → total ≡ sum c (sizeAt N offset run) → 100000000 < total → false ≡ missesLow n first second x offset run
   too-high c total h e l = sym (lt-leb sizes 100000000 (omega (arith, sum-part c (N .circuits) (sizeAt N offset run) h))) ∙ decided
 
-  pub all-low : (c total : ℕ) → c ≡ N .circuits → total ≡ sum c (sizeAt N offset run) → total ≤ 100000000 → true ≡ missesLow k offset run
+  pub all-low : (c total : ℕ) → c ≡ N .circuits → total ≡ sum c (sizeAt N offset run) → total ≤ 100000000 → true ≡ missesLow n first second x offset run
   all-low c total h e l = sym (le-leb sizes 100000000 (omega (arith, ap (λ i. sum i (sizeAt N offset run)) h))) ∙ decided
 
-  -- ---- what a caller learns, of numbers in their ranges
-  pub misses-are : ((c : ℕ) → c < N .circuits → Ranged (potential run (N .first c)) (potential run (N .second c)) (N .x c) (flow N run c) (number offset c)) → missesLow k offset run ≡ leb misses 100000000
-  unfolding missesLow
-  misses-are h = rw (all-ranged .1 (λ c l. says-ranged _ _ _ _ _ .1 (h c l))) refl
+-- ---- what a caller learns, of numbers in their ranges
+module _ (n reference : ℕ) (first second x : List ℕ) (offset run : List ℤ) where
+  abbrev whole : Network
+  whole = netOf n reference first second x run
+
+  pub misses-are : ((c : ℕ) → c < whole .circuits → Ranged (potential run (whole .first c)) (potential run (whole .second c)) (whole .x c) (flow whole run c) (number offset c))
+      → missesLow n first second x offset run ≡ leb (missSum whole (number offset) (potential run) (flow whole run)) 100000000
+  unfolding missesLow missSum miss
+  misses-are h = rw (all-ranged n first second x offset run .1 (λ c l. says-ranged _ _ _ _ _ .1 (h c l))) refl

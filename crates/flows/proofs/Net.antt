@@ -1,7 +1,7 @@
 -- 9: what flows out of each node less what flows in, kept up circuit by circuit.
 use mathlib.Core.Path.{_≡_, refl, sym, _∙_, ap, ap₂}
 use mathlib.Core.Bool.{Bool, true, false, cond}
-use mathlib.Core.List.{List}
+use mathlib.Core.List.{List, []}
 use Prim.Native.Nat.{ℕ, _+_, _≤_, _<_}
 use native.Mathlib.Decide.{ℕ-discrete, decLe}
 use native.Mathlib.Omega.{arith}
@@ -14,13 +14,13 @@ use mir.Syntax.{w64}
 use mir.Val.{SFits}
 use Rattle.integers.specs.Numbers.{Σ}
 use Rattle.meaning.specs.Rows.{rows}
+use Rattle.meaning.specs.Network.{Network}
 use Rattle.meaning.specs.Proposal.{flow, flowOut, flowIn}
 use Rattle.meaning.proofs.Rows.{rows-at, rows-same, length-rows}
 use Rattle.integers.proofs.Core.{Z}
 use Rattle.integers.proofs.Laws.{add-zero, abs-add, abs-sub, sfits-abs}
 use Rattle.integers.proofs.Sum.{Σ-zero, Σ-more, Σ-bound, Σ-same}
-use Rattle.flows.specs.declared.Case.{Case}
-use Rattle.flows.specs.Flows.{number, netIn, carried, netFlow, netFlows}
+use Rattle.flows.specs.Flows.{number, netOf, carried, netFlow, netFlows}
 use Rattle.flows.specs.Turns.{added, Addable}
 
 -- ---- a flow, or none
@@ -141,20 +141,27 @@ netted-none first second f = record {
 }
 
 -- after the last
-module _ (k : Case) (run : List ℤ) where
-  abbrev pub carriedIn : ℕ → ℤ
-  carriedIn c = carried (flow (netIn k run) run c)
+module _ (n : ℕ) (first second : List ℕ) (run : List ℤ) where
+  abbrev N : Network
+  N = netOf n 0 first second [] run
 
-  pub netted-all : (m : ℕ) (net : List ℤ) → m ≡ netIn k run .circuits → Netted (netIn k run .first) (netIn k run .second) carriedIn m net → net ≡ netFlows k run
+  abbrev pub carriedIn : ℕ → ℤ
+  carriedIn c = carried (flow N run c)
+
+  pub netted-all : (m : ℕ) (net : List ℤ) → m ≡ N .circuits → Netted (N .first) (N .second) carriedIn m net → net ≡ netFlows n first second run
   unfolding netFlows flowOut flowIn
   netted-all m net e t =
-      ext-getD (pos 0) net (netFlows k run) (t .long ∙ sym (length-rows 256 (netFlow (netIn k run) carriedIn)))
-      (λ v l. let h : v < 256 = omega (arith, t .long) in t .at v h ∙ ap (λ c. netTo (netIn k run .first) (netIn k run .second) carriedIn v c) e ∙ sym (rows-at (pos 0) 256 (netFlow (netIn k run) carriedIn) v h))
+      ext-getD (pos 0) net (netFlows n first second run) (t .long ∙ sym (length-rows 256 (netFlow N carriedIn)))
+      (λ v l. let h : v < 256 = omega (arith, t .long) in t .at v h ∙ ap (λ c. netTo (N .first) (N .second) carriedIn v c) e ∙ sym (rows-at (pos 0) 256 (netFlow N carriedIn) v h))
 
-  -- ---- what a caller learns, of flows in their range
-  pub net-flows-are : ((c : ℕ) → c < netIn k run .circuits → natAbs (flow (netIn k run) run c) ≤ 100000000000000) → netFlows k run ≡ rows 256 (netFlow (netIn k run) (flow (netIn k run) run))
+-- ---- what a caller learns, of flows in their range
+module _ (n reference : ℕ) (first second x : List ℕ) (run : List ℤ) where
+  abbrev whole : Network
+  whole = netOf n reference first second x run
+
+  pub net-flows-are : ((c : ℕ) → c < whole .circuits → natAbs (flow whole run c) ≤ 100000000000000) → netFlows n first second run ≡ rows 256 (netFlow whole (flow whole run))
   unfolding netFlows flowOut flowIn
-  net-flows-are h = rows-same 256 _ _ (λ v l. ap₂ _-ℤ_ (side v (netIn k run .first)) (side v (netIn k run .second)))
+  net-flows-are h = rows-same 256 _ _ (λ v l. ap₂ _-ℤ_ (side v (whole .first)) (side v (whole .second)))
     where
-      side : (v : ℕ) (end : ℕ → ℕ) → Σ (netIn k run .circuits) (λ c. only (end c) v (carriedIn c)) ≡ Σ (netIn k run .circuits) (λ c. only (end c) v (flow (netIn k run) run c))
-      side v end = Σ-same (netIn k run .circuits) _ _ (λ c l. ap (only (end c) v) (sym (carried-all _ (le-leb _ _ (h c l)))))
+      side : (v : ℕ) (end : ℕ → ℕ) → Σ (whole .circuits) (λ c. only (end c) v (carried (flow whole run c))) ≡ Σ (whole .circuits) (λ c. only (end c) v (flow whole run c))
+      side v end = Σ-same (whole .circuits) _ _ (λ c l. ap (only (end c) v) (sym (carried-all _ (le-leb _ _ (h c l)))))

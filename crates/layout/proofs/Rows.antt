@@ -11,12 +11,12 @@ use Rattle.meaning.specs.declared.Section.{Section}
 use Rattle.meaning.specs.declared.Settings.{Settings}
 use Rattle.meaning.specs.Rows.{rows}
 use Rattle.meaning.specs.Study.{Study, noNode, noCircuit, noStation}
-use Rattle.meaning.specs.File.{u32, sections, recordSize, sectionCount, section, rowAt, table, settingsAt, nodeAt, circuitAt, stationAt, fileWhole, studyOf, runsIn}
+use Rattle.meaning.specs.File.{u32, editionAt, sections, recordSize, sectionCount, section, rowAt, table, settingsAt, nodeAt, circuitAt, stationAt, fileWhole, studyOf, runsIn}
 use Rattle.meaning.proofs.Rows.{length-rows}
 use Rattle.meaning.proofs.Says.{_also_, says-lt, says-true}
 use Rattle.meaning.proofs.Frame.{ReadFrom, table-read, row-inside, circuits-most}
 use Rattle.meaning.proofs.Whole.{whole-file}
-use Rattle.layout.proofs.FileLaws.{start-zero}
+use Rattle.layout.proofs.FileLaws.{sections-least, start-zero}
 use Rattle.layout.specs.Readable.{readable, noSection, sectionIn}
 use Rattle.layout.specs.Frame.{countsOf}
 use Rattle.layout.specs.declared.RowCounts.{RowCounts}
@@ -66,17 +66,17 @@ module _ (file : List ℕ) where
   S = readable file
 
   -- ---- sections
-  pub in-whole : (s : ℕ) → s < sections → fileWhole file ≡ true → sectionIn file s ≡ section file s
+  pub in-whole : (s : ℕ) → s < sections (editionAt file) → fileWhole file ≡ true → sectionIn file s ≡ section file s
   unfolding sectionIn
-  in-whole s h e = rw (lt-ltb s sections h, e) refl
+  in-whole s h e = rw (lt-ltb s (sections (editionAt file)) h, e) refl
 
   -- what holds of a whole file's section, and of one without rows
-  either-section : (P : Section → Type 0) (s : ℕ) → (s < sections → fileWhole file ≡ true → P (section file s)) → P noSection → P (sectionIn file s)
+  either-section : (P : Section → Type 0) (s : ℕ) → (s < sections (editionAt file) → fileWhole file ≡ true → P (section file s)) → P noSection → P (sectionIn file s)
   unfolding sectionIn
-  either-section P s w n = go (ltb s sections && fileWhole file) refl
+  either-section P s w n = go (ltb s (sections (editionAt file)) && fileWhole file) refl
     where
-      go : (b : Bool) → (ltb s sections && fileWhole file) ≡ b → P (cond b (section file s) noSection)
-      go true e = let t = (says-lt {m = s} {n = sections} also says-true (fileWhole file)) .0 e in w (t .0) (t .1)
+      go : (b : Bool) → (ltb s (sections (editionAt file)) && fileWhole file) ≡ b → P (cond b (section file s) noSection)
+      go true e = let t = (says-lt {m = s} {n = sections (editionAt file)} also says-true (fileWhole file)) .0 e in w (t .0) (t .1)
       go false e = n
 
   -- a node's row lies inside the file
@@ -87,25 +87,30 @@ module _ (file : List ℕ) where
       (λ l. absurd (omega arith)))
 
   -- ---- tables: a row is read at its place
+  -- every edition has the tables' sections
+  table-in : (s : ℕ) → s < 7 → sectionIn file s ≡ cond (fileWhole file) (section file s) noSection
+  unfolding sectionIn
+  table-in s h = rw (lt-ltb s (sections (editionAt file)) (omega (arith, sections-least (editionAt file)))) refl
+
   nodes-read : S .nodes ≡ table (nodeAt file) (sectionIn file 1)
-  unfolding readable studyOf section sectionCount u32 sectionIn rows
-  nodes-read = go (fileWhole file)
+  unfolding readable studyOf section sectionCount u32 rows
+  nodes-read = rw (table-in 1 (omega arith)) (go (fileWhole file))
     where
       go : (b : Bool) → studyOf (cond b file []) .nodes ≡ table (nodeAt file) (cond b (section file 1) noSection)
       go true = refl
       go false = refl
 
   circuits-read : S .circuits ≡ table (circuitAt file (sectionIn file 2 .size)) (sectionIn file 2)
-  unfolding readable studyOf section sectionCount u32 sectionIn rows
-  circuits-read = go (fileWhole file)
+  unfolding readable studyOf section sectionCount u32 rows
+  circuits-read = rw (table-in 2 (omega arith)) (go (fileWhole file))
     where
       go : (b : Bool) → studyOf (cond b file []) .circuits ≡ table (circuitAt file (cond b (section file 2) noSection .size)) (cond b (section file 2) noSection)
       go true = refl
       go false = refl
 
   stations-read : S .stations ≡ table (stationAt file) (sectionIn file 3)
-  unfolding readable studyOf section sectionCount u32 sectionIn rows
-  stations-read = go (fileWhole file)
+  unfolding readable studyOf section sectionCount u32 rows
+  stations-read = rw (table-in 3 (omega arith)) (go (fileWhole file))
     where
       go : (b : Bool) → studyOf (cond b file []) .stations ≡ table (stationAt file) (cond b (section file 3) noSection)
       go true = refl
@@ -132,12 +137,12 @@ module _ (file : List ℕ) where
   unfolding section
   stations-few e = rw e (either-section (λ t. t .count ≤ 512) 3 (λ h e. whole-file file e .stations) (omega arith))
 
-  -- a solution: 4 base, 5 wider, 6 local
+  -- a solution: 4 base, 5 wider, 6 local, and of edition 2 peak's base 7 and wider 8
   pub solution-few : (k : ℕ) {t : Section} → t ≡ sectionIn file (4 + k) → t .count ≤ 768
   unfolding section
   solution-few k e = rw e (either-section (λ t. t .count ≤ 768) (4 + k)
       (λ h e. let w = whole-file file e in
-      omega (arith, w .solutions (4 + k) (record { least = omega arith; most = omega arith }), w .nodes .most, circuits-most file (runsIn file) w)) (omega arith))
+      omega (arith, w .solutions (4 + k) (omega arith) h, w .nodes .most, circuits-most file (runsIn file) w)) (omega arith))
 
   -- ---- what the loops over the rows ask
   pub few : {r : RowCounts} → r ≡ countsOf (readable file) → Few r

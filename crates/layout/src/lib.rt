@@ -22,6 +22,10 @@ pub const WIDER: usize = 5;
 
 pub const LOCAL: usize = 6;
 
+pub const PEAK_BASE: usize = 7;
+
+pub const PEAK_WIDER: usize = 8;
+
 // Rows of each table.
 pub struct RowCounts {
     pub nodes: usize,
@@ -29,26 +33,24 @@ pub struct RowCounts {
     pub stations: usize,
 }
 
-// Whether the file is not refused as 1: length, version, counts, chain, the settings' zero.
+// Whether the file is not refused as 1: length, version and edition, counts, chain.
 pub fn whole(file: &[u8]) -> bool
     ensures { λ r. ⌜ r ≡ fileWhole (now (file .entry)) ⌝ }
 {
     if file.len() < 128 {
         return false;
     }
-    let version = trailer::version(file);
-    ((1 <= version) & (version <= 2))
+    trailer::known(trailer::version(file), fields::u32_at(file, 52))
         & (fields::u32_at(file, file.len() - 4) == file.len())
         & trailer::counted(file)
         & trailer::chained(file)
-        & (fields::u32_at(file, 52) == 0)
 }
 
-// A section of the file. One that is not whole has no section, and no file one past the last.
+// A section of the file. One that is not whole has no section, and no file one past the last of its edition.
 pub fn section(file: &[u8], number: usize) -> Section
     ensures { λ r. ⌜ r ≡ sectionIn (now (file .entry)) number ⌝ }
 {
-    if (number < trailer::SECTIONS) & whole(file) {
+    if (number < trailer::sections(file)) & whole(file) {
         return trailer::section(file, number);
     }
     Section {

@@ -1,6 +1,7 @@
 // The settings' section, which begins the file.
 ghost use mathlib.Core.Path.{_≡_};
 ghost use Rattle.meaning.specs.File.{settingsAt};
+use crate::trailer;
 use meaning::Settings;
 
 // What stands there.
@@ -21,6 +22,7 @@ pub fn settings(file: &[u8]) -> Settings
         overhead132: fields::u32_at(file, 40),
         cable132: fields::u32_at(file, 44),
         reference: fields::u32_at(file, 48),
+        edition: trailer::edition(file),
         revenue: fields::u64_at(file, 56),
     }
 }

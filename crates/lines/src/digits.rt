@@ -37,32 +37,24 @@ pub fn put_number(out: &mut [u8; WIDTH], at: usize, z: i64) -> usize
     put_natural(out, at + 1, n)
 }
 
-// A line with a space and a number more.
-pub fn with_number(line: Line, z: i64) -> Line
-    requires { ⌜ line .len + 21 ≤ width ⌝ }
-    ensures { λ r. ⌜ Adds 21 line (text " " ++ decimal z) r ⌝ }
-{
-    let mut bytes = line.bytes;
-    let len = put_number(&mut bytes, line.len, z);
-    Line {
-        bytes: bytes,
-        len: len,
-    }
-}
-
-// A line with these numbers more, and its end.
+// A line with these numbers more, and its end: all written in one place, since a line by value is copied.
 pub fn with_numbers(line: Line, numbers: &[i64]) -> Line
     requires { ⌜ line .len + 21 * length (now numbers) + 1 ≤ width ⌝ }
     ensures { λ r. ⌜ Adds (21 * length (now (numbers .entry)) + 1) line (ends (decimals (now (numbers .entry)))) r ⌝ }
 {
-    let mut longer = line;
+    let mut bytes = line.bytes;
+    let mut len = line.len;
     let mut i: usize = 0;
     while i < numbers.len() {
         let z = numbers[i];
-        longer = with_number(longer, z);
+        len = put_number(&mut bytes, len, z);
         i += 1;
     }
-    with_byte(longer, b'\n')
+    bytes[len] = b'\n';
+    Line {
+        bytes: bytes,
+        len: len + 1,
+    }
 }
 
 // A line with a space and a count more.

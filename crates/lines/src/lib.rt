@@ -5,12 +5,15 @@ mod words;
 ghost use mathlib.Core.Path.{_≡_};
 ghost use lib.ListN.{take};
 ghost use Rattle.meaning.specs.Name.{unpadded};
-ghost use Rattle.meaning.specs.Text.{line};
+ghost use Prim.Native.Nat.{_+_, _≤_};
+ghost use Rattle.meaning.specs.Text.{decimals, ends, line};
+ghost use Rattle.meaning.specs.declared.Edition.the-variants.{First, Second};
 ghost use Rattle.meaning.specs.Sheet.{constantFields, letter, zoneNumbers, zoneFields, nodeLine, remainderFields};
 ghost use Rattle.meaning.specs.Outcome.{refusedFields};
-ghost use Rattle.lines.specs.Making.{Holds, width};
+ghost use Rattle.lines.specs.Making.{Adds, Holds, width};
 use digits::with_count;
 use digits::with_numbers;
+use meaning::Edition;
 use meaning::LocalFigures;
 use meaning::Metres;
 use meaning::MicroPerKw;
@@ -23,7 +26,7 @@ use words::with_name;
 use words::with_word;
 
 // Room for any line: a zone's is the longest.
-const WIDTH: usize = 128;
+pub const WIDTH: usize = 192;
 
 // The text of a line, zeros behind it, and its length.
 pub struct Line {
@@ -31,12 +34,15 @@ pub struct Line {
     pub len: usize,
 }
 
-// The line of C.
-pub fn constant_line(c: Metres) -> Line
-    ensures { λ r. ⌜ Holds 23 (line (constantFields (c .0))) r ⌝ }
+// The line of C: in edition 2 peak's before year round's.
+pub fn constant_line(edition: Edition, c: Metres, peak_c: Metres) -> Line
+    ensures { λ r. ⌜ Holds 44 (line (constantFields edition (c .0) («peak_c» .0))) r ⌝ }
 {
     let word = line_of(b"C");
-    with_numbers(word, &[c.0])
+    match edition {
+        Edition::First => with_numbers(word, &[c.0]),
+        Edition::Second => with_numbers(word, &[peak_c.0, c.0]),
+    }
 }
 
 // The letter of a side.
@@ -49,16 +55,57 @@ fn letter_of(side: Side) -> Line
     }
 }
 
-// The numbers of a zone's line.
-fn zone_numbers(residual: MicroPerKw, z: ZoneFigures) -> [i64; 5]
-    ensures { λ r. ⌜ r ≡ zoneNumbers (residual .0) z ⌝ }
+// The numbers of a zone's line, by edition: in the second peak's three first.
+fn first_numbers(residual: MicroPerKw, z: ZoneFigures) -> [i64; 5]
+    ensures { λ r. ⌜ r ≡ zoneNumbers First (residual .0) z ⌝ }
 {
-    [z.metres.0, z.after_c.0, z.tariff.0, residual.0, z.total.0]
+    let y = z.year_round;
+    [y.metres.0, y.after_c.0, y.tariff.0, residual.0, z.total.0]
+}
+
+fn second_numbers(residual: MicroPerKw, z: ZoneFigures) -> [i64; 8]
+    ensures { λ r. ⌜ r ≡ zoneNumbers Second (residual .0) z ⌝ }
+{
+    let p = z.peak;
+    let y = z.year_round;
+    [
+        p.metres.0,
+        p.after_c.0,
+        p.tariff.0,
+        y.metres.0,
+        y.after_c.0,
+        y.tariff.0,
+        residual.0,
+        z.total.0,
+    ]
+}
+
+// A line with these numbers more, and its end.
+fn with_figures(line: Line, edition: Edition, residual: MicroPerKw, z: ZoneFigures) -> Line
+    requires { ⌜ line .len + 169 ≤ width ⌝ }
+    ensures { λ r. ⌜ Adds 169 line (ends (decimals (zoneNumbers edition (residual .0) z))) r ⌝ }
+{
+    match edition {
+        Edition::First => {
+            let numbers = first_numbers(residual, z);
+            with_numbers(line, &numbers)
+        }
+        Edition::Second => {
+            let numbers = second_numbers(residual, z);
+            with_numbers(line, &numbers)
+        }
+    }
 }
 
 // The line of a zone: `-` with no kilowatts.
-pub fn zone_line(side: Side, zone: usize, residual: MicroPerKw, z: ZoneFigures) -> Line
-    ensures { λ r. ⌜ Holds width (line (zoneFields side zone (residual .0) z)) r ⌝ }
+pub fn zone_line(
+    edition: Edition,
+    side: Side,
+    zone: usize,
+    residual: MicroPerKw,
+    z: ZoneFigures,
+) -> Line
+    ensures { λ r. ⌜ Holds width (line (zoneFields edition side zone (residual .0) z)) r ⌝ }
 {
     let lettered = letter_of(side);
     let numbered = with_count(lettered, zone);
@@ -66,8 +113,7 @@ pub fn zone_line(side: Side, zone: usize, residual: MicroPerKw, z: ZoneFigures) 
     if w.0 == 0 {
         return with_word(numbered, b" -\n");
     }
-    let numbers = zone_numbers(residual, z);
-    with_numbers(numbered, &numbers)
+    with_figures(numbered, edition, residual, z)
 }
 
 // The line of a node, whose name stands at the front of these bytes: none without TEC.

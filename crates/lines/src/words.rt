@@ -24,13 +24,17 @@ pub fn with_word(line: Line, word: &[u8]) -> Line
     requires { ⌜ line .len + length (now word) ≤ width ⌝ }
     ensures { λ r. ⌜ Adds (length (now (word .entry))) line (now (word .entry)) r ⌝ }
 {
-    let mut longer = line;
+    let at = line.len;
+    let mut bytes = line.bytes;
     let mut i: usize = 0;
     while i < word.len() {
-        longer = with_byte(longer, word[i]);
+        bytes[at + i] = word[i];
         i += 1;
     }
-    longer
+    Line {
+        bytes: bytes,
+        len: at + i,
+    }
 }
 
 // A line of one word.

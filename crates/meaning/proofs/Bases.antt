@@ -1,29 +1,47 @@
--- Two bases with the same settings, zones and nodes have the same figures.
+-- Two bases with the same settings, zones and nodes have the same figures. Zones of a background are asked for where the edition has it.
 use mathlib.Core.Path.{_≡_, refl, _∙_, ap}
-use Prim.Native.Nat.{ℕ, _<_}
+use Prim.Native.Nat.{ℕ, suc, _<_}
 use lib.IntN.{ℤ}
 use Rattle.integers.specs.Numbers.{Σ}
 use Rattle.integers.proofs.Sum.{Σ-same}
+use Rattle.meaning.specs.declared.Background.{Background}
+use Rattle.meaning.specs.declared.Background.the-variants.{YearRound, Peak}
 use Rattle.meaning.specs.declared.Side.{Side}
 use Rattle.meaning.specs.declared.Side.the-variants.{Generation, Demand}
-use Rattle.meaning.specs.Charging.{Basis, C, localTariff, localIncome, localFigures, priced}
+use Rattle.meaning.specs.declared.Settings.{Settings}
+use Rattle.meaning.specs.Editions.{Of}
+use Rattle.meaning.specs.Charging.{noWider, Basis, Priced, C, localTariff, localIncome, localFigures, priced, afterC, zoneTariff, incomeIn, widerFigures, rest, residual, remainder, zoneTotal, zoneFigures}
+use Rattle.meaning.proofs.Sides.{over-backgrounds, of-peak}
 
 pub record Alike (B B′ : Basis) : Type 0 where
   pub settings : B .settings ≡ B′ .settings
-  pub side : (side : Side) → B .side side ≡ B′ .side side
+  pub side : (b : Background) → Of b (B .settings .edition) → (side : Side) → B .side b side ≡ B′ .side b side
+  pub payers : (side : Side) → B .payers side ≡ B′ .payers side
   pub nodes : B .nodes ≡ B′ .nodes
   pub tec : (v : ℕ) → v < B .nodes → B .tec v ≡ B′ .tec v
   pub paying : (v : ℕ) → v < B .nodes → B .paying v ≡ B′ .paying v
   pub local : (v : ℕ) → v < B .nodes → B .local v ≡ B′ .local v
+
+-- the same of what prices a side
+pub record AlikePriced (S S′ : Priced) : Type 0 where
+  pub edition : S .edition ≡ S′ .edition
+  pub side : S .side ≡ S′ .side
+  pub zones : (b : Background) → Of b (S .edition) → S .zones b ≡ S′ .zones b
+  pub c : (b : Background) → Of b (S .edition) → S .c b ≡ S′ .c b
+  pub payers : S .payers ≡ S′ .payers
+  pub constant : S .constant ≡ S′ .constant
+  pub factor : S .factor ≡ S′ .factor
+  pub target : S .target ≡ S′ .target
+  pub local : S .local ≡ S′ .local
 
 summed : {m n : ℕ} {f g : ℕ → ℤ} → m ≡ n → ((v : ℕ) → v < m → f v ≡ g v) → Σ m f ≡ Σ n g
 summed {m = m} {f = f} {g = g} e h = Σ-same m f g h ∙ ap (λ (i : ℕ). Σ i g) e
 
 -- whichever of a node's numbers a figure is made of
 module _ {B B′ : Basis} (a : Alike B B′) where
-  pub C-same : C B ≡ C B′
+  pub C-same : (b : Background) → Of b (B .settings .edition) → C B b ≡ C B′ b
   unfolding C
-  C-same = rw (a .settings, a .side Generation, a .side Demand) refl
+  C-same b h = rw (a .side b h Generation, a .side b h Demand, a .settings) refl
 
   tariff-same : (v : ℕ) → v < B .nodes → localTariff B v ≡ localTariff B′ v
   unfolding localTariff
@@ -34,10 +52,60 @@ module _ {B B′ : Basis} (a : Alike B B′) where
   income-same Generation = summed (a .nodes) (λ v h. simp (tariff-same v h, a .tec v h, a .paying v h))
   income-same Demand = refl
 
-  pub priced-same : (side : Side) → priced B side ≡ priced B′ side
+  pub priced-same : (side : Side) → AlikePriced (priced B side) (priced B′ side)
   unfolding priced
-  priced-same side = rw (income-same side, C-same, a .side side, a .settings) refl
+  priced-same side =
+      let e = a .settings in
+      record {
+        edition = ap (λ (s : Settings). s .edition) e;
+        side = refl;
+        zones = λ b h. a .side b h side;
+        c = C-same;
+        payers = a .payers side;
+        constant = ap (λ (s : Settings). s .constant) e;
+        factor = ap (λ (s : Settings). s .«wider_factor») e;
+        target = rw (e) refl;
+        local = income-same side;
+      }
 
   pub line-same : (v : ℕ) → v < B .nodes → localFigures B v ≡ localFigures B′ v
   unfolding localFigures
   line-same v h = simp (tariff-same v h, a .tec v h, a .paying v h, a .local v h)
+
+-- ---- the figures of a side
+module _ {S S′ : Priced} (a : AlikePriced S S′) where
+  after-alike : (b : Background) → Of b (S .edition) → (zone : ℕ) → afterC S b zone ≡ afterC S′ b zone
+  unfolding afterC
+  after-alike b h zone = rw (a .side, a .c b h, a .zones b h) refl
+
+  tariff-alike : (b : Background) → Of b (S .edition) → (zone : ℕ) → zoneTariff S b zone ≡ zoneTariff S′ b zone
+  unfolding zoneTariff
+  tariff-alike b h zone = rw (after-alike b h zone, a .constant, a .factor) refl
+
+  wider-alike : (b : Background) → Of b (S .edition) → (zone : ℕ) → widerFigures S b zone ≡ widerFigures S′ b zone
+  unfolding widerFigures
+  wider-alike b h zone = rw (after-alike b h zone, tariff-alike b h zone, a .zones b h) refl
+
+  income-alike : (b : Background) → Of b (S .edition) → incomeIn S b ≡ incomeIn S′ b
+  income-alike b h = rw (a .zones b h) (Σ-same (S′ .zones b .count) _ _ (λ k l. rw (tariff-alike b h (suc k)) refl))
+
+  rest-alike : rest S ≡ rest S′
+  unfolding rest
+  rest-alike = simp (over-backgrounds _ _ (a .edition) income-alike, a .target, a .local)
+
+  pub residual-alike : residual S ≡ residual S′
+  unfolding residual
+  residual-alike = simp (rest-alike, a .payers, a .zones YearRound tt)
+
+  pub remainder-alike : remainder S ≡ remainder S′
+  unfolding remainder
+  remainder-alike = simp (rest-alike, a .payers, a .zones YearRound tt)
+
+  total-alike : (zone : ℕ) → zoneTotal S zone ≡ zoneTotal S′ zone
+  unfolding zoneTotal
+  total-alike zone = simp (over-backgrounds _ _ (a .edition) (λ b h. tariff-alike b h zone), tariff-alike YearRound tt zone, residual-alike)
+
+  pub zone-alike : (zone : ℕ) → zoneFigures S zone ≡ zoneFigures S′ zone
+  unfolding zoneFigures
+  zone-alike zone =
+      rw (a .zones YearRound tt, wider-alike YearRound tt zone, of-peak noWider (a .edition) (λ h. wider-alike Peak h zone), total-alike zone) refl

@@ -9,9 +9,10 @@ use Rattle.integers.proofs.Sum.{Σ-same, Σ-raised}
 use Rattle.integers.proofs.Div.{nearest-error}
 use Rattle.meaning.specs.Study.{Runs}
 use Rattle.meaning.specs.Grid.{Grid}
+use Rattle.meaning.specs.declared.Background.{Background}
 use Rattle.meaning.specs.declared.Side.{Side}
 use Rattle.meaning.specs.declared.Side.the-variants.{Generation, Demand}
-use Rattle.meaning.specs.Figures.{zones, zonePaying, totalPaying, overZones, zonalMetres, C, afterC, basis}
+use Rattle.meaning.specs.Figures.{zones, zonePayingIn, totalPayingIn, overZones, zonalMetres, C, afterC, basis}
 use Rattle.meaning.specs.Charging as charging
 use Rattle.meaning.specs.Demands.{Balances}
 
@@ -24,19 +25,19 @@ settled p q k l a b c h = rw (same p q k l a b c) h
         → pos 2 *ℤ (pos q *ℤ (a -ℤ c *ℤ pos l) -ℤ pos p *ℤ (b +ℤ c *ℤ pos k)) ≡ pos 2 *ℤ (pos q *ℤ a -ℤ pos p *ℤ b -ℤ c *ℤ pos (p * k + q * l))
     same p q k l a b c = simp Z (omega arith)
 
-module _ (G : Grid) (runs : Runs) (all : (side : Side) → sum (zones G side) (λ k. zonePaying G side (suc k)) ≡ totalPaying G side) where
+module _ (G : Grid) (runs : Runs) (b : Background) (all : (side : Side) → sum (zones G side) (λ k. zonePayingIn G b side (suc k)) ≡ totalPayingIn G b side) where
   moved : (side : Side) (c : ℤ)
-      → overZones G side (λ zone. zonalMetres G runs side zone +ℤ c) ≡ overZones G side (zonalMetres G runs side) +ℤ c *ℤ pos (totalPaying G side)
+      → overZones G b side (λ zone. zonalMetres G runs b side zone +ℤ c) ≡ overZones G b side (zonalMetres G runs b side) +ℤ c *ℤ pos (totalPayingIn G b side)
   moved side c =
-      Σ-raised (λ k. zonalMetres G runs side (suc k)) c (λ k. zonePaying G side (suc k)) (zones G side)
-      ∙ ap (λ (m : ℕ). overZones G side (zonalMetres G runs side) +ℤ c *ℤ pos m) (all side)
+      Σ-raised (λ k. zonalMetres G runs b side (suc k)) c (λ k. zonePayingIn G b side (suc k)) (zones G side)
+      ∙ ap (λ (m : ℕ). overZones G b side (zonalMetres G runs b side) +ℤ c *ℤ pos m) (all side)
 
   demand-moved : (c : ℤ)
-      → overZones G Demand (λ zone. zonalMetres G runs Demand zone -ℤ c) ≡ overZones G Demand (zonalMetres G runs Demand) -ℤ c *ℤ pos (totalPaying G Demand)
+      → overZones G b Demand (λ zone. zonalMetres G runs b Demand zone -ℤ c) ≡ overZones G b Demand (zonalMetres G runs b Demand) -ℤ c *ℤ pos (totalPayingIn G b Demand)
   demand-moved c =
-      Σ-same (zones G Demand) _ _ (λ k h. lowered (zonalMetres G runs Demand (suc k)) c (zonePaying G Demand (suc k)))
+      Σ-same (zones G Demand) _ _ (λ k h. lowered (zonalMetres G runs b Demand (suc k)) c (zonePayingIn G b Demand (suc k)))
       ∙ moved Demand (negℤ c)
-      ∙ raised (overZones G Demand (zonalMetres G runs Demand)) c (totalPaying G Demand)
+      ∙ raised (overZones G b Demand (zonalMetres G runs b Demand)) c (totalPayingIn G b Demand)
     where
       lowered : (m c : ℤ) (w : ℕ) → (m -ℤ c) *ℤ pos w ≡ (m +ℤ negℤ c) *ℤ pos w
       lowered m c w = simp Z (omega arith)
@@ -44,13 +45,13 @@ module _ (G : Grid) (runs : Runs) (all : (side : Side) → sum (zones G side) (�
       raised : (a c : ℤ) (w : ℕ) → a +ℤ negℤ c *ℤ pos w ≡ a -ℤ c *ℤ pos w
       raised a c w = simp Z (omega arith)
 
-  pub balances : 1 ≤ G .settings .p * totalPaying G Generation + (1000 - G .settings .p) * totalPaying G Demand → Balances G runs
+  pub balances : 1 ≤ G .settings .p * totalPayingIn G b Generation + (1000 - G .settings .p) * totalPayingIn G b Demand → Balances G runs b
   unfolding charging.afterC charging.C charging.priced basis
   balances h =
       let p = G .settings .p in
-      let a = overZones G Demand (zonalMetres G runs Demand) in
-      let b = overZones G Generation (zonalMetres G runs Generation) in
-      let k = totalPaying G Generation in
-      let l = totalPaying G Demand in
-      rw (demand-moved (C G runs), moved Generation (C G runs))
-      (settled p (1000 - p) k l a b (C G runs) (nearest-error (pos (1000 - p) *ℤ a -ℤ pos p *ℤ b) (p * k + (1000 - p) * l) h))
+      let d = overZones G b Demand (zonalMetres G runs b Demand) in
+      let g = overZones G b Generation (zonalMetres G runs b Generation) in
+      let k = totalPayingIn G b Generation in
+      let l = totalPayingIn G b Demand in
+      rw (demand-moved (C G runs b), moved Generation (C G runs b))
+      (settled p (1000 - p) k l d g (C G runs b) (nearest-error (pos (1000 - p) *ℤ d -ℤ pos p *ℤ g) (p * k + (1000 - p) * l) h))

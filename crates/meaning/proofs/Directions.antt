@@ -14,17 +14,22 @@ use Rattle.meaning.specs.Name.{Name, sameName}
 use Rattle.meaning.specs.Rows.{lowest}
 use Rattle.meaning.specs.declared.Settings.{Settings}
 use Rattle.meaning.specs.Study.{Node, Circuit, Study, Runs, node, circuit, noCircuit}
+use Rattle.meaning.specs.declared.Edition.{Edition}
+use Rattle.meaning.specs.declared.Edition.the-variants.{First}
+use Rattle.meaning.specs.declared.Background.{Background}
+use Rattle.meaning.specs.declared.Background.the-variants.{YearRound, Peak}
+use Rattle.meaning.specs.Editions.{sameBackground}
 use Rattle.meaning.specs.declared.System.{System}
 use Rattle.meaning.specs.declared.System.the-variants.{Base, Wider, Local}
 use Rattle.meaning.specs.declared.Direction.{Direction}
 use Rattle.meaning.specs.declared.Direction.the-variants.{Idle, Forward, Backward, InDoubt}
-use Rattle.meaning.specs.Grid.{gridOf, place}
+use Rattle.meaning.specs.Grid.{Grid, gridOf, place}
 use Rattle.meaning.specs.Network.{networkOf}
-use Rattle.meaning.specs.Direction.{overheadFactor, cableFactor, expandedLength, direction, signed, signedLength}
-use Rattle.meaning.specs.Systems.{baseFlow, lengthOf, offset}
+use Rattle.meaning.specs.Direction.{overheadFactor, cableFactor, expandedLength, direction, countsFor, background, signed, signedLength}
+use Rattle.meaning.specs.Systems.{baseFlow, counting, backgroundOf, lengthOf, offset}
 use Rattle.meaning.specs.Conditions.{HasLength}
 use Rattle.meaning.specs.Demands.{SameDirections}
-use Rattle.meaning.specs.OnlyDirections.{factorsOf, namesOf, Own, Holds, sameCircuits, sameNames, sameFactors, sameReference, sameDirections}
+use Rattle.meaning.specs.OnlyDirections.{factorsOf, namesOf, Own, BothFirst, Holds, sameCircuits, sameNames, sameFactors, sameReference, sameDirections}
 use Rattle.meaning.proofs.Says.{Says, says-eq}
 use Rattle.meaning.proofs.Rows.{lowest-same, rows-at, length-rows}
 
@@ -77,6 +82,7 @@ onlyFactors l =
       overhead132 = getD l 4 0;
       cable132 = getD l 5 0;
       reference = 0;
+      edition = First;
       revenue = 0;
     }
 
@@ -125,13 +131,39 @@ in-table circuits c h = go (decLt c (length circuits))
         past : (c < length circuits → ⊥) → length circuits ≤ c
         past k = omega arith
 
+no-length-of : (S : Study) (runs : Runs) (c : ℕ) → (HasLength (circuit (S .circuits) c) → ⊥) → lengthOf (gridOf S) runs c ≡ pos 0
+unfolding lengthOf signedLength gridOf
+no-length-of S runs c h = no-length (S .settings) (circuit (S .circuits) c) _ h
+
+-- what of a length stands in a background's wider solution
+abbrev partIn : Background → Grid → Runs → ℕ → ℤ
+partIn b G runs c = cond (sameBackground b (backgroundOf G runs c)) (lengthOf G runs c) (pos 0)
+
+nothing : (b : Bool) {z : ℤ} → z ≡ pos 0 → cond b z (pos 0) ≡ pos 0
+nothing true e = e
+nothing false e = refl
+
 -- by a test: the one where it holds, the other where it does not
 cond-same : {P : Type 0} (b : Bool) {x x′ y y′ : ℤ} → Says b P → (P → x ≡ x′) → ((P → ⊥) → y ≡ y′) → cond b x y ≡ cond b x′ y′
 cond-same true s e f = e (s .0 refl)
 cond-same false s e f = f (λ p. true≢false (sym (s .1 p)))
 
--- ---- so the offsets of a system are said by circuits, factors and the directions of its circuits
-module _ (S S′ : Study) (runs runs′ : Runs) (rows : Holds sameCircuits S S′ runs runs′) (scales : Holds sameFactors S S′ runs runs′) where
+-- ---- a background counts where a circuit has a length; in edition 1 all count for the one
+abbrev pub SameBackgrounds : (S S′ : Study) (runs runs′ : Runs) → Type 0
+SameBackgrounds S S′ runs runs′ = (c : ℕ) → c < length (S .circuits) → HasLength (circuit (S .circuits) c) → backgroundOf (gridOf S) runs c ≡ backgroundOf (gridOf S′) runs′ c
+
+pub first-background : (G : Grid) (runs : Runs) (c : ℕ) → G .settings .edition ≡ First → backgroundOf G runs c ≡ YearRound
+unfolding counting countsFor background
+first-background G runs c first =
+    ap (λ (e : Edition). background (countsFor e (circuit (G .circuits) c .localMark) (baseFlow G runs YearRound c) (baseFlow G runs Peak c))) first
+
+pub first-backgrounds : (S S′ : Study) (runs runs′ : Runs) → BothFirst S S′ → SameBackgrounds S S′ runs runs′
+unfolding gridOf
+first-backgrounds S S′ runs runs′ first c h k = first-background (gridOf S) runs c (first .0) ∙ sym (first-background (gridOf S′) runs′ c (first .1))
+
+-- ---- so the offsets of a system are said by circuits, factors and the backgrounds and directions of its circuits
+module _ (S S′ : Study) (runs runs′ : Runs) (rows : Holds sameCircuits S S′ runs runs′) (scales : Holds sameFactors S S′ runs runs′)
+    (grounds : SameBackgrounds S S′ runs runs′) where
   same-mark : (c : ℕ) → circuit (S .circuits) c .localMark ≡ circuit (S′ .circuits) c .localMark
   same-mark c = ap (λ (l : List Circuit). circuit l c .localMark) rows
 
@@ -142,13 +174,27 @@ module _ (S S′ : Study) (runs runs′ : Runs) (rows : Holds sameCircuits S S�
   same-length Kind headed c kind =
       length-same (S .settings) (S′ .settings) (circuit (S .circuits) c) _ _ (expanded-same (S .settings) (S′ .settings) (circuit (S .circuits) c) scales)
       (λ h. headed c (in-table (S .circuits) c h) (h, kind))
-      ∙ ap (λ (l : List Circuit). signedLength (S′ .settings) (circuit l c) (baseFlow (gridOf S′) runs′ c)) rows
+      ∙ ap (λ (l : List Circuit). signedLength (S′ .settings) (circuit l c) (baseFlow (gridOf S′) runs′ (backgroundOf (gridOf S′) runs′ c) c)) rows
+
+  -- and in the background that they count for
+  same-part : (b : Background) → SameDirections (λ c. HasLength c × Own (Wider b) c) S S′ runs runs′ → (c : ℕ) → Own (Wider b) (circuit (S .circuits) c)
+      → partIn b (gridOf S) runs c ≡ partIn b (gridOf S′) runs′ c
+  same-part b headed c own = go (decLe 1 (circuit (S .circuits) c .overhead + circuit (S .circuits) c .cable))
+    where
+      go : Dec (HasLength (circuit (S .circuits) c)) → partIn b (gridOf S) runs c ≡ partIn b (gridOf S′) runs′ c
+      go (yes h) =
+          ap₂ (λ (d : Background) (z : ℤ). cond (sameBackground b d) z (pos 0)) (grounds c (in-table (S .circuits) c h) h)
+          (same-length (Own (Wider b)) headed c own)
+      go (no h) =
+          let z = no-length-of S runs c h in
+          nothing (sameBackground b (backgroundOf (gridOf S) runs c)) z
+          ∙ sym (nothing (sameBackground b (backgroundOf (gridOf S′) runs′ c)) (sym (same-length (Own (Wider b)) headed c own) ∙ z))
 
   -- of its own circuits
   pub offset-own : (system : System) → SameDirections (λ c. HasLength c × Own system c) S S′ runs runs′ → offset (gridOf S) runs system ≡ offset (gridOf S′) runs′ system
   unfolding offset gridOf
   offset-own (Base b) headed = refl
-  offset-own (Wider b) headed = fun-ext (λ c. rw (sym (same-mark c)) (cond-same _ says-eq (same-length (Own (Wider b)) headed c) (λ m. refl)))
+  offset-own (Wider b) headed = fun-ext (λ c. rw (sym (same-mark c)) (cond-same _ says-eq (same-part b headed c) (λ m. refl)))
   offset-own Local headed = fun-ext (λ c. rw (sym (same-mark c)) (cond-same _ says-eq (λ e. refl) (same-length (Own Local) headed c)))
 
   -- and so of all

@@ -52,6 +52,7 @@ module _ (file : List ℕ) (runs : Runs) where
 
   -- ---- all conditions of a case together
   pub case-met : AllMet (caseOrder file runs) ↔ Acceptable file runs
+  unfolding gridOf
   case-met =
       let tables = both-met (rowsOrder S) (gridOrder (gridOf S) ++ proposalsOrder (gridOf S) runs) in
       let rest = both-met (gridOrder (gridOf S)) (proposalsOrder (gridOf S) runs) in (

@@ -5,9 +5,10 @@ use Prim.Native.Nat.{ℕ, _*_, _-_}
 use Prim.Native.String.{String}
 use lib.IntN.{ℤ, pos, negℤ}
 use lib.ListN.{length, replicate, set}
+use Rattle.meaning.specs.declared.Edition.the-variants.{First}
 use Rattle.meaning.specs.Text.{text}
 use Rattle.meaning.specs.declared.Settings.{Settings}
-use Rattle.meaning.specs.Study.{Node, Circuit, Station, Study, Runs, runsOf}
+use Rattle.meaning.specs.Study.{Node, Circuit, Station, Study, Runs, threeRuns}
 use Rattle.meaning.specs.File.{studyOf}
 use Rattle.meaning.specs.declared.Background.the-variants.{YearRound}
 use Rattle.meaning.specs.declared.System.the-variants.{Wider}
@@ -37,6 +38,7 @@ kilnSettings =
       overhead132 = 1000;
       cable132 = 1000;
       reference = 3;
+      edition = First;
       revenue = 100000;
     }
 
@@ -73,7 +75,7 @@ abbrev pub kilnLocal : List ℤ
 kilnLocal = replicate 6 (pos 0)
 
 abbrev pub kilnRuns : Runs
-kilnRuns = runsOf kilnBase kilnWider kilnLocal
+kilnRuns = threeRuns kilnBase kilnWider kilnLocal
 
 -- the 540 bytes
 abbrev pub kiln : List ℕ
@@ -116,7 +118,7 @@ unfolding opened
 kiln-remainders = (refl, refl)
 
 -- 8: the reference's potential is 1 in the wider run
-ground : judged kiln (runsOf kilnBase (set kilnWider 2 (pos 1)) kilnLocal) ≡ Stops (BadNumber (Wider YearRound) 3)
+ground : judged kiln (threeRuns kilnBase (set kilnWider 2 (pos 1)) kilnLocal) ≡ Stops (BadNumber (Wider YearRound) 3)
 unfolding opened
 ground = refl
 

@@ -13,6 +13,7 @@ pub mod Walk
 pub mod Networks
 pub mod Plants
 pub mod Shares
+pub mod Generation
 pub mod Sides
 pub mod Bases
 pub mod Sheets
@@ -30,10 +31,14 @@ pub mod Versions
 pub mod Twins
 -- 02, request 12: what distances are said by
 pub mod Directions
--- the definitions computed: the starred rows, case KILN and its damaged forms, interconnectors
+-- the definitions computed: the starred rows, case KILN and its damaged forms, interconnectors, a case of edition 2
 pub mod Write
 pub mod Opened
 pub mod Starred
 pub mod Kiln
 pub mod Small
 pub mod Links
+pub mod Both
+-- 02, request 5: edition 1 is 01's, and what is promised of backgrounds
+pub mod Present
+pub mod Backgrounds

@@ -5,8 +5,9 @@ use Prim.Native.Nat.{ℕ}
 use Prim.Native.String.{String}
 use lib.IntN.{pos}
 use lib.ListN.{replicate}
+use Rattle.meaning.specs.declared.Edition.the-variants.{First}
 use Rattle.meaning.specs.Text.{text}
-use Rattle.meaning.specs.Study.{Station, Study, runsOf}
+use Rattle.meaning.specs.Study.{Station, Study, threeRuns}
 use Rattle.meaning.specs.Outcome.{prints}
 use Rattle.meaning.proofs.Write.{name, fileOf}
 use Rattle.meaning.proofs.Opened.{opened}
@@ -50,6 +51,7 @@ towed =
         overhead132 = 1000;
         cable132 = 1000;
         reference = 2;
+        edition = First;
         revenue = 1;
       };
       nodes = nodeOf "A" 0 ∷ record { name = name "B"; generationZone = 2; demandZone = 1; demand = 802 } ∷ [];
@@ -59,7 +61,7 @@ towed =
 
 -- the local tariff is 10 x 1,007 x 1,000 / 100,000, 100.7, so 101; 730,000 less 101 x 300 is 699,700, which is 2,332 x 300 + 100; 270,000 is 336 x 802 + 528
 towed-prints : prints (fileOf towed
-    (runsOf
+    (threeRuns
     (pos 401000000 ∷ pos 0 ∷ pos 401000000 ∷ [])
     (replicate 3 (pos 0))
     (pos 10000000000 ∷ pos 0 ∷ pos 0 ∷ [])))

@@ -11,14 +11,14 @@ use Rattle.integers.proofs.Core.{Z}
 use Rattle.integers.proofs.Laws.{neg-neg, neg-mul}
 use Rattle.integers.proofs.Sum.{Σ-same, Σ-neg}
 use Rattle.integers.proofs.Div.{floor-exact, nearest-error, nearest-mirror, nearest-moved}
-use Rattle.meaning.specs.declared.Background.the-variants.{YearRound}
+use Rattle.meaning.specs.declared.Background.{Background}
 use Rattle.meaning.specs.declared.System.the-variants.{Wider, Local}
 use Rattle.meaning.specs.declared.Side.{Side}
 use Rattle.meaning.specs.declared.Side.the-variants.{Generation, Demand}
 use Rattle.meaning.specs.Study.{Metres, Runs}
 use Rattle.meaning.specs.Grid.{Grid}
 use Rattle.meaning.specs.Charging.{metres, tariff}
-use Rattle.meaning.specs.Figures.{widerMetres, localMetres, distance, totalPaying, overZones, target, zonalMetres, C, afterC, zoneTariff, localTariff, localIncome, basis}
+use Rattle.meaning.specs.Figures.{widerMetres, localMetres, distance, totalPayingIn, overZones, target, zonalMetres, C, afterC, zoneTariff, localTariff, localIncome, basis}
 use Rattle.meaning.specs.Charging as charging
 use Rattle.meaning.specs.Distances.{weightIn}
 use Rattle.meaning.specs.Mirror.{NearestMirrors, halfUp, NegativeHalf, OnlyNegativeHalvesMove, nodal, zonal, centre, zoneTariffs, localTariffs, FiguresMove, average, AveragesMirror, WeighAlike, ZonesMirror, other, Exchanged, MirrorImage, SidesMirror, MoneyMirrors}
@@ -64,35 +64,35 @@ averages-mirror n m w =
     ap (λ (z : ℤ). nearest z (sum n w)) (Σ-same n _ _ (λ v h. neg-mul (m v) (pos (w v))) ∙ Σ-neg n (λ v. m v *ℤ pos (w v)))
     ∙ nearest-mirror (Σ n (λ v. m v *ℤ pos (w v))) (sum n w)
 
-demand-average : (G : Grid) (runs : Runs) (zone : ℕ)
-    → zonalMetres G runs Demand zone ≡ negℤ (average (length (G .nodes)) (distance runs Generation) (weightIn G Demand zone))
+demand-average : (G : Grid) (runs : Runs) (b : Background) (zone : ℕ)
+    → zonalMetres G runs b Demand zone ≡ negℤ (average (length (G .nodes)) (distance runs b Generation) (weightIn G Demand zone))
 unfolding distance
-demand-average G runs zone =
-    zonal-average G runs Demand zone ∙ averages-mirror (length (G .nodes)) (widerMetres runs) (weightIn G Demand zone)
+demand-average G runs b zone =
+    zonal-average G runs b Demand zone ∙ averages-mirror (length (G .nodes)) (widerMetres runs b) (weightIn G Demand zone)
 
 -- ---- a generation zone and a demand zone
-zone-mirror : (G : Grid) (runs : Runs) (g d : ℕ) → WeighAlike G g d → zonalMetres G runs Demand d ≡ negℤ (zonalMetres G runs Generation g)
-zone-mirror G runs g d h =
-    demand-average G runs d
-    ∙ ap negℤ (average-same (length (G .nodes)) (distance runs Generation) (distance runs Generation) _ _ (λ v k. refl) (λ v k. sym (h v k)))
-    ∙ ap negℤ (sym (zonal-average G runs Generation g))
+module _ (G : Grid) (runs : Runs) (g d : ℕ) (h : WeighAlike G g d) (b : Background) where
+  zone-mirror : zonalMetres G runs b Demand d ≡ negℤ (zonalMetres G runs b Generation g)
+  zone-mirror =
+      demand-average G runs b d
+      ∙ ap negℤ (average-same (length (G .nodes)) (distance runs b Generation) (distance runs b Generation) _ _ (λ v k. refl) (λ v k. sym (h v k)))
+      ∙ ap negℤ (sym (zonal-average G runs b Generation g))
 
-centre-mirror : (G : Grid) (runs : Runs) (g d : ℕ) → WeighAlike G g d → afterC G runs Demand d ≡ negℤ (afterC G runs Generation g)
-unfolding charging.afterC charging.priced basis
-centre-mirror G runs g d h = rw (zone-mirror G runs g d h) (moved (zonalMetres G runs Generation g) (C G runs))
-  where
-    moved : (m c : ℤ) → negℤ m -ℤ c ≡ negℤ (m +ℤ c)
-    moved m c = simp Z (omega arith)
+  centre-mirror : afterC G runs b Demand d ≡ negℤ (afterC G runs b Generation g)
+  unfolding charging.afterC charging.priced basis
+  centre-mirror = rw (zone-mirror) (moved (zonalMetres G runs b Generation g) (C G runs b))
+    where
+      moved : (m c : ℤ) → negℤ m -ℤ c ≡ negℤ (m +ℤ c)
+      moved m c = simp Z (omega arith)
+
+  price-mirror : zoneTariff G runs b Demand d ≡ negℤ (zoneTariff G runs b Generation g)
+  unfolding charging.zoneTariff charging.priced basis
+  price-mirror =
+      ap (λ (m : Metres). tariff m (G .settings .constant) (G .settings .«wider_factor»)) centre-mirror
+      ∙ tariff-mirror (afterC G runs b Generation g) (G .settings .constant) (G .settings .«wider_factor»)
 
 pub zones-mirror : ZonesMirror
-unfolding charging.zoneTariff charging.priced basis
-zones-mirror G runs g d h = record {
-  metres = zone-mirror G runs g d h;
-  withC = centre-mirror G runs g d h;
-  tariffs =
-      ap (λ (m : Metres). tariff m (G .settings .constant) (G .settings .«wider_factor»)) (centre-mirror G runs g d h)
-      ∙ tariff-mirror (afterC G runs Generation g) (G .settings .constant) (G .settings .«wider_factor»);
-}
+zones-mirror G runs g d h = record { metres = zone-mirror G runs g d h; withC = centre-mirror G runs g d h; tariffs = price-mirror G runs g d h }
 
 -- ---- a case and its mirror image
 -- step 8 over plain numbers: p and p′ are 1000 together
@@ -110,48 +110,50 @@ turned-C p p′ k l a b e =
     joined p q k l = omega arith
 
 module _ (G G′ : Grid) (runs runs′ : Runs) (x : Exchanged G G′ runs runs′) where
-  distance-turned : (side : Side) (v : ℕ) → v < length (G .nodes) → distance runs′ side v ≡ distance runs (other side) v
-  unfolding distance widerMetres
-  distance-turned Generation v h = ap metres (x .potentials (Wider YearRound) tt v h) ∙ metres-mirror _
-  distance-turned Demand v h = ap (λ (z : ℤ). negℤ (metres z)) (x .potentials (Wider YearRound) tt v h) ∙ ap negℤ (metres-mirror _) ∙ neg-neg _
-
-  corresponds : Corresponds other G G′ runs runs′
-  corresponds = record {
-    nodeCount = x .nodeCount;
-    zoneCounts = x .zoneCounts;
-    zonesOf = x .zonesOf;
-    weights = x .weights;
-    payers = x .payers;
-    distances = distance-turned;
-  }
-
-  zonal-turned : (side : Side) (zone : ℕ) → zonalMetres G′ runs′ side zone ≡ zonalMetres G runs (other side) zone
-  zonal-turned = zonal-same other G G′ runs runs′ corresponds
-
-  over-turned : (side : Side) → overZones G′ side (zonalMetres G′ runs′ side) ≡ overZones G (other side) (zonalMetres G runs (other side))
-  over-turned side = over-same other G G′ runs runs′ corresponds side _ _ (zonal-turned side)
-
-  total-turned : (side : Side) → totalPaying G′ side ≡ totalPaying G (other side)
-  total-turned = total-same other G G′ runs runs′ corresponds
-
-  C-turned : C G′ runs′ ≡ negℤ (C G runs)
-  unfolding charging.C basis
-  C-turned =
-      rw (over-turned Demand, over-turned Generation, total-turned Demand, total-turned Generation)
-      (turned-C (G .settings .p) (G′ .settings .p) (totalPaying G Generation) (totalPaying G Demand) (overZones G Demand (zonalMetres G runs Demand))
-      (overZones G Generation (zonalMetres G runs Generation)) (x .shares))
-
-  after-turned : (side : Side) (zone : ℕ) → afterC G′ runs′ side zone ≡ afterC G runs (other side) zone
-  unfolding charging.afterC charging.priced basis
-  after-turned Generation zone = rw (zonal-turned Generation zone, C-turned) refl
-  after-turned Demand zone = rw (zonal-turned Demand zone, C-turned, neg-neg (C G runs)) refl
-
   same-tariff : (m m′ : Metres) (c c′ f f′ : ℕ) → m ≡ m′ → c ≡ c′ → f ≡ f′ → tariff m c f ≡ tariff m′ c′ f′
   same-tariff m m′ c c′ f f′ a b d = rw (a, b, d) refl
 
-  tariff-turned : (side : Side) (zone : ℕ) → zoneTariff G′ runs′ side zone ≡ zoneTariff G runs (other side) zone
-  unfolding charging.zoneTariff charging.priced basis
-  tariff-turned side zone = same-tariff _ _ _ _ _ _ (after-turned side zone) (x .constants) (x .widerFactors)
+  module _ (b : Background) where
+    distance-turned : (side : Side) (v : ℕ) → v < length (G .nodes) → distance runs′ b side v ≡ distance runs b (other side) v
+    unfolding distance widerMetres
+    distance-turned Generation v h = ap metres (x .potentials (Wider b) tt v h) ∙ metres-mirror _
+    distance-turned Demand v h = ap (λ (z : ℤ). negℤ (metres z)) (x .potentials (Wider b) tt v h) ∙ ap negℤ (metres-mirror _) ∙ neg-neg _
+
+    corresponds : Corresponds other b G G′ runs runs′
+    corresponds = record {
+      nodeCount = x .nodeCount;
+      zoneCounts = x .zoneCounts;
+      zonesOf = x .zonesOf;
+      weights = x .weights;
+      payers = x .payers;
+      payersIn = x .payersIn b;
+      distances = distance-turned;
+    }
+
+    zonal-turned : (side : Side) (zone : ℕ) → zonalMetres G′ runs′ b side zone ≡ zonalMetres G runs b (other side) zone
+    zonal-turned = zonal-same other b G G′ runs runs′ corresponds
+
+    over-turned : (side : Side) → overZones G′ b side (zonalMetres G′ runs′ b side) ≡ overZones G b (other side) (zonalMetres G runs b (other side))
+    over-turned side = over-same other b G G′ runs runs′ corresponds side _ _ (zonal-turned side)
+
+    total-turned : (side : Side) → totalPayingIn G′ b side ≡ totalPayingIn G b (other side)
+    total-turned = total-same other b G G′ runs runs′ corresponds
+
+    C-turned : C G′ runs′ b ≡ negℤ (C G runs b)
+    unfolding charging.C basis
+    C-turned =
+        rw (over-turned Demand, over-turned Generation, total-turned Demand, total-turned Generation)
+        (turned-C (G .settings .p) (G′ .settings .p) (totalPayingIn G b Generation) (totalPayingIn G b Demand) (overZones G b Demand (zonalMetres G runs b Demand))
+        (overZones G b Generation (zonalMetres G runs b Generation)) (x .shares))
+
+    after-turned : (side : Side) (zone : ℕ) → afterC G′ runs′ b side zone ≡ afterC G runs b (other side) zone
+    unfolding charging.afterC charging.priced basis
+    after-turned Generation zone = rw (zonal-turned Generation zone, C-turned) refl
+    after-turned Demand zone = rw (zonal-turned Demand zone, C-turned, neg-neg (C G runs b)) refl
+
+    tariff-turned : (side : Side) (zone : ℕ) → zoneTariff G′ runs′ b side zone ≡ zoneTariff G runs b (other side) zone
+    unfolding charging.zoneTariff charging.priced basis
+    tariff-turned side zone = same-tariff _ _ _ _ _ _ (after-turned side zone) (x .constants) (x .widerFactors)
 
   local-turned : (v : ℕ) → v < length (G .nodes) → localMetres runs′ v ≡ negℤ (localMetres runs v)
   unfolding localMetres
@@ -187,21 +189,22 @@ local-none G G′ runs runs′ e e′ Demand = sym e
 pub money-mirrors : MoneyMirrors
 money-mirrors G G′ runs runs′ m =
     let x = m .exchanged in
+    let e = x .editions in
     let c = corresponds G G′ runs runs′ x in
     let prices = tariff-turned G G′ runs runs′ x in
     let targets = target-turned G G′ (x .shares) (m .revenues) in
     let locals = local-none G G′ runs runs′ (m .noLocal) (m .noLocal′) in
     record {
-      residuals = residual-same other G G′ runs runs′ c prices targets locals;
-      totals = zone-total-same other G G′ runs runs′ c prices targets locals;
-      remainders = remainder-same other G G′ runs runs′ c prices targets locals;
+      residuals = residual-same other G G′ runs runs′ e (λ b h. c b) (λ b h. prices b) targets locals;
+      totals = zone-total-same other G G′ runs runs′ e (λ b h. c b) (λ b h. prices b) targets locals;
+      remainders = remainder-same other G G′ runs runs′ e (λ b h. c b) (λ b h. prices b) targets locals;
     }
 
 -- ---- what moved, figure by figure: each is the nearest of its division
 pub figures-move : FiguresMove
 unfolding metres zonalMetres charging.C charging.zoneTariff charging.localTariff tariff charging.priced basis
 figures-move G runs z d f (nodal s _ v) p = only-negative-halves-move _ _ p
-figures-move G runs z d f (zonal side zone) p = only-negative-halves-move _ _ p
-figures-move G runs z d f centre p = only-negative-halves-move _ _ p
-figures-move G runs z d f (zoneTariffs side zone) p = only-negative-halves-move _ _ p
+figures-move G runs z d f (zonal b side zone) p = only-negative-halves-move _ _ p
+figures-move G runs z d f (centre b) p = only-negative-halves-move _ _ p
+figures-move G runs z d f (zoneTariffs b side zone) p = only-negative-halves-move _ _ p
 figures-move G runs z d f (localTariffs v) p = only-negative-halves-move _ _ p

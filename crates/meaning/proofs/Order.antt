@@ -6,11 +6,13 @@ use mathlib.Core.Bool.{Bool, true, false, not, true≢false}
 use mathlib.Core.Option.{Option}
 use Prim.Native.Nat.{ℕ, suc}
 use Rattle.meaning.specs.Rows.{failing}
+use Rattle.meaning.specs.declared.Edition.{Edition}
+use Rattle.meaning.specs.declared.Edition.the-variants.{First, Second}
 use Rattle.meaning.specs.declared.Refusal.{Refusal}
 use Rattle.meaning.specs.declared.Judgement.{Judgement}
 use Rattle.meaning.specs.declared.Judgement.the-variants.{Passes, Stops}
-use Rattle.meaning.specs.Answers.{_orElse_, unless, at}
-use Rattle.meaning.specs.Refusals.{Condition, whole, eachRow, Met, LowestUnmet, Unmet, AllMet, FirstUnmet}
+use Rattle.meaning.specs.Answers.{_orElse_, unless, at, inSecond}
+use Rattle.meaning.specs.Refusals.{Condition, whole, eachRow, onlySecond, Met, LowestUnmet, Unmet, AllMet, FirstUnmet}
 use Rattle.meaning.proofs.Rows.{Lowest, nothing, first, lowest-is, lowest-stops}
 use Rattle.meaning.proofs.Answers.{stops≢passes, stops-same, passes-rows, not-false}
 use Rattle.meaning.proofs.Says.{Says, says-not}
@@ -94,6 +96,12 @@ _before_ {a} {b} {cs} {ds} s t = go a s
 -- nothing is asked
 pub judges-none : Judges Passes []
 judges-none = record { passes = (λ e. tt, λ m. refl); stops = λ r. (λ e. absurd (stops≢passes (sym e)), λ f. absurd f) }
+
+-- what edition 2 alone asks
+pub judges-second : (e : Edition) {j : Judgement} {cs : List Condition} → Judges j cs → Judges (inSecond e j) (onlySecond e cs)
+unfolding inSecond
+judges-second First h = judges-none
+judges-second Second h = h
 
 -- a whole test
 pub judges-whole : {b : Bool} {P : Type 0} (r : Refusal) → Says b P → Judges (unless b r) (whole P r ∷ [])

@@ -1,5 +1,5 @@
--- Refusals 8 to 10 judge whether a proposal solves its system, and 11 whether a direction is in doubt.
-use mathlib.Core.Path.{_≡_, refl, sym, ap, subst}
+-- Refusals 8 to 10 judge whether a proposal solves its system, 15 whether a background is in doubt, and 11 whether a direction is.
+use mathlib.Core.Path.{_≡_, refl, sym, _∙_, ap, subst}
 use mathlib.Core.Logic.{_⊎_, inl, inr, ⊎-elim, _↔_, _≢_}
 use mathlib.Core.List.{List, [], _∷_, _++_, List·Memᴰ, List·Memᴰ·head, List·Memᴰ·tail, List·Memᴰ·not-nil, List·Memᴰ·cases-cons, List·Memᴰ·append-cases}
 use mathlib.Core.Bool.{Bool, true, false, not, cond, _&&_, _||_, true≢false}
@@ -10,22 +10,28 @@ use lib.Dec.{ltb, eqb, leb}
 use lib.IntN.{ℤ, pos, natAbs, _-ℤ_}
 use lib.ListN.{length, getD}
 use Rattle.integers.proofs.Core.{Z}
-use Rattle.meaning.specs.Study.{Runs, flowSystems, distanceSystems}
+use Rattle.meaning.specs.declared.Edition.{Edition}
+use Rattle.meaning.specs.declared.Edition.the-variants.{First, Second}
+use Rattle.meaning.specs.declared.Background.the-variants.{YearRound, Peak}
+use Rattle.meaning.specs.declared.Counting.{Counting}
+use Rattle.meaning.specs.declared.Counting.the-variants.{For, Doubtful}
+use Rattle.meaning.specs.Editions.{HasSystem, flowSystems, distanceSystems}
+use Rattle.meaning.specs.Study.{Runs, circuit}
 use Rattle.meaning.specs.declared.System.{System}
 use Rattle.meaning.specs.declared.Direction.{Direction}
 use Rattle.meaning.specs.declared.Direction.the-variants.{Idle, Forward, Backward, InDoubt}
 use Rattle.meaning.specs.declared.Judgement.{Judgement}
-use Rattle.meaning.specs.declared.Refusal.the-variants.{BadNumber, Unbalanced, MissesTooHigh, DirectionInDoubt}
+use Rattle.meaning.specs.declared.Refusal.the-variants.{BadNumber, Unbalanced, MissesTooHigh, DirectionInDoubt, BackgroundInDoubt}
 use Rattle.meaning.specs.Grid.{Grid}
 use Rattle.meaning.specs.Network.{Network, networkOf}
-use Rattle.meaning.specs.Direction.{direction, inDoubt, hasLength}
+use Rattle.meaning.specs.Direction.{inDoubt, countsFor, isDoubtful, hasLength}
 use Rattle.meaning.specs.Proposal.{flow, same, numberInRange, balanced, Proposed, rangeStage, balanceStage, missStage, systemStage}
-use Rattle.meaning.specs.Systems.{baseFlow, proposed, solutionStage, directionClear, directionStage, inOrder, ordered, proposalsStage}
-use Rattle.meaning.specs.Conditions.{SolvesSystem, NoDoubt}
-use Rattle.meaning.specs.Refusals.{SoundNumber, Balanced, MissesLow, Condition, whole, eachRow, AllMet, systemOrder, systemsOrder, directionOrder, proposalsOrder}
+use Rattle.meaning.specs.Systems.{baseFlow, counting, backgroundOf, heading, proposed, solutionStage, countingClear, countingStage, directionClear, directionStage, inOrder, ordered, proposalsStage}
+use Rattle.meaning.specs.Conditions.{SolvesSystem, Decided, NoDoubt}
+use Rattle.meaning.specs.Refusals.{SoundNumber, Balanced, MissesLow, Condition, whole, eachRow, AllMet, onlySecond, systemOrder, systemsOrder, countingOrder, directionOrder, proposalsOrder}
 use Rattle.meaning.proofs.Says.{Says, says-as, _also_, _either_, says-not, says-le, says-eq}
-use Rattle.meaning.proofs.Order.{Judges, _before_, judges-none, judges-whole, judges-rows}
-use Rattle.meaning.proofs.Systems.{listed}
+use Rattle.meaning.proofs.Order.{Judges, _before_, both-met, judges-none, judges-second, judges-whole, judges-rows}
+use Rattle.meaning.proofs.Systems.{judged-in, has-flow, has-distance}
 
 -- two numbers that differ by 0 are equal
 pub not-apart : (y z : ℤ) → natAbs (y -ℤ z) ≡ 0 → y ≡ z
@@ -109,7 +115,19 @@ module _ (N : Network) (ref : N .reference < N .nodes) (P : Proposed) where
       index : (i : ℕ) → N .nodes ≤ i → N .nodes + (i - N .nodes) ≡ i
       index i k = omega arith
 
--- ---- 11
+-- ---- 15 and 11
+says-doubtful : (k : Counting) → Says (isDoubtful k) (k ≡ Doubtful)
+unfolding isDoubtful
+says-doubtful (For b) = (λ e. absurd (true≢false (sym e)), λ e. ap isDoubtful e)
+says-doubtful Doubtful = (λ e. refl, λ e. refl)
+
+-- in edition 1 it is not
+pub first-decided : (G : Grid) (runs : Runs) (c : ℕ) → G .settings .edition ≡ First → counting G runs c ≢ Doubtful
+unfolding counting countsFor isDoubtful
+first-decided G runs c first e =
+    true≢false (sym (ap isDoubtful e)
+    ∙ ap (λ (e : Edition). isDoubtful (countsFor e (circuit (G .circuits) c .localMark) (baseFlow G runs YearRound c) (baseFlow G runs Peak c))) first)
+
 says-doubt : (d : Direction) → Says (inDoubt d) (d ≡ InDoubt)
 unfolding inDoubt
 says-doubt Idle = (λ e. absurd (true≢false (sym e)), λ e. ap inDoubt e)
@@ -118,13 +136,30 @@ says-doubt Backward = (λ e. absurd (true≢false (sym e)), λ e. ap inDoubt e)
 says-doubt InDoubt = (λ e. refl, λ e. refl)
 
 module _ (G : Grid) (runs : Runs) where
+  judge-counting : Judges (countingStage G runs) (countingOrder G runs)
+  unfolding countingStage countingClear hasLength
+  judge-counting =
+      judges-second (G .settings .edition)
+      (judges-rows (length (G .circuits)) BackgroundInDoubt (λ c. says-if says-le (says-not (says-doubtful (counting G runs c)))))
+
+  -- edition 2 alone asks it, and of edition 1 it holds
+  counting-met : AllMet (countingOrder G runs) ↔ ((c : ℕ) → c < length (G .circuits) → Decided G runs c)
+  counting-met = go (G .settings .edition) refl
+    where
+      go : (e : Edition) → G .settings .edition ≡ e
+          → AllMet (onlySecond e (eachRow (length (G .circuits)) (Decided G runs) BackgroundInDoubt ∷ [])) ↔ ((c : ℕ) → c < length (G .circuits) → Decided G runs c)
+      go First h = (λ m c l k. first-decided G runs c h, λ f. tt)
+      go Second h = (λ m. m .0, λ f. (f, tt))
+
   judge-direction : Judges (directionStage G runs) (directionOrder G runs)
   unfolding directionStage directionClear hasLength
-  judge-direction = judges-rows (length (G .circuits)) DirectionInDoubt (λ c. says-if says-le (says-not (says-doubt (direction (baseFlow G runs c)))))
+  judge-direction =
+      judges-rows (length (G .circuits)) (λ row. DirectionInDoubt (backgroundOf G runs (row - 1)) row)
+      (λ c. says-if says-le (says-not (says-doubt (heading G runs c))))
 
-  -- ---- 8 to 11: the three systems, and no doubt
+  -- ---- 8 to 11 and 15: the systems of the edition, and no doubt
   pub record Solved : Type 0 where
-    pub each : (system : System) → SolvesSystem (networkOf G) (proposed G runs system)
+    pub each : (system : System) → HasSystem (G .settings .edition) system → SolvesSystem (networkOf G) (proposed G runs system)
     pub clear : NoDoubt G runs
 
   module _ (ref : networkOf G .reference < networkOf G .nodes) where
@@ -140,19 +175,21 @@ module _ (G : Grid) (runs : Runs) where
 
     pub judge-proposals : Judges (proposalsStage G runs) (proposalsOrder G runs)
     unfolding proposalsStage ordered
-    judge-proposals = judge-systems flowSystems (judge-direction before λ _. judge-systems distanceSystems judges-none)
+    judge-proposals =
+        let e = G .settings .edition in
+        judge-systems (flowSystems e) (judge-counting before λ _. judge-direction before λ _. judge-systems (distanceSystems e) judges-none)
 
-    abbrev Of : System → Type 0
-    Of s = SolvesSystem (networkOf G) (proposed G runs s)
+    abbrev Solves : System → Type 0
+    Solves s = SolvesSystem (networkOf G) (proposed G runs s)
 
     -- what is asked of these systems is that each is solved
-    systems-met : (ss : List System) (rest : List Condition) → AllMet (systemsOrder G runs ss rest) ↔ ((s : System) → List·Memᴰ s ss → Of s) × AllMet rest
+    systems-met : (ss : List System) (rest : List Condition) → AllMet (systemsOrder G runs ss rest) ↔ ((s : System) → List·Memᴰ s ss → Solves s) × AllMet rest
     unfolding networkOf
     systems-met [] rest = (λ m. (λ s i. absurd (List·Memᴰ·not-nil i), m), λ p. p .1)
     systems-met (q ∷ ss) rest = (
       λ m.
           let h = systems-met ss rest .0 (m .1 .1 .1) in
-          (λ s i. ⊎-elim (λ e. subst Of (sym e) (of .0 (m .0, m .1 .0, m .1 .1 .0))) (h .0 s) (List·Memᴰ·cases-cons i), h .1),
+          (λ s i. ⊎-elim (λ e. subst Solves (sym e) (of .0 (m .0, m .1 .0, m .1 .1 .0))) (h .0 s) (List·Memᴰ·cases-cons i), h .1),
       λ p.
           let m = of .1 (p .0 q (List·Memᴰ·head refl)) in
           (m .0, (m .1, (m .2, systems-met ss rest .1 (λ s i. p .0 s (List·Memᴰ·tail i), p .1)))),
@@ -161,18 +198,31 @@ module _ (G : Grid) (runs : Runs) where
         of : ((i : ℕ) → i < length (G .nodes) + length (G .circuits) → SoundNumber (networkOf G) (proposed G runs q) i)
             × ((v : ℕ) → v < length (G .nodes) → Balanced (networkOf G) (proposed G runs q) v)
             × MissesLow (networkOf G) (proposed G runs q)
-            ↔ Of q
+            ↔ Solves q
         of = system-met (networkOf G) ref (proposed G runs q)
 
-    -- 11, and the systems behind it
+    abbrev e : Edition
+    e = G .settings .edition
+
+    -- 15 and 11, and the systems behind them
     abbrev behind : List Condition
-    behind = directionOrder G runs ++ systemsOrder G runs distanceSystems []
+    behind = countingOrder G runs ++ (directionOrder G runs ++ systemsOrder G runs (distanceSystems e) [])
 
     pub solved-met : AllMet (proposalsOrder G runs) ↔ Solved
     solved-met = (
       λ m.
-          let b = systems-met flowSystems behind .0 m in
-          let d = systems-met distanceSystems [] .0 (b .1 .1) in
-          record { each = λ s. ⊎-elim (b .0 s) (d .0 s) (List·Memᴰ·append-cases flowSystems (listed s)); clear = record { clear = b .1 .0 } },
-      λ s. systems-met flowSystems behind .1 (λ q i. s .each q, (s .clear .clear, systems-met distanceSystems [] .1 (λ q i. s .each q, tt))),
+          let b = systems-met (flowSystems e) behind .0 m in
+          let k = both-met (countingOrder G runs) (directionOrder G runs ++ systemsOrder G runs (distanceSystems e) []) .0 (b .1) in
+          let d = systems-met (distanceSystems e) [] .0 (k .1 .1) in
+          record {
+            each = λ s h. ⊎-elim (b .0 s) (d .0 s) (List·Memᴰ·append-cases (flowSystems e) (judged-in e s h));
+            clear = record { decided = counting-met .0 (k .0); clear = k .1 .0 };
+          },
+      λ s.
+          let distances = systems-met (distanceSystems e) [] .1 (λ q i. s .each q (has-distance e q i), tt) in
+          systems-met (flowSystems e) behind .1 (
+            λ q i. s .each q (has-flow e q i),
+            both-met (countingOrder G runs) (directionOrder G runs ++ systemsOrder G runs (distanceSystems e) []) .1
+                (counting-met .1 (s .clear .decided), (s .clear .clear, distances)),
+          ),
     )

@@ -6,16 +6,17 @@ use Prim.Native.Nat.{ℕ, suc, _+_, _*_}
 use Prim.Native.String.{String}
 use lib.IntN.{ℤ, pos, negℤ}
 use lib.ListN.{replicate}
+use Rattle.meaning.specs.declared.Edition.the-variants.{First}
 use Rattle.meaning.specs.Rows.{rows}
 use Rattle.meaning.specs.Text.{text}
-use Rattle.meaning.specs.Study.{Circuit, Study, Runs, runsOf}
-use Rattle.meaning.specs.declared.Background.the-variants.{YearRound}
+use Rattle.meaning.specs.Study.{Circuit, Study, Runs, threeRuns}
+use Rattle.meaning.specs.declared.Background.the-variants.{YearRound, Peak}
 use Rattle.meaning.specs.declared.System.{System}
 use Rattle.meaning.specs.declared.System.the-variants.{Base, Wider, Local}
 use Rattle.meaning.specs.declared.Refusal.the-variants.{BadNumber, Unbalanced, MissesTooHigh, DirectionInDoubt}
 use Rattle.meaning.specs.declared.Judgement.{Judgement}
 use Rattle.meaning.specs.declared.Judgement.the-variants.{Passes, Stops}
-use Rattle.meaning.specs.Grid.{plantOf, scales, pays, gridOf}
+use Rattle.meaning.specs.Grid.{plantOf, pays, paysIn, gridOf}
 use Rattle.meaning.specs.Network.{networkOf}
 use Rattle.meaning.specs.Proposal.{rangeStage}
 use Rattle.meaning.specs.Systems.{lengthOf, proposed, proposalsStage}
@@ -49,6 +50,7 @@ pairOf k circuit =
         overhead132 = 5000;
         cable132 = 7000;
         reference = 2;
+        edition = First;
         revenue = 1;
       };
       nodes = nodeOf "A" 0 ∷ nodeOf "B" k ∷ [];
@@ -62,7 +64,7 @@ pairStudy k mark = pairOf k (record { first = name "A"; second = name "B"; volta
 abbrev pair : (k m : ℕ) → (potential : ℤ) → Settled
 pair k m potential =
     settled (pairStudy k 0)
-    (runsOf
+    (threeRuns
     (pos (1000000 * k + m) ∷ pos 0 ∷ pos (1000000 * k) ∷ [])
     (potential ∷ pos 0 ∷ pos 0 ∷ [])
     (pos 0 ∷ pos 0 ∷ pos 0 ∷ []))
@@ -77,11 +79,11 @@ unfolding opened
 missed = refl
 
 -- 11: 200 kW is idle, 201 and 400 kW are in doubt, 401 kW is directed: its 10 m stand in the wider solution
-doubt : pair 201 0 (pos 0) ≡ refused (DirectionInDoubt 1) before
+doubt : pair 201 0 (pos 0) ≡ refused (DirectionInDoubt YearRound 1) before
 unfolding opened
 doubt = refl
 
-doubt₄₀₀ : pair 400 0 (pos 0) ≡ refused (DirectionInDoubt 1) before
+doubt₄₀₀ : pair 400 0 (pos 0) ≡ refused (DirectionInDoubt YearRound 1) before
 unfolding opened
 doubt₄₀₀ = refl
 
@@ -90,13 +92,13 @@ missed-first : pair 201 100000001 (pos 10000000000000001) ≡ refused (MissesToo
 unfolding opened
 missed-first = refl
 
-doubt-first : pair 201 0 (pos 10000000000000001) ≡ refused (DirectionInDoubt 1) before
+doubt-first : pair 201 0 (pos 10000000000000001) ≡ refused (DirectionInDoubt YearRound 1) before
 unfolding opened
 doubt-first = refl
 
 -- 8 and 9 of the base before 11; 11 before 9 and 10 of the wider system, and before 8, 9 and 10 of the local one. The base flow of 201 kW is in doubt throughout
 abbrev doubted : (base wider local : List ℤ) → Judgement
-doubted b w l = proposalsStage (gridOf (pairStudy 201 0)) (runsOf b w l)
+doubted b w l = proposalsStage (gridOf (pairStudy 201 0)) (threeRuns b w l)
 
 abbrev ofBase : (base : List ℤ) → Judgement
 ofBase b = doubted b (pos 0 ∷ pos 0 ∷ pos 0 ∷ []) (pos 0 ∷ pos 0 ∷ pos 0 ∷ [])
@@ -105,7 +107,7 @@ abbrev base₂₀₁ : List ℤ
 base₂₀₁ = pos 201000000 ∷ pos 0 ∷ pos 201000000 ∷ []
 
 beside-eleven : ofBase (pos 201000000 ∷ pos 1 ∷ pos 201000000 ∷ []) ∷ ofBase (pos 300000000 ∷ pos 0 ∷ pos 300000000 ∷ []) ∷ ofBase base₂₀₁ ∷ []
-    ≡ Stops (BadNumber (Base YearRound) 2) ∷ Stops (Unbalanced (Base YearRound) 1) ∷ Stops (DirectionInDoubt 1) ∷ []
+    ≡ Stops (BadNumber (Base YearRound) 2) ∷ Stops (Unbalanced (Base YearRound) 1) ∷ Stops (DirectionInDoubt YearRound 1) ∷ []
 unfolding opened
 beside-eleven = refl
 
@@ -115,7 +117,7 @@ eleven-first : doubted base₂₀₁ (pos 0 ∷ pos 0 ∷ pos 1 ∷ []) (pos 0 �
     ∷ doubted base₂₀₁ (pos 0 ∷ pos 0 ∷ pos 0 ∷ []) (pos 0 ∷ pos 0 ∷ pos 1 ∷ [])
     ∷ doubted base₂₀₁ (pos 0 ∷ pos 0 ∷ pos 0 ∷ []) (pos 200000000 ∷ pos 0 ∷ pos 0 ∷ [])
     ∷ []
-    ≡ replicate 5 (Stops (DirectionInDoubt 1))
+    ≡ replicate 5 (Stops (DirectionInDoubt YearRound 1))
 unfolding opened
 eleven-first = refl
 
@@ -126,7 +128,7 @@ directed = refl
 -- the same circuit with a local mark: its 10 m stand in the local solution, and pay a local tariff. By hand: 10 x 1,007 x 1,000 / 100,000 is 100.7, so 101;
 -- 730,000 less 101 x 401 is 689,499, which is 1,719 x 401 + 180; and 270,000 is 673 x 401 + 127
 local-mark : settled (pairStudy 401 1)
-    (runsOf
+    (threeRuns
     (pos 401000000 ∷ pos 0 ∷ pos 401000000 ∷ [])
     (pos 0 ∷ pos 0 ∷ pos 0 ∷ [])
     (pos 10000000000 ∷ pos 0 ∷ pos 0 ∷ []))
@@ -138,7 +140,7 @@ local-mark = refl
 abbrev lengthAt : (voltage : ℕ) → (first second : String) → (flow : ℤ) → ℤ
 lengthAt voltage first second z =
     let S = pairOf 401 (record { first = name first; second = name second; voltage = voltage; x = 1; overhead = 1; cable = 10; localMark = 0; factor = 0 }) in
-    lengthOf (gridOf S) (runsOf (pos 401000000 ∷ pos 0 ∷ z ∷ []) [] []) 0
+    lengthOf (gridOf S) (threeRuns (pos 401000000 ∷ pos 0 ∷ z ∷ []) [] []) 0
 
 lengths : lengthAt 400 "A" "B" (pos 401000000) ∷ lengthAt 275 "A" "B" (pos 401000000) ∷ lengthAt 132 "A" "B" (pos 401000000) ∷ []
     ≡ pos 21000000000 ∷ pos 43000000000 ∷ pos 75000000000 ∷ []
@@ -168,8 +170,8 @@ past-limits : numbers (Base YearRound) (negℤ (pos 2000000000000000001)) (pos 0
 unfolding opened
 past-limits = refl
 
--- plant types 1 to 7: all of them scale and weigh, and all but type 3 pay
-plants : rows 7 (λ t. scales (plantOf (suc t))) ++ rows 7 (λ t. pays (plantOf (suc t))) ≡ replicate 9 true ++ (false ∷ replicate 4 true)
+-- plant types 1 to 7: all but type 3 pay, and at peak all but these and type 1
+plants : rows 7 (λ t. pays (plantOf (suc t))) ++ rows 7 (λ t. paysIn Peak (plantOf (suc t))) ≡ true ∷ true ∷ false ∷ (replicate 4 true ++ (false ∷ true ∷ false ∷ replicate 4 true))
 unfolding opened
 plants = refl
 
@@ -191,6 +193,7 @@ aloneStudy =
         overhead132 = 1000;
         cable132 = 1000;
         reference = 1;
+        edition = First;
         revenue = 0;
       };
       nodes = nodeOf "A" 3 ∷ [];
@@ -198,7 +201,7 @@ aloneStudy =
       stations = stationOf "A" "A" 3 ∷ [];
     }
 
-one-node : settled aloneStudy (runsOf (pos 0 ∷ []) (pos 0 ∷ []) (pos 0 ∷ []))
+one-node : settled aloneStudy (threeRuns (pos 0 ∷ []) (pos 0 ∷ []) (pos 0 ∷ []))
     ≡ written (text "C 0\nG 1 0 0 0 0 0\nD 1 0 0 0 0 0\nL A 0 0\nR 0 0\n") before
 unfolding opened
 one-node = refl

@@ -1,7 +1,7 @@
--- Stages 2 to 7 and 13 pass exactly when the study is sound, as the conditions say it.
+-- Stages 2 to 7, 13 and 14 pass exactly when the study is sound, as the conditions say it.
 use mathlib.Core.Path.{_≡_, refl, sym, _∙_, ap}
 use mathlib.Core.Logic.{_⊎_, inl, inr, _↔_, _≢_}
-use mathlib.Core.List.{List}
+use mathlib.Core.List.{List, [], _∷_}
 use mathlib.Core.Option.{Option, Option·getD}
 use mathlib.Core.Bool.{Bool, true, false, not, true≢false}
 use Prim.Native.Nat.{ℕ, _-_, _≤_, _<_}
@@ -13,17 +13,24 @@ use Rattle.meaning.specs.Rows.{found}
 use Rattle.meaning.specs.Name.{Name, sameName}
 use Rattle.meaning.specs.declared.Settings.{Settings}
 use Rattle.meaning.specs.Study.{Node, Study, node, circuit, station}
-use Rattle.meaning.specs.declared.Refusal.the-variants.{BadSetting, BadNode, BadCircuit, BadStation, Unreached, BadTotal, NoChargeableTec}
+use Rattle.meaning.specs.declared.Edition.{Edition}
+use Rattle.meaning.specs.declared.Edition.the-variants.{First, Second}
+use Rattle.meaning.specs.declared.Background.{Background}
+use Rattle.meaning.specs.declared.Background.the-variants.{YearRound, Peak}
+use Rattle.meaning.specs.declared.Refusal.the-variants.{BadSetting, BadNode, BadCircuit, BadStation, Unreached, BadTotal, NoChargeableTec, Unscalable}
 use Rattle.meaning.specs.declared.Judgement.the-variants.{Passes}
 use Rattle.meaning.specs.Tables.{seenEarlier, known, soundScales, soundSettings, soundNodeRow, newVoltage, soundVoltage, soundFactor, soundCircuitRow, soundStationRow, soundNode, soundCircuit, soundStation, settingsStage, nodesStage, circuitsStage, stationsStage}
-use Rattle.meaning.specs.Grid.{gridOf, place, soundTotals, totalsStage, chargeableStage, totalDemand, totalTec}
+use Rattle.meaning.specs.Grid.{Grid, gridOf, place, soundTotals, totalsStage, chargeableStage, totalDemand, totalTec}
 use Rattle.meaning.specs.Network.{networkOf, reachStage}
+use Rattle.meaning.specs.Answers.{unless}
+use Rattle.meaning.specs.Generation.{scalable, scalingStage}
 use Rattle.meaning.specs.Outcome.{rowsStage, gridStage}
-use Rattle.meaning.specs.Conditions.{InRange, Known, NewVoltage, SoundSettings, SoundNode, SoundCircuit, SoundStation, SoundTables, SoundStudy}
-use Rattle.meaning.specs.Refusals.{AllMet, rowsOrder, gridOrder}
+use Rattle.meaning.specs.Conditions.{InRange, Known, NewVoltage, SoundSettings, SoundNode, SoundCircuit, SoundStation, SoundTables, Scalable, SoundStudy}
+use Rattle.meaning.specs.Refusals.{whole, AllMet, onlySecond, rowsOrder, scalingOrder, gridOrder}
 use Rattle.meaning.proofs.Rows.{Lowest, nothing, first, lowest-is, lowest-stops}
+use Rattle.meaning.proofs.Systems.{first≢second}
 use Rattle.meaning.proofs.Walk.{Placed, reached-is}
-use Rattle.meaning.proofs.Order.{Judges, _before_, judges-whole, judges-rows}
+use Rattle.meaning.proofs.Order.{Judges, _before_, judges-second, judges-whole, judges-rows}
 use Rattle.meaning.proofs.Says.{Says, says-as, _also_, _either_, says-not, says-le, says-eq, says-between, says-any, says-name, says-wellFormed}
 
 -- ---- settings, and each row
@@ -179,7 +186,28 @@ pub says-totals : (demand tec : ℕ) → Says (soundTotals demand tec) ((InRange
 unfolding soundTotals
 says-totals demand tec = says-between also says-between also says-le
 
--- ---- 6, 7 and 13
+-- ---- 14
+judge-scalable : (G : Grid) (b : Background) → Judges (unless (scalable G b) Unscalable) (whole (Scalable G b) Unscalable ∷ [])
+unfolding scalable
+judge-scalable G b = judges-whole Unscalable (says-as (says-le also says-le) (λ t. record { fixed = t .0; variable = t .1 }, λ t. (t .fixed, t .variable)))
+
+judge-scaling : (G : Grid) → Judges (scalingStage G) (scalingOrder G)
+unfolding scalingStage
+judge-scaling G = judges-second (G .settings .edition) (judge-scalable G YearRound before λ _. judge-scalable G Peak)
+
+-- edition 2 alone asks it
+scaling-met : (G : Grid) → AllMet (scalingOrder G) ↔ (G .settings .edition ≡ Second → (b : Background) → Scalable G b)
+scaling-met G = go (G .settings .edition)
+  where
+    each : Scalable G YearRound → Scalable G Peak → (b : Background) → Scalable G b
+    each y p YearRound = y
+    each y p Peak = p
+
+    go : (e : Edition) → AllMet (onlySecond e (whole (Scalable G YearRound) Unscalable ∷ whole (Scalable G Peak) Unscalable ∷ [])) ↔ (e ≡ Second → (b : Background) → Scalable G b)
+    go First = (λ m h. absurd (first≢second h), λ f. tt)
+    go Second = (λ m h. each (m .0) (m .1 .0), λ f. (f refl YearRound, (f refl Peak, tt)))
+
+-- ---- 6, 7, 13 and 14
 pub judge-grid : (S : Study) → Rowwise S → Judges (gridStage (gridOf S)) (gridOrder (gridOf S))
 unfolding gridStage reachStage totalsStage chargeableStage networkOf gridOf
 judge-grid S r =
@@ -188,8 +216,9 @@ judge-grid S r =
     (says-as (says-totals (totalDemand (gridOf S)) (totalTec (gridOf S)))
     (λ t. record { demandTotal = t .0 .0; tecTotal = t .0 .1; enough = t .1 }, λ t. ((t .demandTotal, t .tecTotal), t .enough)))
     before λ _. judges-whole NoChargeableTec says-le
+    before λ _. judge-scaling (gridOf S)
 
--- ---- 2 to 7 and 13
+-- ---- 2 to 7, 13 and 14
 pub sound-met : (S : Study) → AllMet (rowsOrder S) × AllMet (gridOrder (gridOf S)) ↔ SoundStudy S
 unfolding gridOf
 sound-met S = (
@@ -198,8 +227,9 @@ sound-met S = (
       record {
         tables = record { settings = r .settings; nodes = r .nodes; circuits = r .circuits; stations = r .stations; reached = m .1 .0; totals = m .1 .1 .0 };
         chargeable = m .1 .1 .1 .0;
+        scalable = scaling-met (gridOf S) .0 (m .1 .1 .1 .1);
       },
-  λ s. (rowwise-met S .1 (rowwise S (s .tables)), (s .tables .reached, (s .tables .totals, (s .chargeable, tt)))),
+  λ s. (rowwise-met S .1 (rowwise S (s .tables)), (s .tables .reached, (s .tables .totals, (s .chargeable, scaling-met (gridOf S) .1 (s .scalable))))),
 )
 
 pub sound-pass : (S : Study) → ((rowsStage S ≡ Passes) × (gridStage (gridOf S) ≡ Passes)) ↔ SoundStudy S

@@ -1,5 +1,6 @@
 -- 02, request 3: a whole file of version 1 with up to 480 circuits, written as version 2: four bytes of 0 more behind each circuit, and a trailer that says so. It says the same.
-use mathlib.Core.Path.{_≡_, refl, sym, _∙_, ap}
+use mathlib.Core.Path.{_≡_, refl, sym, _∙_, ap, ap₂, fun-ext}
+use mathlib.Core.Logic.{inl, inr}
 use mathlib.Core.Bool.{Bool, true, false, cond}
 use mathlib.Core.List.{List, [], _∷_}
 use Prim.Native.Nat.{ℕ, zero, suc, _+_, _*_, _-_, _/_, _%_, _≤_, _<_}
@@ -11,9 +12,14 @@ use lib.ListN.{length, getD, take, drop, length-drop}
 use lib.Seq.{getD-drop}
 use Rattle.meaning.specs.declared.Section.{Section}
 use Rattle.meaning.specs.Rows.{rows}
-use Rattle.meaning.specs.Study.{runsOf}
-use Rattle.meaning.specs.File.{u32, u64, nameAt, trailerSize, circuitSize, recordSize, mostCircuits, versionOf, statedLength, sectionCount, sectionOffset, sectionStart, section, solutionCount, rowAt, table, settingsAt, nodeAt, factorAt, circuitAt, stationAt, studyOf, i64, runIn, runsIn}
-use Rattle.meaning.specs.Conditions.{InRange, WholeFile}
+use Rattle.meaning.specs.declared.Edition.{Edition}
+use Rattle.meaning.specs.declared.Edition.the-variants.{First}
+use Rattle.meaning.specs.declared.Background.the-variants.{YearRound, Peak}
+use Rattle.meaning.specs.declared.System.{System}
+use Rattle.meaning.specs.declared.System.the-variants.{Base, Wider, Local}
+use Rattle.meaning.specs.Editions.{editionOf, systemNumber}
+use Rattle.meaning.specs.File.{u32, u64, nameAt, editionAt, sections, trailerSize, circuitSize, recordSize, mostCircuits, versionOf, statedLength, sectionCount, sectionOffset, sectionStart, section, solutionCount, rowAt, table, settingsAt, nodeAt, factorAt, circuitAt, stationAt, studyOf, i64, runLength, runsIn}
+use Rattle.meaning.specs.Conditions.{KnownEdition, WholeFile}
 use Rattle.meaning.specs.Versions.{EveryCaseInVersionTwo}
 use Rattle.meaning.proofs.Rows.{rows-at, rows-past, rows-same, length-rows}
 use Rattle.meaning.proofs.Whole.{own-lengths}
@@ -88,7 +94,7 @@ same-circuit h z =
 same-settings : {l l′ : List ℕ} → Window l l′ 0 0 64 → settingsAt l 0 ≡ settingsAt l′ 0
 unfolding settingsAt
 same-settings h =
-    rw (same-u32 (begins h 4 (omega arith)), same-u32 (within h 4 4 (omega arith)), same-u32 (within h 8 4 (omega arith)), same-u32 (within h 12 4 (omega arith)), same-u32 (within h 16 4 (omega arith)), same-u32 (within h 20 4 (omega arith)), same-u32 (within h 24 4 (omega arith)), same-u32 (within h 28 4 (omega arith)), same-u32 (within h 32 4 (omega arith)), same-u32 (within h 36 4 (omega arith)), same-u32 (within h 40 4 (omega arith)), same-u32 (within h 44 4 (omega arith)), same-u32 (within h 48 4 (omega arith)), same-u64 (within h 56 8 (omega arith))) refl
+    rw (same-u32 (begins h 4 (omega arith)), same-u32 (within h 4 4 (omega arith)), same-u32 (within h 8 4 (omega arith)), same-u32 (within h 12 4 (omega arith)), same-u32 (within h 16 4 (omega arith)), same-u32 (within h 20 4 (omega arith)), same-u32 (within h 24 4 (omega arith)), same-u32 (within h 28 4 (omega arith)), same-u32 (within h 32 4 (omega arith)), same-u32 (within h 36 4 (omega arith)), same-u32 (within h 40 4 (omega arith)), same-u32 (within h 44 4 (omega arith)), same-u32 (within h 48 4 (omega arith)), same-u32 (within h 52 4 (omega arith)), same-u64 (within h 56 8 (omega arith))) refl
 
 -- ---- the bytes of a number, lowest first
 digit : (b n : ℕ) → ℕ
@@ -116,16 +122,12 @@ same-size (suc zero) h = absurd (omega arith)
 same-size (suc (suc zero)) h = absurd (omega arith)
 same-size (suc (suc (suc s))) h = refl
 
-eight : (v s : ℕ) → InRange s 4 6 → 8 ≤ recordSize v s
+eight : (v k : ℕ) → k < 3 → 8 ≤ recordSize v (4 + k)
 unfolding recordSize
-eight v (suc (suc (suc (suc zero)))) r = omega arith
-eight v (suc (suc (suc (suc (suc zero))))) r = omega arith
-eight v (suc (suc (suc (suc (suc (suc zero)))))) r = omega arith
-eight v (suc (suc (suc (suc (suc (suc (suc s))))))) r = absurd (omega (arith, r .most))
-eight v zero r = absurd (omega (arith, r .least))
-eight v (suc zero) r = absurd (omega (arith, r .least))
-eight v (suc (suc zero)) r = absurd (omega (arith, r .least))
-eight v (suc (suc (suc zero))) r = absurd (omega (arith, r .least))
+eight v zero h = omega arith
+eight v (suc zero) h = omega arith
+eight v (suc (suc zero)) h = omega arith
+eight v (suc (suc (suc k))) h = absurd (omega arith)
 
 -- ---- the file as version 2
 module _ (file : List ℕ) (whole : WholeFile file (runsIn file)) (one : versionOf file ≡ 1) (few : sectionCount file 2 ≤ 480) where
@@ -168,10 +170,28 @@ module _ (file : List ℕ) (whole : WholeFile file (runsIn file)) (one : version
     pub front : 64 ≤ rows₀
     pub behind : rows₀ + 44 * m + 64 ≤ length file
 
+  -- version 1 has edition 1 alone
+  no-edition : u32 file 52 ≡ 0
+  no-edition = go (whole .edition)
+    where
+      go : KnownEdition (versionOf file) (u32 file 52) → u32 file 52 ≡ 0
+      go (inl h) = h .1
+      go (inr h) = absurd (omega (arith, one, h .0))
+
+  first : editionAt file ≡ First
+  unfolding editionAt editionOf
+  first = rw no-edition refl
+
+  in-sections : {s : ℕ} → s < 7 → s < sections (editionAt file)
+  in-sections h = rw first h
+
+  ends : sectionStart file 7 + 64 ≡ length file
+  ends = rw first at (whole .end)
+
   places : Places
   unfolding sectionStart recordSize circuitSize
   places =
-      let end = rw one at (whole .end) in
+      let end = rw one at ends in
       record { front = omega (arith, whole .oneSettings); behind = omega (arith, end) }
 
   -- ---- the bytes of the twin
@@ -203,6 +223,14 @@ module _ (file : List ℕ) (whole : WholeFile file (runsIn file)) (one : version
       rows-at 0 long byteAt k (omega (arith, places .behind))
       ∙ simp (le-ltb k rows₀ (omega (arith, places .behind)), le-ltb k (rows₀ + 48 * m) (omega (arith, places .behind)), le-ltb k (long - 64) (omega arith), field, place)
 
+  front-at : (a n : ℕ) → a + n ≤ rows₀ → Window twin file a a n
+  front-at a n h =
+      record { byte = λ b g. in-front (a + b) (omega arith); inside = rw twin-long (omega (arith, places .behind)); inside′ = omega (arith, places .behind) }
+
+  first-twin : editionAt twin ≡ First
+  unfolding editionAt editionOf
+  first-twin = rw (same-u32 (front-at 52 4 (omega (arith, places .front))), no-edition) refl
+
   -- ---- the numbers of its trailer
   told : (f a : ℕ) → f < 16 → a ≡ long - 64 + 4 * f → u32 twin a ≡ pointer f
   told f a h e = rw e (number twin (long - 64 + 4 * f) (pointer f) (λ b g. in-trailer f b h g))
@@ -220,7 +248,7 @@ module _ (file : List ℕ) (whole : WholeFile file (runsIn file)) (one : version
   count-is s h =
       let odd : (2 * s + 1) % 2 ≡ 1 = omega arith in
       let half : (2 * s + 1) / 2 ≡ s = omega arith in
-      ap (λ (n : ℕ). u32 twin (n - trailerSize + 8 * s + 4)) twin-long
+      ap₂ (λ (e : Edition) (n : ℕ). u32 twin (n - trailerSize e + 8 * s + 4)) first-twin twin-long
       ∙ told (2 * s + 1) (long - 64 + 8 * s + 4) (omega arith) (omega arith)
       ∙ simp (ne-eqb (2 * s + 1) 15 (omega arith), ne-eqb (2 * s + 1) 14 (omega arith), odd, half)
 
@@ -229,7 +257,7 @@ module _ (file : List ℕ) (whole : WholeFile file (runsIn file)) (one : version
   offset-is s h =
       let even : 2 * s % 2 ≡ 0 = omega arith in
       let half : 2 * s / 2 ≡ s = omega arith in
-      ap (λ (n : ℕ). u32 twin (n - trailerSize + 8 * s)) twin-long
+      ap₂ (λ (e : Edition) (n : ℕ). u32 twin (n - trailerSize e + 8 * s)) first-twin twin-long
       ∙ told (2 * s) (long - 64 + 8 * s) (omega arith) (omega arith)
       ∙ simp (ne-eqb (2 * s) 15 (omega arith), ne-eqb (2 * s) 14 (omega arith), even, half)
 
@@ -251,10 +279,6 @@ module _ (file : List ℕ) (whole : WholeFile file (runsIn file)) (one : version
   start-is (suc (suc (suc (suc (suc (suc (suc (suc s)))))))) h = absurd (omega arith)
 
   -- ---- what stands where
-  front-at : (a n : ℕ) → a + n ≤ rows₀ → Window twin file a a n
-  front-at a n h =
-      record { byte = λ b g. in-front (a + b) (omega arith); inside = rw twin-long (omega (arith, places .behind)); inside′ = omega (arith, places .behind) }
-
   row-at : (i : ℕ) → i < m → Window twin file (rows₀ + 48 * i) (rows₀ + 44 * i) 44
   row-at i h =
       record {
@@ -309,47 +333,55 @@ module _ (file : List ℕ) (whole : WholeFile file (runsIn file)) (one : version
       let size : recordSize (versionOf twin) s ≡ recordSize (versionOf file) s = rw (version-two, one) (same-size s h) in
       let begin : sectionStart twin s ≡ sectionStart file s + 4 * m = start-is s (omega arith) ∙ simp (le-leb 3 s h) in
       let e : rowAt (section twin s) i ≡ rowAt (section file s) i + 4 * m = rw (size, begin) (omega arith) in
-      rw e (later-at (rowAt (section file s) i) (section file s .size) (omega (arith, starts-rise file 3 s h, third)) (row-inside file (runsIn file) whole s i l k))
+      rw e (later-at (rowAt (section file s) i) (section file s .size) (omega (arith, starts-rise file 3 s h, third)) (rw first at (row-inside file (runsIn file) whole s i (in-sections l) k)))
 
   same-stations : studyOf twin .stations ≡ studyOf file .stations
   unfolding studyOf section recordSize
   same-stations = same-table (stationAt twin) (stationAt file) (section twin 3) (section file 3) (count-is 3 (omega arith)) (λ i h. same-station (later-row 3 i (omega arith) (omega arith) h))
 
-  same-run : (s : ℕ) → InRange s 4 6 → runIn twin s ≡ runIn file s
-  unfolding runIn section
-  same-run s r = same-table (i64 twin) (i64 file) (section twin s) (section file s) (count-is s (omega (arith, r .most)))
-      (λ i h. same-i64 (begins (later-row s i (omega (arith, r .least)) (omega (arith, r .most)) h) 8 (eight (versionOf file) s r)))
+  numbers : solutionCount twin ≡ solutionCount file
+  numbers = rw (count-is 1 (omega arith), count-is 2 (omega arith)) refl
+
+  same-run : (k : ℕ) → k < 3 → rows (solutionCount file) (λ i. i64 file (rowAt (section file (4 + k)) i)) ≡ rows (solutionCount twin) (λ i. i64 twin (rowAt (section twin (4 + k)) i))
+  unfolding section
+  same-run k h =
+      let count : sectionCount file (4 + k) ≡ solutionCount file = whole .solutions (4 + k) (omega arith) (in-sections (omega arith)) in
+      rw numbers
+      (rows-same (solutionCount file) _ _ (λ i l. sym (same-i64 (begins (later-row (4 + k) i (omega arith) (omega arith) (omega (arith, count))) 8 (eight (versionOf file) k h)))))
 
   same-solutions : runsIn file ≡ runsIn twin
-  unfolding runsIn
-  same-solutions = λ i. runsOf (own 0 (omega arith) i) (own 1 (omega arith) i) (own 2 (omega arith) i)
+  unfolding runsIn runLength systemNumber rows
+  same-solutions = fun-ext own
     where
-      own : (k : ℕ) → k < 3 → runIn file (4 + k) ≡ runIn twin (4 + k)
-      own k h = sym (same-run (4 + k) (record { least = omega arith; most = omega arith }))
+      own : (s : System) → runsIn file s ≡ runsIn twin s
+      own (Base YearRound) = rw (first, first-twin) (same-run 0 (omega arith))
+      own (Wider YearRound) = rw (first, first-twin) (same-run 1 (omega arith))
+      own Local = rw (first, first-twin) (same-run 2 (omega arith))
+      own (Base Peak) = rw (first, first-twin) refl
+      own (Wider Peak) = rw (first, first-twin) refl
 
   same-first : studyOf twin .settings ≡ studyOf file .settings
   unfolding studyOf sectionStart
   same-first = same-settings (front-at 0 64 (places .front))
 
-  twin-counts : (s : ℕ) → InRange s 4 6 → sectionCount twin s ≡ solutionCount twin
-  twin-counts s r = rw (count-is s (omega (arith, r .most)), count-is 1 (omega arith), count-is 2 (omega arith)) (whole .solutions s r)
+  twin-counts : (s : ℕ) → 4 ≤ s → s < 7 → sectionCount twin s ≡ solutionCount twin
+  twin-counts s l h = rw (count-is s h, count-is 1 (omega arith), count-is 2 (omega arith)) (whole .solutions s l (in-sections h))
 
   twin-whole : WholeFile twin (runsIn twin)
   unfolding mostCircuits
   twin-whole =
       record {
         long = rw twin-long (omega (arith, whole .long));
-        version = rw version-two (record { least = omega arith; most = omega arith });
+        edition = rw version-two (inl (record { least = omega arith; most = omega arith }, same-u32 (front-at 52 4 (omega (arith, places .front))) ∙ no-edition));
         fileLength = says-length ∙ sym twin-long;
         oneSettings = count-is 0 (omega arith) ∙ whole .oneSettings;
         nodes = rw (count-is 1 (omega arith)) (whole .nodes);
-        circuits = rw (version-two, count-is 2 (omega arith)) few;
+        circuits = rw (first-twin, version-two, count-is 2 (omega arith)) few;
         stations = rw (count-is 3 (omega arith)) (whole .stations);
-        solutions = twin-counts;
-        chain = λ s h. offset-is s h ∙ sym (start-is s (omega arith));
-        end = rw (start-is 7 (omega arith), twin-long) (omega (arith, whole .end));
-        settingsZero = same-u32 (front-at 52 4 (omega (arith, places .front))) ∙ whole .settingsZero;
-        lengths = own-lengths twin twin-counts;
+        solutions = λ s l h. twin-counts s l (rw first-twin at h);
+        chain = λ s h. let k : s < 7 = rw first-twin at h in offset-is s k ∙ sym (start-is s (omega arith));
+        end = rw (first-twin, start-is 7 (omega arith), twin-long) (omega (arith, ends));
+        lengths = own-lengths twin;
       }
 
   -- ---- its bytes are bytes
@@ -359,14 +391,14 @@ module _ (file : List ℕ) (whole : WholeFile file (runsIn file)) (one : version
   count-low (suc (suc zero)) h = omega (arith, few)
   count-low (suc (suc (suc zero))) h = omega (arith, whole .stations)
   count-low (suc (suc (suc (suc s)))) h =
-      omega (arith, whole .solutions (suc (suc (suc (suc s)))) (record { least = omega arith; most = omega arith }), whole .nodes .most, few)
+      omega (arith, whole .solutions (suc (suc (suc (suc s)))) (omega arith) (in-sections h), whole .nodes .most, few)
 
   start-low : (s : ℕ) → s < 7 → start s ≤ 65536
   start-low s h = go (leb 3 s)
     where
       go : (b : Bool) → sectionStart file s + cond b (4 * m) 0 ≤ 65536
-      go true = omega (arith, starts-rise file s 7 (omega arith), whole .end, file-short file (runsIn file) whole, few)
-      go false = omega (arith, starts-rise file s 7 (omega arith), whole .end, file-short file (runsIn file) whole)
+      go true = omega (arith, starts-rise file s 7 (omega arith), ends, file-short file (runsIn file) whole, few)
+      go false = omega (arith, starts-rise file s 7 (omega arith), ends, file-short file (runsIn file) whole)
 
   pointer-low : (f : ℕ) → f < 16 → pointer f ≤ 65536
   pointer-low f h = go (decLt f 15) (decLt f 14)

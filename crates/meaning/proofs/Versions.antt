@@ -1,31 +1,35 @@
 -- 02, request 3: whole files that say the same are one case, whatever their versions; what version 1 can say; and the length of a circuit with a factor of its own.
 use mathlib.Core.Path.{_≡_, refl, sym, _∙_, ap, ap₂}
+use mathlib.Core.Bool.{cond}
 use mathlib.Core.List.{List}
 use Prim.Native.Nat.{ℕ, suc, _+_, _*_, _-_, _<_}
 use native.Mathlib.Decide.{decLt}
 use native.Mathlib.Omega.{arith}
 use borrow.Author.Tests.{ne-eqb}
-use lib.Dec.{eqb}
+use lib.Dec.{eqb, leb}
 use lib.ListN.{length}
 use Rattle.meaning.specs.Rows.{every}
+use Rattle.meaning.specs.declared.Edition.{Edition}
+use Rattle.meaning.specs.declared.Settings.{Settings}
 use Rattle.meaning.specs.declared.System.{System}
+use Rattle.meaning.specs.Editions.{systemNumber, allSystems}
 use Rattle.meaning.specs.declared.Refusal.the-variants.{BadFile}
 use Rattle.meaning.specs.declared.Judgement.{Judgement}
 use Rattle.meaning.specs.declared.Judgement.the-variants.{Passes}
-use Rattle.meaning.specs.Study.{Circuit, Study, Runs, systems, circuit, noCircuit}
-use Rattle.meaning.specs.File.{u32, circuitSize, recordSize, versionOf, sectionStart, section, sectionCount, solutionCount, rowAt, factorAt, circuitAt, runsWhole, studyOf, runsIn}
+use Rattle.meaning.specs.Study.{Circuit, Study, Runs, circuit, noCircuit}
+use Rattle.meaning.specs.File.{u32, editionAt, solutions, circuitSize, recordSize, versionOf, sectionStart, section, sectionCount, solutionCount, rowAt, factorAt, circuitAt, runLength, runsWhole, studyOf, runsIn}
 use Rattle.meaning.specs.Answers.{_orElse_, unless}
 use Rattle.meaning.specs.Grid.{gridOf}
 use Rattle.meaning.specs.Direction.{ownOr, expandedLength}
 use Rattle.meaning.specs.Systems.{proposalsStage}
 use Rattle.meaning.specs.Sheet.{sheet}
 use Rattle.meaning.specs.Outcome.{fileStage, runsStage, rowsStage, gridStage, tablesStage, judged, sheetOf, bufferStage, answeredBy, answerOf, settledBy, settle, printedBy, prints}
-use Rattle.meaning.specs.Conditions.{WholeFile}
+use Rattle.meaning.specs.Conditions.{InRange, WholeFile}
 use Rattle.meaning.specs.Versions.{SayTheSame, OneCase, OneSheetInEitherVersion, VersionOneByVoltage, FactorLast, NewVoltagesInVersionTwo, OwnFactorForBothLengths, NoFactorNoChange}
 use Rattle.meaning.proofs.Rows.{length-rows, rows-at, rows-past}
 use Rattle.meaning.proofs.Answers.{passes-orElse, orElse-passes}
 use Rattle.meaning.proofs.Whole.{judge-file}
-use Rattle.meaning.proofs.Frame.{counts}
+use Rattle.meaning.proofs.Frame.{edition-read, known-version, counts}
 
 -- ---- a whole file is judged by what it says, and by the lengths of the runs
 
@@ -43,9 +47,13 @@ module _ (file file′ : List ℕ) (same : SayTheSame file file′) where
   same-count : solutionCount file ≡ solutionCount file′
   same-count = numbers file (same .whole) ∙ ap (λ (S : Study). length (S .nodes) + length (S .circuits)) same-study ∙ sym (numbers file′ (same .otherWhole))
 
+  same-edition : editionAt file ≡ editionAt file′
+  same-edition = sym (edition-read file) ∙ ap (λ (s : Settings). s .edition) (same .settings) ∙ edition-read file′
+
   same-runs : (long : System → ℕ) → runsStage file long ≡ runsStage file′ long
-  unfolding runsStage runsWhole
-  same-runs long = ap (λ (n : ℕ). unless (every (λ s. eqb (long s) n) systems) BadFile) same-count
+  unfolding runsStage runsWhole runLength
+  same-runs long =
+      ap₂ (λ (e : Edition) (n : ℕ). unless (every (λ s. eqb (long s) (cond (leb (systemNumber s) (solutions e)) n 0)) allSystems) BadFile) same-edition same-count
 
   abbrev judgedBy : (stage : Judgement) → Study → Runs → Judgement
   judgedBy stage S runs = (stage orElse rowsStage S orElse gridStage (gridOf S)) orElse proposalsStage (gridOf S) runs
@@ -98,9 +106,12 @@ factor-last file e c h =
 pub new-voltages-in-version-two : NewVoltagesInVersionTwo
 new-voltages-in-version-two file runs a c h n = go (decLt (versionOf file) 2)
   where
+    version : InRange (versionOf file) 1 2
+    version = known-version _ _ (a .whole .edition)
+
     go : Dec (versionOf file < 2) → versionOf file ≡ 2
-    go (yes l) = absurd (a .study .tables .circuits c h .ownFactor n (version-one-by-voltage file (omega (arith, a .whole .version .least)) c))
-    go (no l) = omega (arith, a .whole .version .most)
+    go (yes l) = absurd (a .study .tables .circuits c h .ownFactor n (version-one-by-voltage file (omega (arith, version .least)) c))
+    go (no l) = omega (arith, version .most)
 
 -- ---- lengths
 pub own-factor-for-both-lengths : OwnFactorForBothLengths

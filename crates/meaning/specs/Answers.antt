@@ -2,21 +2,17 @@
 use mathlib.Core.Bool.{Bool, true, false}
 use mathlib.Core.Option.{Option, none, some}
 use Prim.Native.Nat.{ℕ, suc}
-use Rattle.meaning.specs.declared.System.{System}
-use Rattle.meaning.specs.declared.System.the-variants.{Base, Wider, Local}
+use Rattle.meaning.specs.declared.Edition.{Edition}
+use Rattle.meaning.specs.declared.Edition.the-variants.{First, Second}
+use Rattle.meaning.specs.declared.System.the-variants.{Base}
+use Rattle.meaning.specs.Editions.{systemNumber}
 use Rattle.meaning.specs.declared.Values.{Values}
 use Rattle.meaning.specs.declared.Refusal.{Refusal}
-use Rattle.meaning.specs.declared.Refusal.the-variants.{BadFile, BadSetting, BadNode, BadCircuit, BadStation, Unreached, BadTotal, BadNumber, Unbalanced, MissesTooHigh, DirectionInDoubt, ShortBuffer, NoChargeableTec}
+use Rattle.meaning.specs.declared.Refusal.the-variants.{BadFile, BadSetting, BadNode, BadCircuit, BadStation, Unreached, BadTotal, BadNumber, Unbalanced, MissesTooHigh, DirectionInDoubt, ShortBuffer, NoChargeableTec, Unscalable, BackgroundInDoubt}
 use Rattle.meaning.specs.declared.Judgement.{Judgement}
 use Rattle.meaning.specs.declared.Judgement.the-variants.{Passes, Stops}
 use Rattle.meaning.specs.declared.Answer.{Answer}
 use Rattle.meaning.specs.declared.Answer.the-variants.{Accepted, Refused}
-
--- 01, Order: "system 1 (base)", "system 2 (wider)", "3 (local)"
-unfoldable pub systemNumber : System → ℕ
-systemNumber (Base b) = 1
-systemNumber (Wider b) = 2
-systemNumber Local = 3
 
 -- "Every refusal carries sheet length 0"
 unfoldable pub refusal : (number system row : ℕ) → Values
@@ -35,9 +31,11 @@ values (Refused BadTotal) = refusal 7 0 0
 values (Refused (BadNumber s r)) = refusal 8 (systemNumber s) r
 values (Refused (Unbalanced s r)) = refusal 9 (systemNumber s) r
 values (Refused (MissesTooHigh s)) = refusal 10 (systemNumber s) 0
-values (Refused (DirectionInDoubt r)) = refusal 11 1 r
+values (Refused (DirectionInDoubt b r)) = refusal 11 (systemNumber (Base b)) r
 values (Refused ShortBuffer) = refusal 12 0 0
 values (Refused NoChargeableTec) = refusal 13 0 0
+values (Refused Unscalable) = refusal 14 0 0
+values (Refused (BackgroundInDoubt r)) = refusal 15 0 r
 
 -- what stops a case first: the first stage if it stops it, else the second
 infixr 20 _orElse_
@@ -54,3 +52,8 @@ unless false r = Stops r
 unfoldable pub at : Option ℕ → (ℕ → Refusal) → Judgement
 at none r = Passes
 at (some i) r = Stops (r (suc i))
+
+-- 02, request 5: what edition 2 alone asks
+unfoldable pub inSecond : Edition → Judgement → Judgement
+inSecond First j = Passes
+inSecond Second j = j

@@ -4,11 +4,16 @@ use Prim.Native.Nat.{ℕ, suc, _+_, _*_, _-_}
 use lib.Dec.{eqb}
 use lib.IntN.{ℤ, pos, negℤ, _+ℤ_, _-ℤ_, _*ℤ_}
 use Rattle.integers.specs.Numbers.{sum, Σ, floorDiv, nearest}
+use Rattle.meaning.specs.declared.Edition.{Edition}
+use Rattle.meaning.specs.declared.Background.{Background}
+use Rattle.meaning.specs.declared.Background.the-variants.{YearRound, Peak}
 use Rattle.meaning.specs.declared.Side.{Side}
 use Rattle.meaning.specs.declared.Side.the-variants.{Generation, Demand}
 use Rattle.meaning.specs.declared.Settings.{Settings}
+use Rattle.meaning.specs.declared.WiderFigures.{WiderFigures}
 use Rattle.meaning.specs.declared.ZoneFigures.{ZoneFigures}
 use Rattle.meaning.specs.declared.LocalFigures.{LocalFigures}
+use Rattle.meaning.specs.Editions.{byEdition, overBackgrounds}
 use Rattle.meaning.specs.Study.{Kw, Metres, MicroPerKw}
 
 -- step 6 (CUSC 14.15.4, 14.15.13): "the nearest of potential / 1,000,000,000"
@@ -65,19 +70,15 @@ residualOf rest kw = floorDiv rest kw
 unfoldable pub remainderOf : (rest : ℤ) → Kw → ℤ
 remainderOf rest kw = rest -ℤ residualOf rest kw *ℤ pos kw
 
--- 01, The sheet: what the line of a zone says. Step 10 (CUSC 14.22(vii), 14.23(vi)): "A zone's total is its tariff plus the residual."
-abbrev pub lineOf : (weight : Kw) → (zonal after : Metres) → (tariff residual : MicroPerKw) → ZoneFigures
-lineOf weight zonal after tariff residual =
-    record {
-      weight = record { 0 = weight };
-      metres = record { 0 = zonal };
-      «after_c» = record { 0 = after };
-      tariff = record { 0 = tariff };
-      total = record { 0 = tariff +ℤ residual };
-    }
+-- 01, The sheet: what the line of a zone says of a background; where there is none, nothing
+abbrev pub widerOf : (zonal after : Metres) → (tariff : MicroPerKw) → WiderFigures
+widerOf zonal after tariff = record { metres = record { 0 = zonal }; «after_c» = record { 0 = after }; tariff = record { 0 = tariff } }
+
+abbrev pub noWider : WiderFigures
+noWider = widerOf (pos 0) (pos 0) (pos 0)
 
 -- ---- a case
--- what step 7 hands on of a side: how many zones there are; of each, by its number, the kilowatts that weigh, those that pay and the zonal metres; and the kilowatts that pay in all
+-- what step 7 hands on of a side in a background: how many zones there are; of each, by its number, the kilowatts that weigh, those that pay and the zonal metres; and the kilowatts that pay in all
 pub record Zones : Type 0 where
   pub count : ℕ
   pub weight : ℕ → Kw
@@ -85,20 +86,23 @@ pub record Zones : Type 0 where
   pub metres : ℕ → Metres
   pub total : Kw
 
--- all that steps 8 to 10 ask of a case: settings; the zones of its sides; and of each node TEC, the TEC that pays and local metres
+-- all that steps 8 to 10 ask of a case: settings; the zones of its sides in each background; of each side the kilowatts that pay, and of each node TEC, the TEC that pays and local metres
 pub record Basis : Type 0 where
   pub settings : Settings
-  pub side : Side → Zones
+  pub side : Background → Side → Zones
+  pub payers : Side → Kw
   pub nodes : ℕ
   pub tec : ℕ → Kw
   pub paying : ℕ → Kw
   pub local : ℕ → Metres
 
--- what prices a side: its zones, C, expansion constant and security factor, its target, and the income of its local tariffs
+-- what prices a side: edition; zones and C in each background; the kilowatts that pay; expansion constant and security factor, its target, and the income of its local tariffs
 pub record Priced : Type 0 where
+  pub edition : Edition
   pub side : Side
-  pub zones : Zones
-  pub c : Metres
+  pub zones : Background → Zones
+  pub c : Background → Metres
+  pub payers : Kw
   pub constant : ℕ
   pub factor : ℕ
   pub target : ℕ
@@ -109,10 +113,11 @@ abbrev pub metresTimesKw : Zones → ℤ
 metresTimesKw Z = overZones (Z .count) (Z .paying) (Z .metres)
 
 module _ (B : Basis) where
-  open Basis B using (settings, side, nodes, tec, paying, local)
+  open Basis B using (settings, side, payers, nodes, tec, paying, local)
 
-  unfoldable pub C : Metres
-  C = centre (settings .p) (metresTimesKw (side Generation)) (metresTimesKw (side Demand)) (side Generation .total) (side Demand .total)
+  -- 02, request 5: "Each background has its own C and tariff"
+  unfoldable pub C : Background → Metres
+  C b = centre (settings .p) (metresTimesKw (side b Generation)) (metresTimesKw (side b Demand)) (side b Generation .total) (side b Demand .total)
 
   -- step 9 (CUSC 14.15.65): "Local tariffs use the node's local metres and the local factor, without C."
   unfoldable pub localTariff : (v : ℕ) → MicroPerKw
@@ -126,9 +131,11 @@ module _ (B : Basis) where
   unfoldable pub priced : Side → Priced
   priced s =
       record {
+        edition = settings .edition;
         side = s;
-        zones = side s;
+        zones = λ b. side b s;
         c = C;
+        payers = payers s;
         constant = settings .constant;
         factor = settings .«wider_factor»;
         target = targetOf s (settings .p) (settings .revenue);
@@ -141,32 +148,49 @@ module _ (B : Basis) where
 
 -- ---- a side of it
 module _ (S : Priced) where
-  open Priced S using (side, zones, c, constant, factor, target, local)
+  open Priced S using (edition, side, zones, c, payers, constant, factor, target, local)
 
-  -- step 8: metres after C
-  unfoldable pub afterC : (zone : ℕ) → Metres
-  afterC zone = withC side c (zones .metres zone)
+  module _ (b : Background) where
+    -- step 8: metres after C
+    unfoldable pub afterC : (zone : ℕ) → Metres
+    afterC zone = withC side (c b) (zones b .metres zone)
 
-  -- step 9
-  unfoldable pub zoneTariff : (zone : ℕ) → MicroPerKw
-  zoneTariff zone = tariff (afterC zone) constant factor
+    -- step 9
+    unfoldable pub zoneTariff : (zone : ℕ) → MicroPerKw
+    zoneTariff zone = tariff (afterC zone) constant factor
 
-  -- step 10: "wider income (zone tariffs times TEC)"
+    -- step 10: what the tariffs of a background bring in
+    abbrev pub incomeIn : ℤ
+    incomeIn = overZones (zones b .count) (zones b .paying) zoneTariff
+
+    -- what the line of a zone says of it
+    unfoldable pub widerFigures : (zone : ℕ) → WiderFigures
+    widerFigures zone = widerOf (zones b .metres zone) (afterC zone) (zoneTariff zone)
+
+  -- "wider income (zone tariffs times TEC)"
   abbrev pub widerIncome : ℤ
-  widerIncome = overZones (zones .count) (zones .paying) zoneTariff
+  widerIncome = overBackgrounds edition incomeIn
 
   unfoldable pub rest : ℤ
   rest = restOf target widerIncome local
 
+  -- 02, request 5: "Residuals stay."
   unfoldable pub residual : MicroPerKw
-  residual = residualOf rest (zones .total)
+  residual = residualOf rest payers
 
   unfoldable pub remainder : ℤ
-  remainder = remainderOf rest (zones .total)
+  remainder = remainderOf rest payers
 
+  -- step 10 (CUSC 14.22(vii), 14.23(vi)): "A zone's total is its tariff plus the residual."; 02, request 5: "a total adds both and the residual"
   unfoldable pub zoneTotal : (zone : ℕ) → MicroPerKw
-  zoneTotal zone = zoneTariff zone +ℤ residual
+  zoneTotal zone = overBackgrounds edition (λ b. zoneTariff b zone) +ℤ residual
 
   -- what the line of a zone says
   unfoldable pub zoneFigures : (zone : ℕ) → ZoneFigures
-  zoneFigures zone = lineOf (zones .weight zone) (zones .metres zone) (afterC zone) (zoneTariff zone) residual
+  zoneFigures zone =
+      record {
+        weight = record { 0 = zones YearRound .weight zone };
+        «year_round» = widerFigures YearRound zone;
+        peak = byEdition noWider (widerFigures Peak zone) edition;
+        total = record { 0 = zoneTotal zone };
+      }

@@ -8,34 +8,41 @@ use lib.ListN.{length, getD}
 use Rattle.meaning.specs.Name.{Name}
 use Rattle.meaning.specs.declared.Settings.{Settings}
 use Rattle.meaning.specs.Study.{Circuit, Study, Runs, node, circuit, station}
-use Rattle.meaning.specs.File.{u32, sections, trailerSize, mostCircuits, versionOf, statedLength, sectionOffset, sectionCount, sectionStart, solutionCount, studyOf}
+use Rattle.meaning.specs.File.{u32, editionAt, sections, trailerSize, mostCircuits, versionOf, statedLength, sectionOffset, sectionCount, sectionStart, solutionCount, runLength, studyOf}
+use Rattle.meaning.specs.declared.Edition.the-variants.{Second}
+use Rattle.meaning.specs.declared.Background.{Background}
 use Rattle.meaning.specs.declared.System.{System}
+use Rattle.meaning.specs.Editions.{HasSystem}
 use Rattle.meaning.specs.Grid.{Grid, gridOf, totalDemand, totalTec, totalPayingTec}
 use Rattle.meaning.specs.Network.{Network, networkOf, Reached}
 use Rattle.meaning.specs.declared.Direction.the-variants.{InDoubt}
-use Rattle.meaning.specs.Direction.{direction}
+use Rattle.meaning.specs.declared.Counting.the-variants.{Doubtful}
+use Rattle.meaning.specs.Generation.{totalFixed, totalVariable}
 use Rattle.meaning.specs.Proposal.{potential, flow, flowOut, flowIn, missSum, Proposed}
-use Rattle.meaning.specs.Systems.{proposed, baseFlow}
+use Rattle.meaning.specs.Systems.{counting, heading, proposed}
 
 -- a number in a range, both ends in it
 pub record InRange (x low high : ℕ) : Type 0 where
   pub least : low ≤ x
   pub most : x ≤ high
 
+-- 01: version 1 and a zero; 02, request 3: version 2; request 5: edition 2 is "in version 2 files"
+abbrev pub KnownEdition : (version edition : ℕ) → Type 0
+KnownEdition version edition = (InRange version 1 2 × (edition ≡ 0)) ⊎ ((version ≡ 2) × (edition ≡ 2))
+
 -- not 1
 pub record WholeFile (file : List ℕ) (runs : Runs) : Type 0 where
   pub long : 128 ≤ length file
-  pub version : InRange (versionOf file) 1 2
+  pub edition : KnownEdition (versionOf file) (u32 file 52)
   pub fileLength : statedLength file ≡ length file
   pub oneSettings : sectionCount file 0 ≡ 1
   pub nodes : InRange (sectionCount file 1) 1 256
-  pub circuits : sectionCount file 2 ≤ mostCircuits (versionOf file)
+  pub circuits : sectionCount file 2 ≤ mostCircuits (editionAt file) (versionOf file)
   pub stations : sectionCount file 3 ≤ 512
-  pub solutions : (section : ℕ) → InRange section 4 6 → sectionCount file section ≡ solutionCount file
-  pub chain : (section : ℕ) → section < sections → sectionOffset file section ≡ sectionStart file section
-  pub end : sectionStart file sections + trailerSize ≡ length file
-  pub settingsZero : u32 file 52 ≡ 0
-  pub lengths : (system : System) → length (runs system) ≡ solutionCount file
+  pub solutions : (section : ℕ) → 4 ≤ section → section < sections (editionAt file) → sectionCount file section ≡ solutionCount file
+  pub chain : (section : ℕ) → section < sections (editionAt file) → sectionOffset file section ≡ sectionStart file section
+  pub end : sectionStart file (sections (editionAt file)) + trailerSize (editionAt file) ≡ length file
+  pub lengths : (system : System) → length (runs system) ≡ runLength file system
 
 -- "1 to 12 of A-Z, 0-9 and underscore, then spaces to 12"
 pub record WellFormed (name : Name) : Type 0 where
@@ -125,10 +132,16 @@ pub record SoundTables (S : Study) : Type 0 where
 abbrev pub Chargeable : Grid → Type 0
 Chargeable G = 1 ≤ totalPayingTec G
 
+-- not 14 in a background (02, request 5): "fixed generation above demand or variable generation too small"
+pub record Scalable (G : Grid) (b : Background) : Type 0 where
+  pub fixed : totalFixed G b ≤ totalDemand G
+  pub variable : totalDemand G ≤ totalFixed G b + totalVariable G b
+
 -- sound tables, and what 02 asks of a study beside them: "each refusal of a case that a later request adds joins demand 2's conditions"
 pub record SoundStudy (S : Study) : Type 0 where
   pub tables : SoundTables S
   pub chargeable : Chargeable (gridOf S)
+  pub scalable : S .settings .edition ≡ Second → (b : Background) → Scalable (gridOf S) b
 
 -- step 2, for any network, supply and offset, potentials and flows, and a bound on the sum of misses
 pub record Solves (N : Network) (bound : ℕ) (supply offset potential flow : ℕ → ℤ) : Type 0 where
@@ -146,17 +159,22 @@ pub record SolvesSystem (N : Network) (P : Proposed) : Type 0 where
 abbrev pub HasLength : Circuit → Type 0
 HasLength c = 1 ≤ c.overhead + c.cable
 
--- not 11 at circuit c
-abbrev pub Clear : Grid → Runs → ℕ → Type 0
-Clear G runs c = HasLength (circuit (G .circuits) c) → direction (baseFlow G runs c) ≢ InDoubt
+-- not 15 at circuit c (02, request 5), and not 11
+abbrev pub Decided : Grid → Runs → ℕ → Type 0
+Decided G runs c = HasLength (circuit (G .circuits) c) → counting G runs c ≢ Doubtful
 
--- not 11
+abbrev pub Clear : Grid → Runs → ℕ → Type 0
+Clear G runs c = HasLength (circuit (G .circuits) c) → heading G runs c ≢ InDoubt
+
+-- not 15, and not 11
 pub record NoDoubt (G : Grid) (runs : Runs) : Type 0 where
+  pub decided : (c : ℕ) → c < length (G .circuits) → Decided G runs c
   pub clear : (c : ℕ) → c < length (G .circuits) → Clear G runs c
 
--- not 1 to 11, and not 13
+-- not 1 to 11, and not 13 to 15
 pub record Acceptable (file : List ℕ) (runs : Runs) : Type 0 where
   pub whole : WholeFile file runs
   pub study : SoundStudy (studyOf file)
-  pub solved : (system : System) → SolvesSystem (networkOf (gridOf (studyOf file))) (proposed (gridOf (studyOf file)) runs system)
+  pub solved : (system : System) → HasSystem (studyOf file .settings .edition) system
+      → SolvesSystem (networkOf (gridOf (studyOf file))) (proposed (gridOf (studyOf file)) runs system)
   pub directions : NoDoubt (gridOf (studyOf file)) runs

@@ -1,4 +1,5 @@
 -- 01, step 4 (CUSC 14.15.10, 14.15.42 to 47 for lengths; the bands are 01's own): expanded length, direction and signed length of a circuit.
+-- 02, request 5: the background that it counts for.
 use mathlib.Core.Bool.{Bool, true, false, cond}
 use Prim.Native.Nat.{ℕ, _+_, _*_}
 use lib.Dec.{eqb, leb}
@@ -6,6 +7,12 @@ use lib.IntN.{ℤ, pos, negℤ, natAbs}
 use lib.Signed.{nonNeg}
 use Rattle.meaning.specs.declared.Direction.{Direction}
 use Rattle.meaning.specs.declared.Direction.the-variants.{Idle, Forward, Backward, InDoubt}
+use Rattle.meaning.specs.declared.Edition.{Edition}
+use Rattle.meaning.specs.declared.Edition.the-variants.{First, Second}
+use Rattle.meaning.specs.declared.Background.{Background}
+use Rattle.meaning.specs.declared.Background.the-variants.{YearRound, Peak}
+use Rattle.meaning.specs.declared.Counting.{Counting}
+use Rattle.meaning.specs.declared.Counting.the-variants.{For, Doubtful}
 use Rattle.meaning.specs.declared.Settings.{Settings}
 use Rattle.meaning.specs.Study.{Circuit}
 
@@ -36,6 +43,27 @@ inDoubt Idle = false
 inDoubt Forward = false
 inDoubt Backward = false
 inDoubt InDoubt = true
+
+-- 02, request 5: "counts for year round when its flow there is greater in magnitude by more than 800,000,000 mW, for peak when it isn't greater by
+-- more than 400,000,000; between these it is in doubt"
+unfoldable pub byFlows : (yearRound peak : ℤ) → Counting
+byFlows yearRound peak =
+    cond (leb (natAbs yearRound) (natAbs peak + 400000000)) (For Peak)
+    (cond (leb (natAbs yearRound) (natAbs peak + 800000000)) Doubtful (For YearRound))
+
+-- of "an unmarked circuit"; "marked circuits use year round alone", and edition 1 has nothing else
+unfoldable pub countsFor : Edition → (localMark : ℕ) → (yearRound peak : ℤ) → Counting
+countsFor First localMark yearRound peak = For YearRound
+countsFor Second localMark yearRound peak = cond (eqb localMark 0) (byFlows yearRound peak) (For YearRound)
+
+unfoldable pub isDoubtful : Counting → Bool
+isDoubtful (For b) = false
+isDoubtful Doubtful = true
+
+-- the background that a circuit counts for; in doubt is refused as 15 before this is used
+unfoldable pub background : Counting → Background
+background (For b) = b
+background Doubtful = YearRound
 
 -- "A circuit with a length above zero"
 unfoldable pub hasLength : Circuit → Bool

@@ -7,14 +7,17 @@ use Prim.Native.Nat.{ℕ, _≤_, _<_}
 use lib.Dec.{eqb}
 use lib.IntN.{natAbs, _-ℤ_}
 use lib.ListN.{length}
+use Rattle.meaning.specs.declared.Edition.{Edition}
+use Rattle.meaning.specs.declared.Background.{Background}
 use Rattle.meaning.specs.declared.Side.{Side}
 use Rattle.meaning.specs.declared.System.{System}
-use Rattle.meaning.specs.Study.{Kw, Metres, Runs, OfDistances}
+use Rattle.meaning.specs.Editions.{Of, HasSystem, OfDistances}
+use Rattle.meaning.specs.Study.{Kw, Metres, Runs}
 use Rattle.meaning.specs.Grid.{Grid}
 use Rattle.meaning.specs.Figures.{metresBy, zoneOf, weight}
 use Rattle.meaning.specs.Text.{text}
 use Rattle.meaning.specs.Sheet.{letter}
-use Rattle.meaning.specs.Read.{field, readNatural, readWhole, hasLetter, lineAt}
+use Rattle.meaning.specs.Read.{field, readNatural, readWhole, hasLetter, lineAt, metresField}
 
 -- how far two distances are apart
 abbrev pub apart : (a b : Metres) → ℕ
@@ -24,9 +27,12 @@ apart a b = natAbs (a -ℤ b)
 abbrev pub weightIn : Grid → Side → (zone v : ℕ) → Kw
 weightIn G side zone v = cond (eqb (zoneOf G side v) zone) (weight G side v) 0
 
--- a line's third field: the metres of a node, or of a zone
+-- the metres that the line of a node shows, and those of a background on the line of a zone
 abbrev pub shownMetres : (line : List ℕ) → Metres
 shownMetres line = readWhole (field 2 line)
+
+abbrev pub shownIn : Edition → Background → (line : List ℕ) → Metres
+shownIn e b line = readWhole (field (metresField e b) line)
 
 -- two `L` lines of one name
 pub record OfOneName (line line′ : List ℕ) : Type 0 where
@@ -40,9 +46,10 @@ pub record OfNode (G : Grid) (side : Side) (v : ℕ) (line : List ℕ) : Type 0 
   pub some : 1 ≤ weightIn G side (readNatural 0 (field 1 line)) v
   pub others : (u : ℕ) → u < length (G .nodes) → u ≢ v → weightIn G side (readNatural 0 (field 1 line)) u ≡ 0
 
--- every nodal distance of two cases with the same nodes differs by at most m metres, and so do those that their sheets show, wherever the lines stand
+-- every nodal distance of two cases with the same nodes, in each system of the first's edition, differs by at most m metres, and so do those that their sheets show, wherever the lines stand
 pub record DistancesWithin (m : ℕ) (G G′ : Grid) (runs runs′ : Runs) (sheet sheet′ : List ℕ) : Type 0 where
-  pub nodal : (s : System) → OfDistances s → (v : ℕ) → v < length (G .nodes) → apart (metresBy s runs v) (metresBy s runs′ v) ≤ m
+  pub nodal : (s : System) → OfDistances s → HasSystem (G .settings .edition) s → (v : ℕ) → v < length (G .nodes) → apart (metresBy s runs v) (metresBy s runs′ v) ≤ m
   pub localLines : (k k′ : ℕ) → OfOneName (lineAt k sheet) (lineAt k′ sheet′) → apart (shownMetres (lineAt k sheet)) (shownMetres (lineAt k′ sheet′)) ≤ m
-  pub zoneLines : (side : Side) (v k k′ : ℕ) → v < length (G .nodes) → OfNode G side v (lineAt k sheet) → OfNode G′ side v (lineAt k′ sheet′)
-      → apart (shownMetres (lineAt k sheet)) (shownMetres (lineAt k′ sheet′)) ≤ m
+  pub zoneLines : (b : Background) → Of b (G .settings .edition) → (side : Side) (v k k′ : ℕ) → v < length (G .nodes)
+      → OfNode G side v (lineAt k sheet) → OfNode G′ side v (lineAt k′ sheet′)
+      → apart (shownIn (G .settings .edition) b (lineAt k sheet)) (shownIn (G′ .settings .edition) b (lineAt k′ sheet′)) ≤ m

@@ -7,28 +7,28 @@ use Rattle.meaning.specs.declared.Side.{Side}
 use Rattle.meaning.specs.declared.Side.the-variants.{Generation, Demand}
 use Rattle.meaning.specs.declared.ZoneFigures.{ZoneFigures}
 use Rattle.meaning.specs.declared.LocalFigures.{LocalFigures}
-use Rattle.meaning.specs.declared.Background.the-variants.{YearRound}
+use Rattle.meaning.specs.declared.Background.{Background}
 use Rattle.meaning.specs.declared.System.{System}
 use Rattle.meaning.specs.declared.System.the-variants.{Wider, Local}
 use Rattle.meaning.specs.Study.{Kw, Metres, MicroPerKw, Runs, node}
-use Rattle.meaning.specs.Grid.{Grid, nodeTec, payingTec, nodeDemand}
+use Rattle.meaning.specs.Grid.{Grid, nodeTec, payingTec, payingTecIn, nodeDemand}
 use Rattle.meaning.specs.Proposal.{potential}
 use Rattle.meaning.specs.Charging.{metres, turned, inZone, weighedIn, averageOf, targetOf, Basis, Priced}
 use Rattle.meaning.specs.Charging as charging
 
--- step 6: metres of node v by a system of distances, the wider and the local one
+-- step 6: metres of node v by a system of distances, a wider or the local one
 abbrev pub metresBy : System → Runs → ℕ → Metres
 metresBy s runs v = metres (potential (runs s) v)
 
-unfoldable pub widerMetres : Runs → ℕ → Metres
-widerMetres = metresBy (Wider YearRound)
+unfoldable pub widerMetres : Runs → Background → ℕ → Metres
+widerMetres runs b = metresBy (Wider b) runs
 
 unfoldable pub localMetres : Runs → ℕ → Metres
 localMetres = metresBy Local
 
--- (CUSC 14.15.13) its distance on a side
-unfoldable pub distance : Runs → Side → ℕ → Metres
-distance runs side v = turned side (widerMetres runs v)
+-- (CUSC 14.15.13) its distance on a side, in a background
+unfoldable pub distance : Runs → Background → Side → ℕ → Metres
+distance runs b side v = turned side (widerMetres runs b v)
 
 module _ (G : Grid) where
   open Grid G using (settings, nodes)
@@ -52,6 +52,11 @@ module _ (G : Grid) where
   paying Generation v = payingTec G v
   paying Demand v = nodeDemand G v
 
+  -- and of these, in a background: 02, request 5, "Peak's income and C count every chargeable type but 1"
+  unfoldable pub payingIn : Background → Side → ℕ → Kw
+  payingIn b Generation v = payingTecIn b G v
+  payingIn b Demand v = nodeDemand G v
+
   -- the same of a zone, and in all
   unfoldable pub zoneWeight : Side → ℕ → Kw
   zoneWeight side = inZone (length nodes) (zoneOf side) (weight side)
@@ -59,12 +64,18 @@ module _ (G : Grid) where
   unfoldable pub zonePaying : Side → ℕ → Kw
   zonePaying side = inZone (length nodes) (zoneOf side) (paying side)
 
+  unfoldable pub zonePayingIn : Background → Side → ℕ → Kw
+  zonePayingIn b side = inZone (length nodes) (zoneOf side) (payingIn b side)
+
   unfoldable pub totalPaying : Side → Kw
   totalPaying side = sum (length nodes) (paying side)
 
-  -- a price or a distance of each zone, times the kilowatts that pay, over the zones of a side
-  abbrev pub overZones : Side → (ℕ → ℤ) → ℤ
-  overZones side = charging.overZones (zones side) (zonePaying side)
+  unfoldable pub totalPayingIn : Background → Side → Kw
+  totalPayingIn b side = sum (length nodes) (payingIn b side)
+
+  -- a price or a distance of each zone, times the kilowatts that pay in a background, over the zones of a side
+  abbrev pub overZones : Background → Side → (ℕ → ℤ) → ℤ
+  overZones b side = charging.overZones (zones side) (zonePayingIn b side)
 
   -- step 10: targets in micro-pounds
   abbrev pub target : Side → ℤ
@@ -72,15 +83,16 @@ module _ (G : Grid) where
 
   module _ (runs : Runs) where
     -- step 7: zonal metres
-    unfoldable pub zonalMetres : Side → ℕ → Metres
-    zonalMetres side zone = averageOf (weighedIn (length nodes) (zoneOf side) (distance runs side) (weight side) zone) (zoneWeight side zone)
+    unfoldable pub zonalMetres : Background → Side → ℕ → Metres
+    zonalMetres b side zone = averageOf (weighedIn (length nodes) (zoneOf side) (distance runs b side) (weight side) zone) (zoneWeight side zone)
 
     -- what steps 8 to 10 ask
     unfoldable pub basis : Basis
     basis =
         record {
           settings = settings;
-          side = λ side. record { count = zones side; weight = zoneWeight side; paying = zonePaying side; metres = zonalMetres side; total = totalPaying side };
+          side = λ b side. record { count = zones side; weight = zoneWeight side; paying = zonePayingIn b side; metres = zonalMetres b side; total = totalPayingIn b side };
+          payers = totalPaying;
           nodes = length nodes;
           tec = nodeTec G;
           paying = payingTec G;
@@ -88,7 +100,7 @@ module _ (G : Grid) where
         }
 
     -- and what they answer, by name
-    abbrev pub C : Metres
+    abbrev pub C : Background → Metres
     C = charging.C basis
 
     abbrev pub localTariff : (v : ℕ) → MicroPerKw
@@ -103,11 +115,11 @@ module _ (G : Grid) where
     abbrev pub priced : Side → Priced
     priced = charging.priced basis
 
-    abbrev pub afterC : Side → (zone : ℕ) → Metres
-    afterC side = charging.afterC (priced side)
+    abbrev pub afterC : Background → Side → (zone : ℕ) → Metres
+    afterC b side = charging.afterC (priced side) b
 
-    abbrev pub zoneTariff : Side → (zone : ℕ) → MicroPerKw
-    zoneTariff side = charging.zoneTariff (priced side)
+    abbrev pub zoneTariff : Background → Side → (zone : ℕ) → MicroPerKw
+    zoneTariff b side = charging.zoneTariff (priced side) b
 
     abbrev pub rest : Side → ℤ
     rest side = charging.rest (priced side)

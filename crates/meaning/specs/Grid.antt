@@ -10,6 +10,8 @@ use Rattle.meaning.specs.Rows.{_between_and_, lowest, rows}
 use Rattle.meaning.specs.Name.{Name, sameName}
 use Rattle.meaning.specs.declared.Settings.{Settings}
 use Rattle.meaning.specs.Study.{Kw, Node, Circuit, Station, Study, node, station}
+use Rattle.meaning.specs.declared.Background.{Background}
+use Rattle.meaning.specs.declared.Background.the-variants.{YearRound, Peak}
 use Rattle.meaning.specs.declared.Plant.{Plant}
 use Rattle.meaning.specs.declared.Plant.the-variants.{Intermittent, NuclearAndCcs, Interconnector, Hydro, PumpedStorage, Peaking, Other}
 use Rattle.meaning.specs.declared.Judgement.{Judgement}
@@ -23,16 +25,6 @@ plantOf t =
     (cond (eqb t 2) NuclearAndCcs
     (cond (eqb t 3) Interconnector (cond (eqb t 4) Hydro (cond (eqb t 5) PumpedStorage (cond (eqb t 6) Peaking Other)))))
 
--- whether the TEC of a plant type scales (step 1) and weighs (step 7): all of it; 02, request 1: "Type 3 TEC stays in scaling and zonal weights"
-unfoldable pub scales : Plant → Bool
-scales Intermittent = true
-scales NuclearAndCcs = true
-scales Interconnector = true
-scales Hydro = true
-scales PumpedStorage = true
-scales Peaking = true
-scales Other = true
-
 -- whether the TEC of a plant type pays (steps 8 and 10): 02, request 1, "Interconnectors don't pay"
 unfoldable pub pays : Plant → Bool
 pays Intermittent = true
@@ -42,6 +34,17 @@ pays Hydro = true
 pays PumpedStorage = true
 pays Peaking = true
 pays Other = true
+
+-- and whether it does in a background: 02, request 5, "Peak's income and C count every chargeable type but 1"
+unfoldable pub paysIn : Background → Plant → Bool
+paysIn YearRound plant = pays plant
+paysIn Peak Intermittent = false
+paysIn Peak NuclearAndCcs = true
+paysIn Peak Interconnector = false
+paysIn Peak Hydro = true
+paysIn Peak PumpedStorage = true
+paysIn Peak Peaking = true
+paysIn Peak Other = true
 
 pub record Grid : Type 0 where
   pub settings : Settings
@@ -71,17 +74,24 @@ gridOf S =
       capacity = rows (length (S .nodes)) (λ v. rows 7 (λ t. capacityOf S v (suc t)));
     }
 
+-- something of each plant type at node v, by the type and its TEC there, added up
+unfoldable pub overTypes : (Plant → Kw → Kw) → Grid → ℕ → Kw
+overTypes part G v = sum 7 (λ t. part (plantOf (suc t)) (getD (getD (G .capacity) v []) t 0))
+
 -- TEC at node v of the plant types that pass a test
-unfoldable pub tecOf : (Plant → Bool) → Grid → ℕ → Kw
-tecOf test G v = sum 7 (λ t. cond (test (plantOf (suc t))) (getD (getD (G .capacity) v []) t 0) 0)
+abbrev pub tecOf : (Plant → Bool) → Grid → ℕ → Kw
+tecOf test = overTypes (λ plant kw. cond (test plant) kw 0)
 
--- step 1, "Node TEC is the sum over its stations": the TEC that scales and weighs
+-- step 1, "Node TEC is the sum over its stations": all of it weighs (step 7); 02, request 1: "Type 3 TEC stays in scaling and zonal weights"
 abbrev pub nodeTec : Grid → ℕ → Kw
-nodeTec = tecOf scales
+nodeTec = overTypes (λ plant kw. kw)
 
--- the TEC that pays: "chargeable kilowatts"
+-- the TEC that pays, "chargeable kilowatts"; and what of it pays in a background
 abbrev pub payingTec : Grid → ℕ → Kw
 payingTec = tecOf pays
+
+abbrev pub payingTecIn : Background → Grid → ℕ → Kw
+payingTecIn b = tecOf (paysIn b)
 
 abbrev pub nodeDemand : Grid → ℕ → Kw
 nodeDemand G v = node (G .nodes) v .demand

@@ -2,6 +2,7 @@
 -- CUSC paragraphs are those of the 2011 text of section 14; 14.15.7 alone is of the later edition.
 pub mod Rows
 pub mod Name
+pub mod Editions
 pub mod Study
 pub mod File
 pub mod Answers
@@ -9,6 +10,7 @@ pub mod Tables
 pub mod Grid
 pub mod Network
 pub mod Scaled
+pub mod Generation
 pub mod Direction
 pub mod Proposal
 pub mod Systems
@@ -25,6 +27,7 @@ pub mod Distances
 pub mod Demands
 pub mod Mirror
 pub mod Versions
+pub mod Backgrounds
 pub mod OnlyDirections
 pub mod Calls
 -- no words of 01: arrays and searches as code has them

@@ -3,7 +3,7 @@ use mathlib.Core.Path.{_≡_}
 use mathlib.Core.Logic.{_⊎_}
 use mathlib.Core.Bool.{true, cond}
 use mathlib.Core.List.{List}
-use Prim.Native.Nat.{ℕ, _+_, _*_, _-_, _<_}
+use Prim.Native.Nat.{ℕ, _+_, _*_, _-_, _≤_, _<_}
 use lib.Dec.{eqb}
 use lib.IntN.{ℤ, pos, negℤ, _+ℤ_, _-ℤ_, _*ℤ_}
 use lib.ListN.{length}
@@ -12,15 +12,17 @@ use Rattle.integers.specs.Numbers.{sum, Σ, floorDiv, nearest}
 use Rattle.meaning.specs.declared.Side.{Side}
 use Rattle.meaning.specs.declared.Side.the-variants.{Generation, Demand}
 use Rattle.meaning.specs.declared.System.{System}
-use Rattle.meaning.specs.Study.{Kw, Metres, Runs, OfDistances}
+use Rattle.meaning.specs.declared.Background.{Background}
+use Rattle.meaning.specs.Editions.{OfDistances}
+use Rattle.meaning.specs.Study.{Kw, Metres, Runs}
 use Rattle.meaning.specs.File.{studyOf}
 use Rattle.meaning.specs.Grid.{Grid, gridOf}
 use Rattle.meaning.specs.Proposal.{potential}
-use Rattle.meaning.specs.Figures.{zones, zoneOf, weight, paying, zoneWeight, totalPaying, overZones, distance, metresBy, zonalMetres, C, afterC, zoneTariff, localMetres, localTariff, localIncome, residual, remainder, zoneTotal}
+use Rattle.meaning.specs.Figures.{zones, zoneOf, weight, paying, payingIn, zoneWeight, totalPayingIn, overZones, distance, metresBy, zonalMetres, C, afterC, zoneTariff, localMetres, localTariff, localIncome, residual, remainder, zoneTotal}
 use Rattle.meaning.specs.Outcome.{sheetOf}
 use Rattle.meaning.specs.Sheet.{letter}
-use Rattle.meaning.specs.Read.{field, readNatural, readWhole, hasLetter, lineAt}
-use Rattle.meaning.specs.Conditions.{InRange, Acceptable}
+use Rattle.meaning.specs.Read.{field, readNatural, readWhole, hasLetter, lineAt, residualField}
+use Rattle.meaning.specs.Conditions.{Acceptable}
 use Rattle.meaning.specs.Distances.{weightIn}
 
 -- ---- one division
@@ -44,14 +46,14 @@ OnlyNegativeHalvesMove = (z : ℤ) (d : ℕ) → 0 < d → (nearest z d ≡ half
 -- ---- the divisions of a case: steps 6, 7, 8 and 9 divide z by d for this figure
 pub data Divides (G : Grid) (runs : Runs) : (z : ℤ) (d : ℕ) (figure : ℤ) → Type 0 where
   nodal : (s : System) → OfDistances s → (v : ℕ) → Divides G runs (potential (runs s) v) 1000000000 (metresBy s runs v)
-  zonal : (side : Side) (zone : ℕ)
-      → Divides G runs (Σ (length (G .nodes)) (λ v. cond (eqb (zoneOf G side v) zone) (distance runs side v *ℤ pos (weight G side v)) (pos 0))) (zoneWeight G side zone) (zonalMetres G runs side zone)
-  centre : Divides G runs
-      (pos (1000 - G .settings .p) *ℤ overZones G Demand (zonalMetres G runs Demand) -ℤ pos (G .settings .p) *ℤ overZones G Generation (zonalMetres G runs Generation))
-      (G .settings .p * totalPaying G Generation + (1000 - G .settings .p) * totalPaying G Demand)
-      (C G runs)
-  zoneTariffs : (side : Side) (zone : ℕ)
-      → Divides G runs (afterC G runs side zone *ℤ pos (G .settings .constant) *ℤ pos (G .settings .«wider_factor»)) 100000 (zoneTariff G runs side zone)
+  zonal : (b : Background) (side : Side) (zone : ℕ)
+      → Divides G runs (Σ (length (G .nodes)) (λ v. cond (eqb (zoneOf G side v) zone) (distance runs b side v *ℤ pos (weight G side v)) (pos 0))) (zoneWeight G side zone) (zonalMetres G runs b side zone)
+  centre : (b : Background) → Divides G runs
+      (pos (1000 - G .settings .p) *ℤ overZones G b Demand (zonalMetres G runs b Demand) -ℤ pos (G .settings .p) *ℤ overZones G b Generation (zonalMetres G runs b Generation))
+      (G .settings .p * totalPayingIn G b Generation + (1000 - G .settings .p) * totalPayingIn G b Demand)
+      (C G runs b)
+  zoneTariffs : (b : Background) (side : Side) (zone : ℕ)
+      → Divides G runs (afterC G runs b side zone *ℤ pos (G .settings .constant) *ℤ pos (G .settings .«wider_factor»)) 100000 (zoneTariff G runs b side zone)
   localTariffs : (v : ℕ)
       → Divides G runs (localMetres runs v *ℤ pos (G .settings .constant) *ℤ pos (G .settings .«local_factor»)) 100000 (localTariff G runs v)
 
@@ -72,11 +74,11 @@ AveragesMirror = (n : ℕ) (m : ℕ → Metres) (w : ℕ → Kw) → average n (
 abbrev pub WeighAlike : Grid → (g d : ℕ) → Type 0
 WeighAlike G g d = (v : ℕ) → v < length (G .nodes) → weightIn G Generation g v ≡ weightIn G Demand d v
 
--- have opposite figures: m and -m, m + C and -m - C, and the tariffs of these
+-- have opposite figures in each background: m and -m, m + C and -m - C, and the tariffs of these
 pub record Opposite (G : Grid) (runs : Runs) (g d : ℕ) : Type 0 where
-  pub metres : zonalMetres G runs Demand d ≡ negℤ (zonalMetres G runs Generation g)
-  pub withC : afterC G runs Demand d ≡ negℤ (afterC G runs Generation g)
-  pub tariffs : zoneTariff G runs Demand d ≡ negℤ (zoneTariff G runs Generation g)
+  pub metres : (b : Background) → zonalMetres G runs b Demand d ≡ negℤ (zonalMetres G runs b Generation g)
+  pub withC : (b : Background) → afterC G runs b Demand d ≡ negℤ (afterC G runs b Generation g)
+  pub tariffs : (b : Background) → zoneTariff G runs b Demand d ≡ negℤ (zoneTariff G runs b Generation g)
 
 abbrev pub ZonesMirror : Type 0
 ZonesMirror = (G : Grid) (runs : Runs) (g d : ℕ) → WeighAlike G g d → Opposite G runs g d
@@ -87,9 +89,9 @@ pub record LinesAlike (G : Grid) (line line′ : List ℕ) : Type 0 where
   pub demand : hasLetter (letter Demand) line′ ≡ true
   pub alike : WeighAlike G (readNatural 0 (field 1 line)) (readNatural 0 (field 1 line′))
 
--- have opposite numbers in fields 2 (zonal metres), 3 (metres after C) and 4 (tariff); a line with `-` has none, and reads as 0
+-- have opposite numbers in the fields before the residual, zonal metres, metres after C and tariff of each background; a line with `-` has none, and reads as 0
 pub record ShowsMirror (G : Grid) (sheet : List ℕ) : Type 0 where
-  pub opposite : (i j k : ℕ) → LinesAlike G (lineAt i sheet) (lineAt j sheet) → InRange k 2 4
+  pub opposite : (i j k : ℕ) → LinesAlike G (lineAt i sheet) (lineAt j sheet) → 2 ≤ k → k < residualField (G .settings .edition)
       → readWhole (field k (lineAt j sheet)) ≡ negℤ (readWhole (field k (lineAt i sheet)))
 
 abbrev pub PrintedMirror : Type 0
@@ -107,6 +109,8 @@ pub record Exchanged (G G′ : Grid) (runs runs′ : Runs) : Type 0 where
   pub zonesOf : (side : Side) (v : ℕ) → v < length (G .nodes) → zoneOf G′ side v ≡ zoneOf G (other side) v
   pub weights : (side : Side) (v : ℕ) → v < length (G .nodes) → weight G′ side v ≡ weight G (other side) v
   pub payers : (side : Side) (v : ℕ) → v < length (G .nodes) → paying G′ side v ≡ paying G (other side) v
+  pub payersIn : (b : Background) (side : Side) (v : ℕ) → v < length (G .nodes) → payingIn G′ b side v ≡ payingIn G b (other side) v
+  pub editions : G′ .settings .edition ≡ G .settings .edition
   pub shares : G′ .settings .p + G .settings .p ≡ 1000
   pub constants : G′ .settings .constant ≡ G .settings .constant
   pub widerFactors : G′ .settings .«wider_factor» ≡ G .settings .«wider_factor»
@@ -115,10 +119,10 @@ pub record Exchanged (G G′ : Grid) (runs runs′ : Runs) : Type 0 where
 
 -- C and the local figures are turned round, and what is printed of generation's zones is printed of demand's
 pub record MirrorImage (G G′ : Grid) (runs runs′ : Runs) : Type 0 where
-  pub centre : C G′ runs′ ≡ negℤ (C G runs)
-  pub metres : (side : Side) (zone : ℕ) → zonalMetres G′ runs′ side zone ≡ zonalMetres G runs (other side) zone
-  pub withC : (side : Side) (zone : ℕ) → afterC G′ runs′ side zone ≡ afterC G runs (other side) zone
-  pub tariffs : (side : Side) (zone : ℕ) → zoneTariff G′ runs′ side zone ≡ zoneTariff G runs (other side) zone
+  pub centre : (b : Background) → C G′ runs′ b ≡ negℤ (C G runs b)
+  pub metres : (b : Background) (side : Side) (zone : ℕ) → zonalMetres G′ runs′ b side zone ≡ zonalMetres G runs b (other side) zone
+  pub withC : (b : Background) (side : Side) (zone : ℕ) → afterC G′ runs′ b side zone ≡ afterC G runs b (other side) zone
+  pub tariffs : (b : Background) (side : Side) (zone : ℕ) → zoneTariff G′ runs′ b side zone ≡ zoneTariff G runs b (other side) zone
   pub localDistances : (v : ℕ) → v < length (G .nodes) → localMetres runs′ v ≡ negℤ (localMetres runs v)
   pub localTariffs : (v : ℕ) → v < length (G .nodes) → localTariff G′ runs′ v ≡ negℤ (localTariff G runs v)
 

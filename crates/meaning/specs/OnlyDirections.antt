@@ -7,9 +7,12 @@ use lib.ListN.{length}
 use Rattle.meaning.specs.Rows.{rows}
 use Rattle.meaning.specs.Name.{Name}
 use Rattle.meaning.specs.declared.Settings.{Settings}
+use Rattle.meaning.specs.declared.Edition.the-variants.{First}
+use Rattle.meaning.specs.declared.Background.the-variants.{YearRound}
 use Rattle.meaning.specs.declared.System.{System}
 use Rattle.meaning.specs.declared.System.the-variants.{Base, Wider, Local}
-use Rattle.meaning.specs.Study.{Node, Circuit, Study, Runs, OfDistances, node}
+use Rattle.meaning.specs.Study.{Node, Circuit, Study, Runs, node}
+use Rattle.meaning.specs.Editions.{HasSystem, OfDistances}
 use Rattle.meaning.specs.File.{studyOf}
 use Rattle.meaning.specs.Grid.{gridOf}
 use Rattle.meaning.specs.Figures.{metresBy, widerMetres, localMetres}
@@ -25,7 +28,11 @@ factorsOf s = s.overhead400 ∷ s.cable400 ∷ s.overhead275 ∷ s.cable275 ∷ 
 abbrev pub namesOf : List Node → List Name
 namesOf nodes = rows (length nodes) (λ v. node nodes v .name)
 
--- what is asked of two cases; nothing is asked of demand, TEC, zones, the other settings, stations and solvers
+-- "Prove over edition 1"
+abbrev pub BothFirst : (S S′ : Study) → Type 0
+BothFirst S S′ = (S .settings .edition ≡ First) × (S′ .settings .edition ≡ First)
+
+-- what is asked of two such cases; nothing is asked of demand, TEC, zones, the other settings, stations and solvers
 pub data Asked : Type 0 where
   sameCircuits : Asked
   sameNames : Asked
@@ -33,8 +40,7 @@ pub data Asked : Type 0 where
   sameReference : Asked
   sameDirections : Asked
 
--- "equal circuits, node names in equal order, factors and reference, whose circuits with a length have equal directions (idle ones idle in both)".
--- "over edition 1": until request 5 every accepted case is of it (WholeFile, settingsZero); from then on a line here asks it of both
+-- "equal circuits, node names in equal order, factors and reference, whose circuits with a length have equal directions (idle ones idle in both)"
 abbrev pub Holds : Asked → (S S′ : Study) (runs runs′ : Runs) → Type 0
 Holds sameCircuits S S′ runs runs′ = S .circuits ≡ S′ .circuits
 Holds sameNames S S′ runs runs′ = namesOf (S .nodes) ≡ namesOf (S′ .nodes)
@@ -48,6 +54,7 @@ OnlyDirectionsCount =
     (file file′ : List ℕ) (runs runs′ : Runs)
     → Acceptable file runs
     → Acceptable file′ runs′
+    → BothFirst (studyOf file) (studyOf file′)
     → ((a : Asked) → Holds a (studyOf file) (studyOf file′) runs runs′)
     → DistancesWithin 1 (gridOf (studyOf file)) (gridOf (studyOf file′)) runs runs′ (sheetOf file runs) (sheetOf file′ runs′)
 
@@ -62,8 +69,9 @@ OwnDirectionsCount =
     (file file′ : List ℕ) (runs runs′ : Runs)
     → Acceptable file runs
     → Acceptable file′ runs′
+    → BothFirst (studyOf file) (studyOf file′)
     → ((a : Asked) → a ≢ sameDirections → Holds a (studyOf file) (studyOf file′) runs runs′)
-    → (s : System) → OfDistances s → SameDirections (λ c. HasLength c × Own s c) (studyOf file) (studyOf file′) runs runs′
+    → (s : System) → OfDistances s → HasSystem First s → SameDirections (λ c. HasLength c × Own s c) (studyOf file) (studyOf file′) runs runs′
     → (v : ℕ) → v < length (studyOf file .nodes) → apart (metresBy s runs v) (metresBy s runs′ v) ≤ 1
 
 -- ---- and no less will do
@@ -81,7 +89,7 @@ HoldsOf t a = Holds a (studyOf (t .file)) (studyOf (t .file′)) (t .runs) (t .r
 pub record FarApart (t : Two) : Type 0 where
   pub node : ℕ
   pub isNode : node < length (studyOf (t .file) .nodes)
-  pub far : 2 ≤ apart (widerMetres (t .runs) node) (widerMetres (t .runs′) node)
+  pub far : 2 ≤ apart (widerMetres (t .runs) YearRound node) (widerMetres (t .runs′) YearRound node)
 
 -- two accepted cases of which all but this is so; and two of which all is so, the first accepted
 pub record Needed (a : Asked) : Type 0 where
@@ -106,5 +114,5 @@ pub record MetreIsReached : Type 0 where
   pub accepted : Acceptable (two .file) (two .runs)
   pub accepted′ : Acceptable (two .file′) (two .runs′)
   pub all : (a : Asked) → HoldsOf two a
-  pub wider : (v : ℕ) × (v < length (studyOf (two .file) .nodes)) × (apart (widerMetres (two .runs) v) (widerMetres (two .runs′) v) ≡ 1)
+  pub wider : (v : ℕ) × (v < length (studyOf (two .file) .nodes)) × (apart (widerMetres (two .runs) YearRound v) (widerMetres (two .runs′) YearRound v) ≡ 1)
   pub local : (v : ℕ) × (v < length (studyOf (two .file) .nodes)) × (apart (localMetres (two .runs) v) (localMetres (two .runs′) v) ≡ 1)

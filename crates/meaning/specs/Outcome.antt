@@ -1,4 +1,4 @@
--- 01, What stops a case ("Order") and What each entry settles: from the bytes of a file, three runs and a buffer to the answer.
+-- 01, What stops a case ("Order") and What each entry settles: from the bytes of a file, its runs and a buffer to the answer.
 use mathlib.Core.List.{List, [], _∷_, _++_}
 use Prim.Native.Nat.{ℕ}
 use lib.Dec.{leb}
@@ -17,6 +17,7 @@ use Rattle.meaning.specs.File.{fileWhole, runsWhole, studyOf, runsIn}
 use Rattle.meaning.specs.Tables.{settingsStage, nodesStage, circuitsStage, stationsStage}
 use Rattle.meaning.specs.Grid.{Grid, gridOf, totalsStage, chargeableStage}
 use Rattle.meaning.specs.Network.{networkOf, reachStage}
+use Rattle.meaning.specs.Generation.{scalingStage}
 use Rattle.meaning.specs.Systems.{proposalsStage}
 use Rattle.meaning.specs.Text.{text, natural, line}
 use Rattle.meaning.specs.Sheet.{sheet}
@@ -32,16 +33,16 @@ runsStage file long = unless (runsWhole file long) BadFile
 unfoldable pub rowsStage : Study → Judgement
 rowsStage S = settingsStage S orElse nodesStage S orElse circuitsStage S orElse stationsStage S
 
--- 6 and 7 of a grid, then 13
+-- 6 and 7 of a grid, then 13, then 14
 unfoldable pub gridStage : Grid → Judgement
-gridStage G = reachStage (networkOf G) orElse totalsStage G orElse chargeableStage G
+gridStage G = reachStage (networkOf G) orElse totalsStage G orElse chargeableStage G orElse scalingStage G
 
--- all that is asked before the proposals, of a file and the lengths of the runs: 1 to 7, then 13
+-- all that is asked before the proposals, of a file and the lengths of the runs: 1 to 7, then 13 and 14
 unfoldable pub tablesStage : (file : List ℕ) → (long : System → ℕ) → Judgement
 tablesStage file long =
     fileStage file orElse runsStage file long orElse rowsStage (studyOf file) orElse gridStage (gridOf (studyOf file))
 
--- "Order: 1 to 7; 8, 9, 10 for system 1 (base); 11; 8, 9, 10 for system 2 (wider), then 3 (local)"; 13 after 7
+-- "Order: 1 to 7; 8, 9, 10 for system 1 (base); 11; 8, 9, 10 for system 2 (wider), then 3 (local)"; 13 after 7, and 14
 unfoldable pub judged : (file : List ℕ) → Runs → Judgement
 judged file runs = tablesStage file (λ s. length (runs s)) orElse proposalsStage (gridOf (studyOf file)) runs
 
@@ -79,7 +80,7 @@ unfoldable pub settledBy : Judgement → (sheet buffer : List ℕ) → Settled
 settledBy Passes sheet buffer = written sheet buffer
 settledBy (Stops r) sheet buffer = refused r buffer
 
--- 1 to 11 and 13, then 12
+-- 1 to 11 and 13 to 15, then 12
 unfoldable pub settle : (file : List ℕ) → Runs → (buffer : List ℕ) → Settled
 settle file runs buffer =
     let sheet = sheetOf file runs in

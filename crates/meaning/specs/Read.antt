@@ -7,10 +7,15 @@ use lib.IntN.{ℤ, pos, negℤ, _+ℤ_, _*ℤ_}
 use lib.ListN.{getD, take, replicate}
 use Rattle.meaning.specs.Text.{text}
 use Rattle.meaning.specs.Name.{Name, sameName}
+use Rattle.meaning.specs.declared.Edition.{Edition}
+use Rattle.meaning.specs.declared.Edition.the-variants.{First, Second}
+use Rattle.meaning.specs.declared.Background.{Background}
+use Rattle.meaning.specs.declared.Background.the-variants.{YearRound, Peak}
 use Rattle.meaning.specs.declared.Side.{Side}
+use Rattle.meaning.specs.Editions.{overBackgrounds}
 use Rattle.meaning.specs.declared.Side.the-variants.{Generation, Demand}
 use Rattle.meaning.specs.Grid.{Grid, payingTec, place}
-use Rattle.meaning.specs.Figures.{zonePaying}
+use Rattle.meaning.specs.Figures.{zonePaying, zonePayingIn}
 use Rattle.meaning.specs.Sheet.{letter}
 
 -- a byte in front of the first piece
@@ -53,16 +58,41 @@ unfoldable pub overLines : (List ℕ → ℤ) → List (List ℕ) → ℤ
 overLines f [] = pos 0
 overLines f (line ∷ lines) = f line +ℤ overLines f lines
 
+-- where a zone's line has a background's metres, metres after C and tariff, the residual and the total, by number from 0
+unfoldable pub metresField : Edition → Background → ℕ
+metresField First b = 2
+metresField Second Peak = 2
+metresField Second YearRound = 5
+
+abbrev pub tariffField : Edition → Background → ℕ
+tariffField e b = metresField e b + 2
+
+unfoldable pub residualField : Edition → ℕ
+residualField First = 5
+residualField Second = 8
+
+abbrev pub totalField : Edition → ℕ
+totalField e = residualField e + 1
+
+-- the tariffs of a zone's line, added up
+abbrev pub printedTariffs : Edition → (line : List ℕ) → ℤ
+printedTariffs e line = overBackgrounds e (λ b. readWhole (field (tariffField e b) line))
+
 module _ (G : Grid) where
-  -- a zone's line: its total times the zone's kilowatts that pay; a line with `-` has no total, and reads as 0
+  open Grid G using (settings, nodes)
+
+  -- a zone's line: each background's tariff times the zone's kilowatts that pay in it, and the residual times those that pay; a line with `-` has none of these, and they read as 0
   unfoldable pub zoneIncome : Side → (line : List ℕ) → ℤ
   zoneIncome side line =
-      cond (hasLetter (letter side) line) (readWhole (field 6 line) *ℤ pos (zonePaying G side (readNatural 0 (field 1 line)))) (pos 0)
+      let zone = readNatural 0 (field 1 line) in
+      cond (hasLetter (letter side) line) (
+      overBackgrounds (settings .edition) (λ b. readWhole (field (tariffField (settings .edition) b) line) *ℤ pos (zonePayingIn G b side zone))
+      +ℤ readWhole (field (residualField (settings .edition)) line) *ℤ pos (zonePaying G side zone)) (pos 0)
 
   -- a node's line: its local tariff times the node's kilowatts that pay
   unfoldable pub nodeIncome : (line : List ℕ) → ℤ
   nodeIncome line =
-      cond (hasLetter (text "L") line) (readWhole (field 3 line) *ℤ pos (payingTec G (place (G .nodes) (padded (field 1 line))))) (pos 0)
+      cond (hasLetter (text "L") line) (readWhole (field 3 line) *ℤ pos (payingTec G (place nodes (padded (field 1 line))))) (pos 0)
 
   -- what a line brings in to a side: to generation a `G` line and an `L` line, to demand a `D` line
   unfoldable pub lineIncome : Side → (line : List ℕ) → ℤ

@@ -2,20 +2,24 @@
 use mathlib.Core.Path.{_≡_}
 use mathlib.Core.Logic.{_⊎_}
 use mathlib.Core.List.{List, [], _∷_, _++_}
-use Prim.Native.Nat.{ℕ, suc, _+_, _≤_, _<_}
+use Prim.Native.Nat.{ℕ, suc, _+_, _-_, _≤_, _<_}
 use lib.IntN.{pos, natAbs, _-ℤ_}
 use lib.ListN.{length, getD}
-use Rattle.meaning.specs.Study.{Study, Runs, flowSystems, distanceSystems}
+use Rattle.meaning.specs.declared.Edition.{Edition}
+use Rattle.meaning.specs.declared.Edition.the-variants.{First, Second}
+use Rattle.meaning.specs.declared.Background.the-variants.{YearRound, Peak}
+use Rattle.meaning.specs.Editions.{flowSystems, distanceSystems}
+use Rattle.meaning.specs.Study.{Study, Runs}
 use Rattle.meaning.specs.File.{studyOf}
 use Rattle.meaning.specs.declared.System.{System}
 use Rattle.meaning.specs.declared.Refusal.{Refusal}
-use Rattle.meaning.specs.declared.Refusal.the-variants.{BadFile, BadSetting, BadNode, BadCircuit, BadStation, Unreached, BadTotal, BadNumber, Unbalanced, MissesTooHigh, DirectionInDoubt, ShortBuffer, NoChargeableTec}
+use Rattle.meaning.specs.declared.Refusal.the-variants.{BadFile, BadSetting, BadNode, BadCircuit, BadStation, Unreached, BadTotal, BadNumber, Unbalanced, MissesTooHigh, DirectionInDoubt, ShortBuffer, NoChargeableTec, Unscalable, BackgroundInDoubt}
 use Rattle.meaning.specs.Grid.{Grid, gridOf}
 use Rattle.meaning.specs.Network.{Network, networkOf, Reached}
 use Rattle.meaning.specs.Proposal.{potential, flow, flowOut, flowIn, missSum, Proposed}
-use Rattle.meaning.specs.Systems.{proposed}
+use Rattle.meaning.specs.Systems.{backgroundOf, proposed}
 use Rattle.meaning.specs.Outcome.{sheetOf}
-use Rattle.meaning.specs.Conditions.{WholeFile, SoundSettings, SoundNode, SoundCircuit, SoundStation, SoundTotals, Chargeable, Clear}
+use Rattle.meaning.specs.Conditions.{WholeFile, SoundSettings, SoundNode, SoundCircuit, SoundStation, SoundTotals, Chargeable, Scalable, Decided, Clear}
 
 -- ---- what 8, 9 and 10 ask, each by itself; the others are in Conditions
 -- not 8 at row i: "circuits after nodes"; "The reference node's potential is 0."
@@ -70,15 +74,24 @@ rowsOrder S =
     ∷ eachRow (length (S .stations)) (SoundStation S) BadStation
     ∷ []
 
--- 6 and 7, then 13
+-- 02, request 5: what edition 2 alone asks
+abbrev pub onlySecond : Edition → List Condition → List Condition
+onlySecond First cs = []
+onlySecond Second cs = cs
+
+-- 14, of each background
+abbrev pub scalingOrder : Grid → List Condition
+scalingOrder G = onlySecond (G .settings .edition) (whole (Scalable G YearRound) Unscalable ∷ whole (Scalable G Peak) Unscalable ∷ [])
+
+-- 6 and 7, then 13, then 14
 abbrev pub gridOrder : Grid → List Condition
 gridOrder G =
     eachRow (length (G .nodes)) (Reached (networkOf G)) Unreached
     ∷ whole (SoundTotals G) BadTotal
     ∷ whole (Chargeable G) NoChargeableTec
-    ∷ []
+    ∷ scalingOrder G
 
--- "8, 9, 10" of a system, and 11
+-- "8, 9, 10" of a system; 15; and 11, "with the system whose flow is in doubt"
 abbrev pub systemOrder : Grid → Runs → System → List Condition
 systemOrder G runs s =
     eachRow (length (G .nodes) + length (G .circuits)) (SoundNumber (networkOf G) (proposed G runs s)) (BadNumber s)
@@ -86,19 +99,24 @@ systemOrder G runs s =
     ∷ whole (MissesLow (networkOf G) (proposed G runs s)) (MissesTooHigh s)
     ∷ []
 
+abbrev pub countingOrder : Grid → Runs → List Condition
+countingOrder G runs = onlySecond (G .settings .edition) (eachRow (length (G .circuits)) (Decided G runs) BackgroundInDoubt ∷ [])
+
 abbrev pub directionOrder : Grid → Runs → List Condition
-directionOrder G runs = eachRow (length (G .circuits)) (Clear G runs) DirectionInDoubt ∷ []
+directionOrder G runs = eachRow (length (G .circuits)) (Clear G runs) (λ row. DirectionInDoubt (backgroundOf G runs (row - 1)) row) ∷ []
 
 -- of these systems in their order, then what comes after
 abbrev pub systemsOrder : Grid → Runs → List System → (after : List Condition) → List Condition
 systemsOrder G runs [] after = after
 systemsOrder G runs (s ∷ ss) after = systemOrder G runs s ++ systemsOrder G runs ss after
 
--- "8, 9, 10 for system 1 (base); 11; 8, 9, 10 for system 2 (wider), then 3 (local)"
+-- "8, 9, 10 for system 1 (base); 11; 8, 9, 10 for system 2 (wider), then 3 (local)"; 02, request 5: "8 to 10 for systems 1 and 4; 15 ..; 11 ..; 8 to 10 for 2, 5 and 3"
 abbrev pub proposalsOrder : Grid → Runs → List Condition
-proposalsOrder G runs = systemsOrder G runs flowSystems (directionOrder G runs ++ systemsOrder G runs distanceSystems [])
+proposalsOrder G runs =
+    let e = G .settings .edition in
+    systemsOrder G runs (flowSystems e) (countingOrder G runs ++ (directionOrder G runs ++ systemsOrder G runs (distanceSystems e) []))
 
--- "Order: 1 to 7;" 13, and these
+-- "Order: 1 to 7;" 13, 14, and these
 abbrev pub caseOrder : (file : List ℕ) → Runs → List Condition
 caseOrder file runs =
     let S = studyOf file in

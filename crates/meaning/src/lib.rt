@@ -8,7 +8,8 @@ pub struct Metres(pub i64);
 pub struct MicroPerKw(pub i64);
 
 // 01, The case file: the settings, in its order (inputs: CUSC 14.15.5 to 9; p 14.14.5(v), constant 14.15.31 to 41, security factors 14.15.54 to 57).
-// p, factors and security factors in thousandths; constant in pence/MWkm; reference is a row from 1; revenue in pounds.
+// p, factors and security factors in thousandths; constant in pence/MWkm; reference is a row from 1; the settings' zero names the edition (02, request 5);
+// revenue in pounds.
 pub struct Settings {
     pub generation_zones: usize,
     pub demand_zones: usize,
@@ -23,6 +24,7 @@ pub struct Settings {
     pub overhead132: usize,
     pub cable132: usize,
     pub reference: usize,
+    pub edition: Edition,
     pub revenue: u64,
 }
 
@@ -33,12 +35,31 @@ pub struct Section {
     pub count: u32,
 }
 
-// 01 has one background, the year round one; 02, request 5, adds another.
-pub enum Background {
-    YearRound,
+// 02, request 5: "Some clients use the later edition of 14.15, some the earlier." Edition 1 is 01's.
+pub enum Edition {
+    First,
+    Second,
 }
 
-// 01, The case file: the three solutions, systems 1, 2 and 3. Each background has its base and its wider one.
+// 02, request 5: edition 2 has two backgrounds. 01, edition 1, has one, under the name of year round.
+pub enum Background {
+    YearRound,
+    Peak,
+}
+
+// 14.15.7 (of the later edition): a plant type runs at a percentage of its TEC, or shares the demand that remains.
+pub enum Running {
+    Fixed(u64),
+    Variable,
+}
+
+// 02, request 5: the background that a circuit counts for.
+pub enum Counting {
+    For(Background),
+    Doubtful,
+}
+
+// 01, The case file: the three solutions, systems 1, 2 and 3; 02, request 5: 4 and 5, peak's. Each background has its base and its wider one.
 pub enum System {
     Base(Background),
     Wider(Background),
@@ -82,9 +103,11 @@ pub enum Refusal {
     BadNumber(System, usize),
     Unbalanced(System, usize),
     MissesTooHigh(System),
-    DirectionInDoubt(usize),
+    DirectionInDoubt(Background, usize),
     ShortBuffer,
     NoChargeableTec,
+    Unscalable,
+    BackgroundInDoubt(usize),
 }
 
 // What a stage of 01's order makes of a case: it goes on to the next stage, or it is refused.
@@ -107,12 +130,18 @@ pub struct Values {
     pub length: usize,
 }
 
-// 01, The sheet: what a line of a zone says.
-pub struct ZoneFigures {
-    pub weight: Kw,
+// 01, The sheet: what a line of a zone says of a background.
+pub struct WiderFigures {
     pub metres: Metres,
     pub after_c: Metres,
     pub tariff: MicroPerKw,
+}
+
+// What a line of a zone says. In edition 1 peak's figures are 0, and not printed.
+pub struct ZoneFigures {
+    pub weight: Kw,
+    pub year_round: WiderFigures,
+    pub peak: WiderFigures,
     pub total: MicroPerKw,
 }
 
@@ -131,16 +160,18 @@ pub struct LocalFigures {
     pub tariff: MicroPerKw,
 }
 
-// 01, steps 6 to 10: all that the sheet prints but the names.
+// 01, steps 6 to 10: all that the sheet prints but the names. In edition 1 peak's C is 0, and not printed.
 pub struct Figures {
+    pub edition: Edition,
     pub c: Metres,
+    pub peak_c: Metres,
     pub generation: SideFigures,
     pub demand: SideFigures,
     pub nodes: usize,
     pub local: [LocalFigures; 256],
 }
 
-// 01, The sheet: what the program prints, the first `length` of these bytes. No sheet is longer than 14,240.
+// 01, The sheet: what the program prints, the first `length` of these bytes. No sheet is longer than 16,362.
 pub struct Printed {
     pub length: usize,
     pub bytes: [u8; 16384],

@@ -7,7 +7,8 @@ use Rattle.integers.specs.Numbers.{Near}
 use Rattle.meaning.specs.Network.{Network, Reached}
 use Rattle.meaning.specs.Conditions.{Solves}
 use Rattle.meaning.specs.declared.Direction.the-variants.{InDoubt}
-use Rattle.meaning.specs.Direction.{direction}
+use Rattle.meaning.specs.declared.Counting.the-variants.{Doubtful}
+use Rattle.meaning.specs.Direction.{direction, byFlows}
 
 -- each circuit lies between nodes of the network and has a reactance of at least 1
 pub record Sound (N : Network) : Type 0 where
@@ -44,3 +45,9 @@ DirectionsAgree = (N : Network) (u f u′ f′ : ℕ → ℤ) → SolvedTwice N 
 abbrev pub MetresAgree : Type 0
 MetresAgree = (N : Network) (u f u′ f′ : ℕ → ℤ) → SolvedTwice N 100000000 100000000 u f u′ f′
     → (v : ℕ) → Reached N v → (k k′ : ℤ) → Near (u v) 1000000000 k → Near (u′ v) 1000000000 k′ → natAbs (k -ℤ k′) ≤ 1
+
+-- 02, request 5: year round base flows f and peak base flows g, each solved twice. A circuit that is in doubt in neither counts for the same background in both.
+abbrev pub BackgroundsAgree : Type 0
+BackgroundsAgree = (N : Network) (u f u′ f′ w g w′ g′ : ℕ → ℤ)
+    → SolvedTwice N 100000000 100000000 u f u′ f′ → SolvedTwice N 100000000 100000000 w g w′ g′
+    → (c : ℕ) → c < N .circuits → byFlows (f c) (g c) ≢ Doubtful → byFlows (f′ c) (g′ c) ≢ Doubtful → byFlows (f c) (g c) ≡ byFlows (f′ c) (g′ c)

@@ -1,33 +1,36 @@
--- 11: a circuit whose direction is clear.
+-- 15 and 11: a circuit whose background is decided, and one whose direction is clear.
 use mathlib.Core.Path.{_≡_, refl}
-use mathlib.Core.Bool.{Bool, true, false, not, _||_}
-use mathlib.Core.List.{List}
-use Prim.Native.Nat.{ℕ, _+_, _≤_, _<_}
-use lib.IntN.{ℤ, pos}
-use lib.Dec.{leb}
-use lib.ListN.{length, getD, List·getD-eq-default}
+use mathlib.Core.Bool.{true, false}
+use Prim.Native.Nat.{ℕ, _≤_, _<_}
 use borrow.Author.Tests.{le-leb, lt-leb}
-use Rattle.meaning.specs.Direction.{direction, inDoubt}
-use Rattle.numbers.specs.Numbers.{clearBy}
+use Rattle.meaning.specs.declared.Background.{Background}
+use Rattle.meaning.specs.declared.Counting.the-variants.{For, Doubtful}
+use Rattle.meaning.specs.Direction.{direction, inDoubt, isDoubtful}
+use Rattle.numbers.specs.declared.Heading.{Heading}
+use Rattle.numbers.specs.Numbers.{decidedIn, clearIn}
 
-true-after : (b : Bool) → true ≡ (b || true)
-true-after true = refl
-true-after false = refl
+module _ (length : ℕ) (h : Heading) where
+  pub decided-short : length < 1 → true ≡ decidedIn length h
+  unfolding decidedIn
+  decided-short l = rw (lt-leb 1 length l) refl
 
-module _ (n : ℕ) (lengths : List ℕ) (base : List ℤ) (c : ℕ) where
-  pub no-length : getD lengths c 0 < 1 → true ≡ clearBy n lengths base c
-  unfolding clearBy
-  no-length h = rw (lt-leb 1 (getD lengths c 0) h) refl
+  pub clear-short : length < 1 → true ≡ clearIn length h
+  unfolding clearIn
+  clear-short l = rw (lt-leb 1 length l) refl
 
-  pub not-clear : 1 ≤ getD lengths c 0 → inDoubt (direction (getD base (n + c) (pos 0))) ≡ true → false ≡ clearBy n lengths base c
-  unfolding clearBy
-  not-clear h e = rw (le-leb 1 (getD lengths c 0) h, e) refl
+  module _ (long : 1 ≤ length) where
+    pub decided-for : {b : Background} → h .counting ≡ For b → true ≡ decidedIn length h
+    unfolding decidedIn isDoubtful
+    decided-for e = rw (le-leb 1 length long, e) refl
 
-  pub no-doubt : 1 ≤ getD lengths c 0 → inDoubt (direction (getD base (n + c) (pos 0))) ≡ false → true ≡ clearBy n lengths base c
-  unfolding clearBy
-  no-doubt h e = rw (le-leb 1 (getD lengths c 0) h, e) refl
+    pub not-decided : h .counting ≡ Doubtful → false ≡ decidedIn length h
+    unfolding decidedIn isDoubtful
+    not-decided e = rw (le-leb 1 length long, e) refl
 
-  -- past the run's end
-  pub no-flow : length base ≤ n + c → true ≡ clearBy n lengths base c
-  unfolding clearBy direction inDoubt
-  no-flow h = rw (List·getD-eq-default base (pos 0) h) (true-after (not (leb 1 (getD lengths c 0))))
+    pub not-clear : inDoubt (direction (h .flow)) ≡ true → false ≡ clearIn length h
+    unfolding clearIn
+    not-clear e = rw (le-leb 1 length long, e) refl
+
+    pub no-doubt : inDoubt (direction (h .flow)) ≡ false → true ≡ clearIn length h
+    unfolding clearIn
+    no-doubt e = rw (le-leb 1 length long, e) refl

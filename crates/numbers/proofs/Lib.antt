@@ -4,3 +4,4 @@ pub mod Found
 pub mod Range
 pub mod Directions
 pub mod Doubt
+pub mod Counts

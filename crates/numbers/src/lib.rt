@@ -6,11 +6,20 @@ ghost use lib.IntN.{natAbs};
 ghost use lib.ListN.{length};
 ghost use Rattle.meaning.specs.Rows.{failing};
 ghost use Rattle.meaning.specs.Proposal.{numberInRange};
-ghost use Rattle.meaning.specs.Direction.{direction, inDoubt};
+ghost use Rattle.meaning.specs.Direction.{direction, inDoubt, byFlows, countsFor, background};
 ghost use Rattle.meaning.specs.Systems.{limitOf};
-ghost use Rattle.numbers.specs.Numbers.{clearBy, evenIn, pinned, rowOf};
+ghost use Rattle.numbers.specs.Numbers.{headingBy, decidedIn, clearIn, decidedBy, clearBy, evenIn, pinned, rowOf};
+use meaning::Background;
+use meaning::Counting;
 use meaning::Direction;
+use meaning::Edition;
 use meaning::System;
+
+// 02, request 5: the background that a circuit counts for, and its base flow there.
+pub struct Heading {
+    pub counting: Counting,
+    pub flow: i64,
+}
 
 // Whether a number is within a limit of 0. A limit from 2^63 on has every number within it.
 pub fn within(z: i64, limit: u64) -> bool
@@ -87,34 +96,112 @@ fn doubtful(flow: i64) -> bool
     }
 }
 
-// Whether circuit c has no length, or its base flow is not in doubt; a flow past the run's end is none.
-fn clear(n: usize, lengths: &[u64; 512], base: &[i64], c: usize) -> bool
-    requires { ⌜ c < 512 ⌝ }
-    ensures { λ r. ⌜ r ≡ clearBy n (now (lengths .entry)) (now (base .entry)) c ⌝ }
+// The background that a circuit of edition 2 counts for by its two base flows. A magnitude is at most 2^63, so no sum wraps.
+fn by_flows(year_round: i64, peak: i64) -> Counting
+    ensures { λ r. ⌜ r ≡ byFlows «year_round» peak ⌝ }
 {
-    if lengths[c] < 1 {
+    let there = integers::magnitude(year_round);
+    let here = integers::magnitude(peak);
+    if there <= here + 400000000 {
+        return Counting::For(Background::Peak);
+    }
+    if there <= here + 800000000 {
+        return Counting::Doubtful;
+    }
+    Counting::For(Background::YearRound)
+}
+
+// 02, request 5: the background that a circuit counts for; year round alone where it is marked, and in edition 1.
+pub fn counts_for(edition: Edition, mark: u64, year_round: i64, peak: i64) -> Counting
+    ensures { λ r. ⌜ r ≡ countsFor edition mark «year_round» peak ⌝ }
+{
+    match edition {
+        Edition::First => Counting::For(Background::YearRound),
+        Edition::Second => {
+            if mark == 0 {
+                return by_flows(year_round, peak);
+            }
+            Counting::For(Background::YearRound)
+        }
+    }
+}
+
+// The background that was found; in doubt is refused as 15 before this is used.
+pub fn background_of(counting: Counting) -> Background
+    ensures { λ r. ⌜ r ≡ background counting ⌝ }
+{
+    match counting {
+        Counting::For(found) => found,
+        Counting::Doubtful => Background::YearRound,
+    }
+}
+
+// A circuit's heading: the background that it counts for, and its base flow there.
+pub fn heading_of(edition: Edition, mark: u64, year_round: i64, peak: i64) -> Heading
+    ensures { λ r. ⌜ r ≡ headingBy edition mark «year_round» peak ⌝ }
+{
+    let counting = counts_for(edition, mark, year_round, peak);
+    match background_of(counting) {
+        Background::YearRound => Heading {
+            counting,
+            flow: year_round,
+        },
+        Background::Peak => Heading {
+            counting,
+            flow: peak,
+        },
+    }
+}
+
+// Whether a circuit has no length, or the background that it counts for is not in doubt.
+fn decided(length: u64, heading: Heading) -> bool
+    ensures { λ r. ⌜ r ≡ decidedIn length heading ⌝ }
+{
+    if length < 1 {
         return true;
     }
-    if base.len() <= c {
+    let counting = heading.counting;
+    match counting {
+        Counting::For(_) => true,
+        Counting::Doubtful => false,
+    }
+}
+
+// Whether a circuit has no length, or its own base flow is not in doubt.
+fn clear(length: u64, heading: Heading) -> bool
+    ensures { λ r. ⌜ r ≡ clearIn length heading ⌝ }
+{
+    if length < 1 {
         return true;
     }
-    if base.len() - c <= n {
-        return true;
-    }
-    let flow = base[n + c];
-    if doubtful(flow) {
+    if doubtful(heading.flow) {
         return false;
     }
     true
 }
 
-// 01, 11: the lowest of 512 circuits with a length whose base flow is in doubt, or 512.
-pub fn first_in_doubt(n: usize, lengths: &[u64; 512], base: &[i64]) -> usize
-    ensures { λ r. ⌜ r ≡ rowOf (failing (clearBy n (now (lengths .entry)) (now (base .entry))) 512) 512 ⌝ }
+// 02, 15: the lowest of 512 circuits with a length whose background is in doubt, or 512.
+pub fn first_doubtful(lengths: &[u64; 512], headings: [Heading; 512]) -> usize
+    ensures { λ r. ⌜ r ≡ rowOf (failing (decidedBy (now (lengths .entry)) headings) 512) 512 ⌝ }
 {
     let mut c: usize = 0;
     while c < 512 {
-        if clear(n, lengths, base, c) {
+        if decided(lengths[c], headings[c]) {
+            c += 1;
+        } else {
+            return c;
+        }
+    }
+    c
+}
+
+// 01, 11: the lowest of 512 circuits with a length whose own base flow is in doubt, or 512.
+pub fn first_in_doubt(lengths: &[u64; 512], headings: [Heading; 512]) -> usize
+    ensures { λ r. ⌜ r ≡ rowOf (failing (clearBy (now (lengths .entry)) headings) 512) 512 ⌝ }
+{
+    let mut c: usize = 0;
+    while c < 512 {
+        if clear(lengths[c], headings[c]) {
             c += 1;
         } else {
             return c;

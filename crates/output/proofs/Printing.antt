@@ -6,6 +6,8 @@ use Prim.Native.Nat.{ℕ, zero, suc, _+_, _-_, _≤_}
 use native.Mathlib.Omega.{arith}
 use borrow.Author.Tests.{le-leb}
 use lib.ListN.{length, drop, replicate, length-replicate, length-append}
+use Rattle.meaning.specs.declared.Edition.{Edition}
+use Rattle.meaning.specs.declared.Edition.the-variants.{First, Second}
 use Rattle.meaning.specs.declared.Refusal.{Refusal}
 use Rattle.meaning.specs.declared.Refusal.the-variants.{BadFile}
 use Rattle.meaning.specs.declared.Judgement.{Judgement}
@@ -15,8 +17,9 @@ use Rattle.meaning.specs.declared.Answer.the-variants.{Accepted, Refused}
 use Rattle.meaning.specs.declared.Printed.{Printed}
 use Rattle.meaning.specs.Answers.{_orElse_, unless}
 use Rattle.meaning.specs.Study.{Runs}
-use Rattle.meaning.specs.File.{fileWhole, runsIn}
+use Rattle.meaning.specs.File.{fileWhole, studyOf, runsIn}
 use Rattle.meaning.specs.Outcome.{fileStage, tablesStage, judged, sheetOf, Settled, refused, written, bufferStage, settledBy, settle, refusedLine, printedBy, prints}
+use Rattle.meaning.specs.Demands.{longestSheet}
 use Rattle.meaning.specs.Calls.{Prints}
 use Rattle.meaning.proofs.Judged.{judged-pass}
 use Rattle.text.specs.Writing.{Written}
@@ -47,13 +50,18 @@ printed-front text new r w = record {
 pub printed-refusal : (cause : Refusal) (new : List ℕ) (r : ℕ) → Refuses cause zeros new r → Prints (refusedLine cause) (record { length = r; bytes = new })
 printed-refusal cause new r f = printed-front (refusedLine cause) new r (f .long (rw (length-replicate {A = ℕ} 16384 0) (omega arith)))
 
+-- the buffer holds the longest sheet of either edition
+held : (e : Edition) → longestSheet e ≤ 16384
+held First = omega arith
+held Second = omega arith
+
 -- ---- what the entry settles with the file's own runs, in the program's buffer
 module _ (file : List ℕ) where
   abbrev runs : Runs
   runs = runsIn file
 
   fits : judged file runs ≡ Passes → length (sheetOf file runs) ≤ length zeros
-  fits e = rw (length-replicate {A = ℕ} 16384 0) (omega (arith, sheets-fit file runs (judged-pass file runs .0 e)))
+  fits e = rw (length-replicate {A = ℕ} 16384 0) (omega (arith, sheets-fit file runs (judged-pass file runs .0 e), held (studyOf file .settings .edition)))
 
   -- 12 never comes of it
   refusal-settled : {r : Refusal} → judged file runs ≡ Stops r → settle file runs zeros ≡ refused r zeros

@@ -12,6 +12,12 @@ use meaning::Answer;
 use meaning::Printed;
 use meaning::Refusal;
 
+// A solution copied out of the file: its numbers, zeros behind them, and how many it has.
+struct Run {
+    numbers: [i64; 768],
+    count: usize,
+}
+
 // The line of a refusal.
 fn refused(cause: Refusal) -> Printed
     ensures { λ r. ⌜ Prints (refusedLine cause) r ⌝ }
@@ -22,37 +28,52 @@ fn refused(cause: Refusal) -> Printed
 }
 
 // What is printed for a file with its own solutions. No sheet is longer than the buffer, so 12 never comes of it.
-fn with_runs(file: &[u8], base: &[i64], wider: &[i64], local: &[i64]) -> Printed
-    requires { ⌜ runsOf (now base) (now wider) (now local) ≡ runsIn (now file) ⌝ }
+fn with_runs(
+    file: &[u8],
+    base: &[i64],
+    wider: &[i64],
+    local: &[i64],
+    peak_base: &[i64],
+    peak_wider: &[i64],
+) -> Printed
+    requires { ⌜ runsOf (now base) (now wider) (now local) (now «peak_base») (now «peak_wider») ≡ runsIn (now file) ⌝ }
     ensures { λ r. ⌜ Prints (prints (now (file .entry))) r ⌝ }
 {
     let mut bytes = [0u8; 16384];
-    let answer = sheet::write(file, base, wider, local, &mut bytes);
+    let answer = sheet::write(file, base, wider, local, peak_base, peak_wider, &mut bytes);
     match answer {
         Answer::Refused(cause) => refused(cause),
         Answer::Accepted(length) => Printed { length, bytes },
     }
 }
 
-// What is printed for a whole file: its solutions are copied out.
+// What is printed for a whole file: its solutions are copied out; those of a system that its edition has not are empty.
 fn of_whole_file(file: &[u8]) -> Printed
     requires { ⌜ fileWhole (now file) ≡ true ⌝ }
     ensures { λ r. ⌜ Prints (prints (now (file .entry))) r ⌝ }
 {
-    let base_rows = layout::section(file, layout::BASE);
-    let wider_rows = layout::section(file, layout::WIDER);
-    let local_rows = layout::section(file, layout::LOCAL);
-    let base = runs::run_at(file, base_rows);
-    let wider = runs::run_at(file, wider_rows);
-    let local = runs::run_at(file, local_rows);
-    let base_count = base_rows.count as usize;
-    let wider_count = wider_rows.count as usize;
-    let local_count = local_rows.count as usize;
+    let base = runs::run_of(file, layout::BASE);
+    let wider = runs::run_of(file, layout::WIDER);
+    let local = runs::run_of(file, layout::LOCAL);
+    let peak_base = runs::run_of(file, layout::PEAK_BASE);
+    let peak_wider = runs::run_of(file, layout::PEAK_WIDER);
+    let base_run = base.numbers;
+    let wider_run = wider.numbers;
+    let local_run = local.numbers;
+    let peak_base_run = peak_base.numbers;
+    let peak_wider_run = peak_wider.numbers;
+    let base_count = base.count;
+    let wider_count = wider.count;
+    let local_count = local.count;
+    let peak_base_count = peak_base.count;
+    let peak_wider_count = peak_wider.count;
     with_runs(
         file,
-        &base[0..base_count],
-        &wider[0..wider_count],
-        &local[0..local_count],
+        &base_run[0..base_count],
+        &wider_run[0..wider_count],
+        &local_run[0..local_count],
+        &peak_base_run[0..peak_base_count],
+        &peak_wider_run[0..peak_wider_count],
     )
 }
 

@@ -1,2 +1,3 @@
 -- What the contracts of `plants` cite beside `meaning`.
 pub mod Counted
+pub mod Running

@@ -1,48 +1,28 @@
-// Plant types by number, and whether one counts: among those whose TEC scales and weighs, or among those whose TEC pays.
+// Plant types: what counts of the TEC of one: all that weighs, what pays, what is fixed or variable in a background.
+mod peak;
+mod running;
+mod share;
+
 ghost use mathlib.Core.Path.{_≡_};
-ghost use Rattle.meaning.specs.Grid.{plantOf, scales as scalesIn, pays as paysIn};
-ghost use Rattle.plants.specs.Counted.{isCounted};
+ghost use Rattle.meaning.specs.Grid.{pays as paysAtAll};
+ghost use Rattle.plants.specs.Counted.{partOf};
+use meaning::Background;
+use meaning::Edition;
+use meaning::Kw;
 use meaning::Plant;
 
-// Which plant types count: those whose TEC scales and weighs, or those whose TEC pays.
+// What counts of TEC: all of it, what pays, what of this pays at peak; and in a background of an edition what is fixed, and the TEC of the variable types.
 pub enum Counted {
-    Scaling,
+    All,
     Paying,
-}
-
-// The plant type of a number.
-pub fn plant_of(number: usize) -> Plant
-    ensures { λ r. ⌜ r ≡ plantOf number ⌝ }
-{
-    match number {
-        1 => Plant::Intermittent,
-        2 => Plant::NuclearAndCcs,
-        3 => Plant::Interconnector,
-        4 => Plant::Hydro,
-        5 => Plant::PumpedStorage,
-        6 => Plant::Peaking,
-        _ => Plant::Other,
-    }
-}
-
-// Whether the TEC of a plant type scales and weighs.
-fn scales(plant: Plant) -> bool
-    ensures { λ r. ⌜ r ≡ scalesIn plant ⌝ }
-{
-    match plant {
-        Plant::Intermittent => true,
-        Plant::NuclearAndCcs => true,
-        Plant::Interconnector => true,
-        Plant::Hydro => true,
-        Plant::PumpedStorage => true,
-        Plant::Peaking => true,
-        Plant::Other => true,
-    }
+    PayingAtPeak,
+    Fixed(Edition, Background),
+    Variable(Edition, Background),
 }
 
 // Whether the TEC of a plant type pays: interconnectors don't.
 fn pays(plant: Plant) -> bool
-    ensures { λ r. ⌜ r ≡ paysIn plant ⌝ }
+    ensures { λ r. ⌜ r ≡ paysAtAll plant ⌝ }
 {
     match plant {
         Plant::Intermittent => true,
@@ -55,12 +35,21 @@ fn pays(plant: Plant) -> bool
     }
 }
 
-// Whether a plant type counts.
-pub fn counts(counted: Counted, plant: Plant) -> bool
-    ensures { λ r. ⌜ r ≡ isCounted counted plant ⌝ }
+// What counts of the TEC of a plant type.
+pub fn part(counted: Counted, plant: Plant, kw: Kw) -> Kw
+    ensures { λ r. ⌜ r .0 ≡ partOf counted plant (kw .0) ⌝ }
 {
     match counted {
-        Counted::Scaling => scales(plant),
-        Counted::Paying => pays(plant),
+        Counted::All => kw,
+        Counted::Paying => share::kept(pays(plant), kw),
+        Counted::PayingAtPeak => share::kept(peak::pays(plant), kw),
+        Counted::Fixed(edition, background) => share::fixed(
+            running::runs_as(edition, background, plant),
+            kw,
+        ),
+        Counted::Variable(edition, background) => share::variable(
+            running::runs_as(edition, background, plant),
+            kw,
+        ),
     }
 }

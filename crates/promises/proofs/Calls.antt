@@ -17,7 +17,7 @@ use Rattle.meaning.specs.Demands.{IsWritten, IsRefused, Recovered, SameButStati
 use Rattle.meaning.specs.Mirror.{ShowsMirror}
 use Rattle.meaning.specs.Versions.{SayTheSame}
 use Rattle.meaning.specs.Distances.{DistancesWithin}
-use Rattle.meaning.specs.OnlyDirections.{Asked, Holds}
+use Rattle.meaning.specs.OnlyDirections.{Asked, BothFirst, Holds}
 use Rattle.claims.proofs.Accepted.{accepted≢refused}
 use Rattle.claims.proofs.Theorems.{every-input-settled, accepted-exactly-when, refused-exactly-when, revenue-recovered, solvers-agree, stations-hidden, printed-mirror, one-sheet-in-either-version, only-directions-count}
 use Rattle.meaning.specs.Refusals.{Stopped}
@@ -121,11 +121,11 @@ every-two-promised c d keptC keptD = record { agree = agree; hidden = hidden; ei
         seen (Agree (studyOf (c .file)) (c .runs) (d .runs)) a b
         (solvers-agree (c .file) (d .file) (c .runs) (d .runs) (acceptable c keptC a) (acceptable d keptD b) same)
 
-    directions : IsAccepted c → IsAccepted d → ((a : Asked) → Holds a (studyOf (c .file)) (studyOf (d .file)) (c .runs) (d .runs))
+    directions : IsAccepted c → IsAccepted d → BothFirst (studyOf (c .file)) (studyOf (d .file)) → ((a : Asked) → Holds a (studyOf (c .file)) (studyOf (d .file)) (c .runs) (d .runs))
         → DistancesWithin 1 (gridOf (studyOf (c .file))) (gridOf (studyOf (d .file))) (c .runs) (d .runs) (sheetIn c) (sheetIn d)
-    directions a b all =
+    directions a b first all =
         seen (DistancesWithin 1 (gridOf (studyOf (c .file))) (gridOf (studyOf (d .file))) (c .runs) (d .runs)) a b
-        (only-directions-count (c .file) (d .file) (c .runs) (d .runs) (acceptable c keptC a) (acceptable d keptD b) all)
+        (only-directions-count (c .file) (d .file) (c .runs) (d .runs) (acceptable c keptC a) (acceptable d keptD b) first all)
 
     hidden : c .runs ≡ d .runs → PassesToFive (c .file) (c .runs) → PassesToFive (d .file) (d .runs)
         → SameButStations (studyOf (c .file)) (studyOf (d .file)) → length (c .before) ≡ length (d .before) → c .answer ≡ d .answer

@@ -18,7 +18,7 @@ use Rattle.meaning.specs.Demands.{Accepting, Recovered, SameButStations, Agree,
 use Rattle.meaning.specs.Mirror.{ShowsMirror}
 use Rattle.meaning.specs.Versions.{SayTheSame}
 use Rattle.meaning.specs.Distances.{DistancesWithin}
-use Rattle.meaning.specs.OnlyDirections.{Asked, Holds}
+use Rattle.meaning.specs.OnlyDirections.{Asked, BothFirst, Holds}
 use Rattle.meaning.specs.Calls.{Call, Kept, four, ToldCall, ToldKept}
 use Rattle.meaning.proofs.Table.{values-tell, number-positive}
 use Rattle.claims.proofs.Listed.{stopped-listed}
@@ -162,11 +162,11 @@ every-two-told c d keptC keptD = record { agree = agree; hidden = hidden; either
         → Agree (studyOf (c .file)) (c .runs) (d .runs) (sheetAt c (n c keptC)) (sheetAt d (n d keptD))
     agree e f same = seen (Agree (studyOf (c .file)) (c .runs) (d .runs)) e f (two .agree (is-accepted c keptC e) (is-accepted d keptD f) same)
 
-    directions : c .result ≡ 0 → d .result ≡ 0 → ((a : Asked) → Holds a (studyOf (c .file)) (studyOf (d .file)) (c .runs) (d .runs))
+    directions : c .result ≡ 0 → d .result ≡ 0 → BothFirst (studyOf (c .file)) (studyOf (d .file)) → ((a : Asked) → Holds a (studyOf (c .file)) (studyOf (d .file)) (c .runs) (d .runs))
         → DistancesWithin 1 (gridOf (studyOf (c .file))) (gridOf (studyOf (d .file))) (c .runs) (d .runs) (sheetAt c (n c keptC)) (sheetAt d (n d keptD))
-    directions e f all =
+    directions e f first all =
         seen (DistancesWithin 1 (gridOf (studyOf (c .file))) (gridOf (studyOf (d .file))) (c .runs) (d .runs)) e f
-        (two .directions (is-accepted c keptC e) (is-accepted d keptD f) all)
+        (two .directions (is-accepted c keptC e) (is-accepted d keptD f) first all)
 
     -- one answer is told in one way
     told : inner c keptC .answer ≡ inner d keptD .answer → (c .result ≡ d .result) × (c .numbers ≡ d .numbers)

@@ -20,7 +20,7 @@ use Rattle.meaning.specs.Refusals.{FirstUnmet, caseOrder}
 use Rattle.meaning.specs.Demands.{Recovered, SameButStations, Agree, PassesToFive}
 use Rattle.meaning.specs.Mirror.{ShowsMirror}
 use Rattle.meaning.specs.Distances.{DistancesWithin}
-use Rattle.meaning.specs.OnlyDirections.{Asked, Holds}
+use Rattle.meaning.specs.OnlyDirections.{Asked, BothFirst, Holds}
 use Rattle.meaning.proofs.Judged.{judge-case, judged-pass}
 use Rattle.claims.proofs.Listed.{case-listed, case-number}
 use Rattle.claims.proofs.Told.{line-told}
@@ -119,11 +119,11 @@ both file file′ = record { agree = agree; hidden = hidden; either = λ same ru
         → Agree (studyOf file) (runsIn file) (runsIn file′) (prints file) (prints file′)
     agree a b same = seen (Agree (studyOf file) (runsIn file) (runsIn file′)) a b (solvers-agree file file′ (runsIn file) (runsIn file′) a b same)
 
-    directions : Acceptable file (runsIn file) → Acceptable file′ (runsIn file′) → ((a : Asked) → Holds a (studyOf file) (studyOf file′) (runsIn file) (runsIn file′))
+    directions : Acceptable file (runsIn file) → Acceptable file′ (runsIn file′) → BothFirst (studyOf file) (studyOf file′) → ((a : Asked) → Holds a (studyOf file) (studyOf file′) (runsIn file) (runsIn file′))
         → DistancesWithin 1 (gridOf (studyOf file)) (gridOf (studyOf file′)) (runsIn file) (runsIn file′) (prints file) (prints file′)
-    directions a b all =
+    directions a b first all =
         seen (DistancesWithin 1 (gridOf (studyOf file)) (gridOf (studyOf file′)) (runsIn file) (runsIn file′)) a b
-        (only-directions-count file file′ (runsIn file) (runsIn file′) a b all)
+        (only-directions-count file file′ (runsIn file) (runsIn file′) a b first all)
 
     hidden : runsIn file ≡ runsIn file′ → PassesToFive file (runsIn file) → PassesToFive file′ (runsIn file′)
         → SameButStations (studyOf file) (studyOf file′) → prints file ≡ prints file′

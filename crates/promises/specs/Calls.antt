@@ -15,7 +15,7 @@ use Rattle.meaning.specs.Demands.{ListedFor, Accepting, Recovered, SameButStati
 use Rattle.meaning.specs.Mirror.{ShowsMirror}
 use Rattle.meaning.specs.Versions.{SayTheSame}
 use Rattle.meaning.specs.Distances.{DistancesWithin}
-use Rattle.meaning.specs.OnlyDirections.{Asked, Holds}
+use Rattle.meaning.specs.OnlyDirections.{Asked, BothFirst, Holds}
 use Rattle.meaning.specs.Calls.{Call, Kept}
 
 -- accepted, with the sheet's length
@@ -60,8 +60,8 @@ pub record BothPromised (c d : Call) : Type 0 where
       → SameButStations (studyOf (c .file)) (studyOf (d .file)) → length (c .before) ≡ length (d .before) → c .answer ≡ d .answer
   -- 02, request 3: and files of two versions that say the same get one answer, and one sheet in one place
   pub either : SayTheSame (c .file) (d .file) → c .runs ≡ d .runs → c .before ≡ d .before → (c .answer ≡ d .answer) × (c .after ≡ d .after)
-  -- 02, request 12: and cases of one network and the same directions have the same distances, to within one metre, in the callers' bytes too
-  pub directions : IsAccepted c → IsAccepted d → ((a : Asked) → Holds a (studyOf (c .file)) (studyOf (d .file)) (c .runs) (d .runs))
+  -- 02, request 12: and cases of edition 1, of one network and the same directions have the same distances, to within one metre, in the callers' bytes too
+  pub directions : IsAccepted c → IsAccepted d → BothFirst (studyOf (c .file)) (studyOf (d .file)) → ((a : Asked) → Holds a (studyOf (c .file)) (studyOf (d .file)) (c .runs) (d .runs))
       → DistancesWithin 1 (gridOf (studyOf (c .file))) (gridOf (studyOf (d .file))) (c .runs) (d .runs) (sheetIn c) (sheetIn d)
 
 abbrev pub EveryTwoPromised : Type 0

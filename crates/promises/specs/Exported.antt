@@ -15,7 +15,7 @@ use Rattle.meaning.specs.Demands.{ListedFor, Accepting, Recovered, SameButStati
 use Rattle.meaning.specs.Mirror.{ShowsMirror}
 use Rattle.meaning.specs.Versions.{SayTheSame}
 use Rattle.meaning.specs.Distances.{DistancesWithin}
-use Rattle.meaning.specs.OnlyDirections.{Asked, Holds}
+use Rattle.meaning.specs.OnlyDirections.{Asked, BothFirst, Holds}
 use Rattle.meaning.specs.Calls.{four, ToldCall, ToldKept}
 
 -- the sheet that a caller finds at the buffer's front: its length is the fourth number
@@ -59,8 +59,8 @@ pub record BothTold (c d : ToldCall) : Type 0 where
   -- 02, request 3: and files of two versions that say the same get one result, and one sheet in one place
   pub either : SayTheSame (c .file) (d .file) → c .runs ≡ d .runs → c .before ≡ d .before
       → (c .result ≡ d .result) × (c .numbers ≡ d .numbers) × (c .after ≡ d .after)
-  -- 02, request 12: and cases of one network and the same directions have the same distances, to within one metre, in the callers' bytes too
-  pub directions : c .result ≡ 0 → d .result ≡ 0 → ((a : Asked) → Holds a (studyOf (c .file)) (studyOf (d .file)) (c .runs) (d .runs))
+  -- 02, request 12: and cases of edition 1, of one network and the same directions have the same distances, to within one metre, in the callers' bytes too
+  pub directions : c .result ≡ 0 → d .result ≡ 0 → BothFirst (studyOf (c .file)) (studyOf (d .file)) → ((a : Asked) → Holds a (studyOf (c .file)) (studyOf (d .file)) (c .runs) (d .runs))
       → DistancesWithin 1 (gridOf (studyOf (c .file))) (gridOf (studyOf (d .file))) (c .runs) (d .runs) (sheetAt c (length (sheetOf (c .file) (c .runs)))) (sheetAt d (length (sheetOf (d .file) (d .runs))))
 
 abbrev pub EveryTwoTold : Type 0

@@ -17,7 +17,7 @@ use Rattle.meaning.specs.Demands.{ListedFor, Recovered, SameButStations, Agree,
 use Rattle.meaning.specs.Mirror.{ShowsMirror}
 use Rattle.meaning.specs.Versions.{SayTheSame}
 use Rattle.meaning.specs.Distances.{DistancesWithin}
-use Rattle.meaning.specs.OnlyDirections.{Asked, Holds}
+use Rattle.meaning.specs.OnlyDirections.{Asked, BothFirst, Holds}
 use Rattle.meaning.specs.Calls.{Prints}
 
 -- the bytes that the program writes
@@ -55,8 +55,8 @@ pub record BothPrinted (file file′ text text′ : List ℕ) : Type 0 where
       → SameButStations (studyOf file) (studyOf file′) → text ≡ text′
   -- 02, request 3: and files of two versions that say the same, solutions too, print alike
   pub either : SayTheSame file file′ → runsIn file ≡ runsIn file′ → text ≡ text′
-  -- 02, request 12: and cases of one network and the same directions have the same distances, to within one metre, in the printed bytes too
-  pub directions : Acceptable file (runsIn file) → Acceptable file′ (runsIn file′) → ((a : Asked) → Holds a (studyOf file) (studyOf file′) (runsIn file) (runsIn file′))
+  -- 02, request 12: and cases of edition 1, of one network and the same directions have the same distances, to within one metre, in the printed bytes too
+  pub directions : Acceptable file (runsIn file) → Acceptable file′ (runsIn file′) → BothFirst (studyOf file) (studyOf file′) → ((a : Asked) → Holds a (studyOf file) (studyOf file′) (runsIn file) (runsIn file′))
       → DistancesWithin 1 (gridOf (studyOf file)) (gridOf (studyOf file′)) (runsIn file) (runsIn file′) text text′
 
 abbrev pub EveryTwoPrinted : Type 0

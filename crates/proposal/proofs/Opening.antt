@@ -1,4 +1,4 @@
--- From a file that was opened to the judgement of 1 to 11 and 13: where the tables stop the case, and where the proposals decide.
+-- From a file that was opened to the judgement of 1 to 11 and 13 to 15: where the tables stop the case, and where the proposals decide.
 use mathlib.Core.Path.{_≡_, _∙_, ap}
 use mathlib.Core.List.{List}
 use Prim.Native.Nat.{ℕ, _+_, _≤_}
@@ -10,9 +10,8 @@ use Rattle.meaning.specs.declared.Judgement.the-variants.{Passes, Stops}
 use Rattle.meaning.specs.Study.{Study, Runs}
 use Rattle.meaning.specs.File.{studyOf}
 use Rattle.meaning.specs.Grid.{gridOf}
-use Rattle.meaning.specs.declared.Background.the-variants.{YearRound}
 use Rattle.meaning.specs.declared.System.{System}
-use Rattle.meaning.specs.declared.System.the-variants.{Base}
+use Rattle.meaning.specs.Editions.{HasSystem}
 use Rattle.meaning.specs.Systems.{proposalsStage}
 use Rattle.meaning.specs.Outcome.{judged}
 use Rattle.meaning.proofs.Answers.{stops-first, passes-first}
@@ -51,23 +50,27 @@ module _ (file : List ℕ) (runs : Runs) (o : Opened) (t : Opens file (λ s. len
     fewer = omega (arith, s .circuitCount, s .circuitsFew)
 
     pub passed-reference : 1 ≤ o .settings .reference
-    passed-reference = reference-least S (s .tables) few fewer o (s .columns)
+    passed-reference = reference-least S (s .study) few fewer o (s .columns)
 
     told-case : Told (gridOf S) (caseOf o)
-    told-case = case-told S (s .tables) few fewer o (s .columns) runs
+    told-case = case-told S (s .study) few fewer o (s .columns) runs
 
-    long : (system : System) → length (runs system) ≡ length (S .nodes) + length (S .circuits)
-    long system = omega (arith, s .nodeCount, s .circuitCount, s .lengths system)
+    long : (system : System) → HasSystem (S .settings .edition) system → length (runs system) ≡ length (S .nodes) + length (S .circuits)
+    long system i = omega (arith, s .nodeCount, s .circuitCount, s .lengths system i)
 
-    circuits-of : (system : System) → circuitsIn (caseOf o .nodes) (length (runs system)) ≡ length (S .circuits)
-    circuits-of system = circuits-in S (caseOf o) told-case (s .tables) few fewer (runs system) (long system)
+    circuits-of : (system : System) → HasSystem (S .settings .edition) system → circuitsIn (caseOf o .nodes) (length (runs system)) ≡ length (S .circuits)
+    circuits-of system i = circuits-in S (caseOf o) told-case (s .tables) few fewer (runs system) (long system i)
+
+    edition-is : caseOf o .edition ≡ S .settings .edition
+    unfolding gridOf
+    edition-is = told-case .edition
 
     pub passed-judgeable : (k : Case) → k ≡ caseOf o → AllJudgeable k runs
-    passed-judgeable k q = rw q (λ system. judgeable S (caseOf o) told-case (s .tables) few fewer (runs (Base YearRound)) (runs system) (long (Base YearRound)) (long system))
+    passed-judgeable k q = rw q (λ system i. judgeable S (caseOf o) told-case (s .tables) few fewer (runs system) (long system (rw edition-is at i)))
 
     pub proposals-decide : (k : Case) → k ≡ caseOf o → (r : Judgement) → r ≡ proposalsIn k runs → (w : Opened) → w ≡ withJudgement o r → Judges file runs w
     unfolding judged gridOf caseOf
     proposals-decide k q r f w g =
         rw g (with-judgement r
         (passes-first (proposalsStage (gridOf S) runs) (t .judgement) h
-        (f ∙ ap (λ (c : Case). proposalsIn c runs) q ∙ proposals-told (gridOf S) (caseOf o) told-case (s .nodesFew .most) runs circuits-of)))
+        (f ∙ ap (λ (c : Case). proposalsIn c runs) q ∙ proposals-told (gridOf S) (caseOf o) told-case (s .nodesFew .most) fewer runs circuits-of)))

@@ -28,9 +28,8 @@ module _ (S : Study) (k : Case) (t : Told (gridOf S) k) (sound : SoundTables S) 
   unfolding networkOf gridOf
   x-small c h = omega (arith, t .network .x c h, sound .circuits c h .x .most)
 
-  pub judgeable : (base run : List ℤ) → length base ≡ length (S .nodes) + length (S .circuits) → length run ≡ length (S .nodes) + length (S .circuits) → Judgeable k base run
-  judgeable base run e f = record {
-    based = record { nodes = omega (arith, nodes-in); long = omega (arith, nodes-in, circuits-in base e) };
-    same = omega arith;
-    xSmall = λ c h. x-small c (omega (arith, circuits-in base e));
+  pub judgeable : (run : List ℤ) → length run ≡ length (S .nodes) + length (S .circuits) → Judgeable k run
+  judgeable run e = record {
+    based = record { nodes = omega (arith, nodes-in); long = omega (arith, nodes-in, circuits-in run e) };
+    xSmall = λ c h. x-small c (omega (arith, circuits-in run e));
   }

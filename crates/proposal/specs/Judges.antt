@@ -1,4 +1,4 @@
--- What opening a case with its three runs gives: the first refusal among 1 to 11 and 13, and the columns as `tables` states them.
+-- What opening a case with its runs gives: the first refusal among 1 to 11 and 13 to 15, and the columns as `tables` states them.
 use mathlib.Core.Path.{_≡_}
 use mathlib.Core.List.{List}
 use Prim.Native.Nat.{ℕ}

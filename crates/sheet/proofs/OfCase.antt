@@ -9,7 +9,7 @@ use Rattle.meaning.specs.declared.Side.the-variants.{Generation, Demand}
 use Rattle.meaning.specs.declared.Section.{Section}
 use Rattle.meaning.specs.Name.{unpadded}
 use Rattle.meaning.specs.Study.{Node, Runs, node, noNode}
-use Rattle.meaning.specs.File.{nodeAt, section, studyOf}
+use Rattle.meaning.specs.File.{editionAt, sections, nodeAt, section, studyOf}
 use Rattle.meaning.specs.Grid.{Grid, gridOf}
 use Rattle.meaning.specs.Figures.{zones, zoneFigures, localFigures, priced, basis}
 use Rattle.meaning.specs.Charging as charging
@@ -17,7 +17,7 @@ use Rattle.meaning.specs.Sheet.{sideOf, sheetText, sheet}
 use Rattle.meaning.specs.Columns.{noLine, noLocal}
 use Rattle.meaning.specs.Conditions.{WholeFile, SoundSettings}
 use Rattle.meaning.proofs.Columns.{column-at}
-use Rattle.meaning.proofs.Frame.{ReadFrom, section-inside, counts}
+use Rattle.meaning.proofs.Frame.{ReadFrom, sections-are, section-inside, counts}
 use Rattle.meaning.proofs.Sheets.{SameSide, same-sheet}
 use Rattle.meaning.proofs.Whole.{whole-true}
 use Rattle.layout.specs.Readable.{sectionIn}
@@ -48,7 +48,9 @@ module _ (G : Grid) (runs : Runs) (few : length (G .nodes) ≤ 256) (most : (sid
   unfolding figuresOf sheet basis
   grid-sheet file t named =
       same-sheet _ _ (record {
+        edition = refl;
         c = refl;
+        peakC = refl;
         side = same-sides;
         nodes = refl;
         name = named;
@@ -66,8 +68,11 @@ module _ (file : List ℕ) (runs : Runs) (whole : WholeFile file runs)
   most Generation = sound .generationZones .most
   most Demand = sound .demandZones .most
 
+  nodes-there : 1 < sections (editionAt file)
+  nodes-there = omega (arith, sections-are (editionAt file))
+
   rows-whole : sectionIn file 1 ≡ section file 1
-  rows-whole = in-whole file 1 (omega arith) (whole-true file runs whole)
+  rows-whole = in-whole file 1 nodes-there (whole-true file runs whole)
 
   from : ReadFrom (nodeAt file) noNode (sectionIn file 1) (studyOf file .nodes)
   from = rw (readable-whole file (whole-true file runs whole)) at (nodes-from file refl)
@@ -84,4 +89,4 @@ module _ (file : List ℕ) (runs : Runs) (whole : WholeFile file runs)
   pub case-sized : Sized (figuresOf (basis (gridOf (studyOf file)) runs)) file (sectionIn file 1)
   unfolding gridOf figuresOf sideFigures charging.priced basis
   case-sized =
-      record { generation = most Generation; demand = most Demand; nodes = few; inside = rw (from .count, rows-whole) (section-inside file runs whole 1 (omega arith)) }
+      record { generation = most Generation; demand = most Demand; nodes = few; inside = rw (from .count, rows-whole) (section-inside file runs whole 1 nodes-there) }

@@ -25,10 +25,18 @@ fn written(figures: Figures, file: &[u8], out: &mut [u8]) -> Answer
 
 // Judges a case and writes its sheet: the answer, and the buffer afterwards, of any bytes, runs and buffer. Nothing is written before all is judged
 // and the sheet's length known.
-pub fn write(file: &[u8], base: &[i64], wider: &[i64], local: &[i64], out: &mut [u8]) -> Answer
-    ensures { λ r. ⌜ Kept (record { file = now (file .entry); runs = runsOf (now (base .entry)) (now (wider .entry)) (now (local .entry)); before = now (out .entry); answer = r; after = now (out .exit) }) ⌝ }
+pub fn write(
+    file: &[u8],
+    base: &[i64],
+    wider: &[i64],
+    local: &[i64],
+    peak_base: &[i64],
+    peak_wider: &[i64],
+    out: &mut [u8],
+) -> Answer
+    ensures { λ r. ⌜ Kept (record { file = now (file .entry); runs = runsOf (now (base .entry)) (now (wider .entry)) (now (local .entry)) (now («peak_base» .entry)) (now («peak_wider» .entry)); before = now (out .entry); answer = r; after = now (out .exit) }) ⌝ }
 {
-    let charged = charges::charge(file, base, wider, local);
+    let charged = charges::charge(file, base, wider, local, peak_base, peak_wider);
     let judgement = charged.judgement;
     match judgement {
         Judgement::Stops(cause) => Answer::Refused(cause),
@@ -46,10 +54,17 @@ fn text_length(figures: Figures, file: &[u8]) -> usize
 }
 
 // Judges a case for a caller without a buffer: what `write` answers with room enough, the sheet's length included.
-pub fn judge(file: &[u8], base: &[i64], wider: &[i64], local: &[i64]) -> Answer
-    ensures { λ r. ⌜ r ≡ answerOf (now (file .entry)) (runsOf (now (base .entry)) (now (wider .entry)) (now (local .entry))) ⌝ }
+pub fn judge(
+    file: &[u8],
+    base: &[i64],
+    wider: &[i64],
+    local: &[i64],
+    peak_base: &[i64],
+    peak_wider: &[i64],
+) -> Answer
+    ensures { λ r. ⌜ r ≡ answerOf (now (file .entry)) (runsOf (now (base .entry)) (now (wider .entry)) (now (local .entry)) (now («peak_base» .entry)) (now («peak_wider» .entry))) ⌝ }
 {
-    let charged = charges::charge(file, base, wider, local);
+    let charged = charges::charge(file, base, wider, local, peak_base, peak_wider);
     let judgement = charged.judgement;
     match judgement {
         Judgement::Stops(cause) => Answer::Refused(cause),

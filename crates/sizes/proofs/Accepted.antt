@@ -8,6 +8,7 @@ use Rattle.meaning.specs.File.{studyOf}
 use Rattle.meaning.specs.Grid.{gridOf}
 use Rattle.meaning.specs.Network.{networkOf}
 use Rattle.meaning.specs.declared.System.{System}
+use Rattle.meaning.specs.Editions.{HasSystem}
 use Rattle.meaning.specs.Systems.{proposed}
 use Rattle.meaning.specs.Conditions.{SolvesSystem, Acceptable}
 use Rattle.meaning.specs.Demands.{SheetsFit}
@@ -15,10 +16,11 @@ use Rattle.meaning.proofs.Frame.{counts}
 use Rattle.sizes.specs.Bounds.{PotentialsInRange}
 use Rattle.sizes.proofs.SheetLength.{sheet-fits}
 
-pub solved-in-range : (S : Study) (runs : Runs) → ((system : System) → SolvesSystem (networkOf (gridOf S)) (proposed (gridOf S) runs system))
-    → PotentialsInRange (length (S .nodes)) runs
+pub solved-in-range : (S : Study) (runs : Runs)
+    → ((system : System) → HasSystem (S .settings .edition) system → SolvesSystem (networkOf (gridOf S)) (proposed (gridOf S) runs system))
+    → PotentialsInRange (S .settings .edition) (length (S .nodes)) runs
 unfolding gridOf networkOf proposed
-solved-in-range S runs solved = λ system. solved system .potentials
+solved-in-range S runs solved = λ system h. solved system h .potentials
 
 few-nodes : (file : List ℕ) (runs : Runs) → Acceptable file runs → length (studyOf file .nodes) ≤ 256
 few-nodes file runs a = omega (arith, counts file runs (a .whole) .0, a .whole .nodes .most)

@@ -8,38 +8,40 @@ use lib.IntN.{ℤ, pos, natAbs, _-ℤ_, _*ℤ_}
 use lib.ListN.{length}
 use Rattle.integers.specs.Numbers.{sum, Σ, nearest}
 use Rattle.integers.proofs.Laws.{abs-add, abs-sub, abs-neg, abs-mul-le}
-use Rattle.meaning.specs.declared.Background.the-variants.{YearRound}
-use Rattle.meaning.specs.declared.System.the-variants.{Wider, Local}
-use Rattle.meaning.specs.Systems.{limitOf}
 use Rattle.meaning.specs.Study.{Runs}
+use Rattle.meaning.specs.declared.Edition.{Edition}
+use Rattle.meaning.specs.declared.Background.{Background}
+use Rattle.meaning.specs.declared.System.the-variants.{Wider, Local}
+use Rattle.meaning.specs.Editions.{Of}
+use Rattle.meaning.specs.Systems.{limitOf}
 use Rattle.meaning.specs.Grid.{Grid}
 use Rattle.meaning.specs.Proposal.{potential}
 use Rattle.meaning.specs.declared.Side.{Side}
 use Rattle.meaning.specs.declared.Side.the-variants.{Generation, Demand}
 use Rattle.meaning.specs.Charging.{metres}
-use Rattle.meaning.specs.Figures.{widerMetres, localMetres, distance, zones, zoneOf, weight, zoneWeight, zonePaying, totalPaying, overZones, zonalMetres, C, afterC, basis}
 use Rattle.meaning.specs.Charging as charging
+use Rattle.meaning.specs.Figures.{widerMetres, localMetres, distance, zones, zoneOf, weight, zoneWeight, zonePayingIn, totalPayingIn, overZones, zonalMetres, C, afterC, basis}
 use Rattle.meaning.specs.Conditions.{InRange}
 use Rattle.sizes.specs.Bounds.{PotentialsInRange, MetresFit, zoneShare, aboveOfC, belowOfC}
 use Rattle.integers.proofs.Sum.{sum-part, Σ-weighted}
 use Rattle.integers.proofs.Group.{Σ-weighted-of}
 use Rattle.integers.proofs.Div.{nearest-within, nearest-zero}
 use Rattle.sizes.proofs.Unweighted.{Σ-none}
-use Rattle.sizes.proofs.Ranges.{Ranged, Divisors}
-use Rattle.sizes.proofs.Kilowatts.{zones-cover, zones-to}
+use Rattle.sizes.proofs.Ranges.{Ranged}
+use Rattle.sizes.proofs.Kilowatts.{zones-cover, kilowatts}
 
 metres-within : (z : ℤ) → natAbs z ≤ 10000000000000000 → natAbs (metres z) ≤ 10000000
 unfolding metres
 metres-within z h = nearest-within z 10000000 1000000000 h
 
--- over zones: within 10^7 times the kilowatts, as far as a loop has come and in all
-module _ (G : Grid) (r : Ranged G) (f : ℕ → ℤ) (b : ℕ) (fits : (zone : ℕ) → natAbs (f zone) ≤ b) where
+-- over zones: within b times the kilowatts, as far as a loop has come and in all
+module _ (G : Grid) (r : Ranged G) (back : Background) (f : ℕ → ℤ) (b : ℕ) (fits : (zone : ℕ) → natAbs (f zone) ≤ b) where
   pub zones-within : (side : Side) (k : ℕ)
-      → natAbs (Σ k (λ i. f (suc i) *ℤ pos (zonePaying G side (suc i)))) ≤ b * sum k (λ i. zonePaying G side (suc i))
-  zones-within side k = Σ-weighted b k (λ i. f (suc i)) (λ i. zonePaying G side (suc i)) (λ i l. fits (suc i))
+      → natAbs (Σ k (λ i. f (suc i) *ℤ pos (zonePayingIn G back side (suc i)))) ≤ b * sum k (λ i. zonePayingIn G back side (suc i))
+  zones-within side k = Σ-weighted b k (λ i. f (suc i)) (λ i. zonePayingIn G back side (suc i)) (λ i l. fits (suc i))
 
-  pub overZones-within : (side : Side) → natAbs (overZones G side f) ≤ b * totalPaying G side
-  overZones-within side = rw (zones-cover G r side) at (zones-within side (zones G side))
+  pub overZones-within : (side : Side) → natAbs (overZones G back side f) ≤ b * totalPayingIn G back side
+  overZones-within side = rw (zones-cover G r back side) at (zones-within side (zones G side))
 
 -- step 8 over plain numbers: p and q = 1000 - p thousandths
 mixed : (q p k l : ℕ) (x y : ℤ) → natAbs x ≤ 10000000 * k → natAbs y ≤ 10000000 * l → natAbs (pos q *ℤ x -ℤ pos p *ℤ y) ≤ 10000000 * (p * l + q * k)
@@ -52,69 +54,67 @@ shared p k l h a b = record {
 }
 
 -- a zone without kilowatts, whatever the potentials are
-pub zonal-none : (G : Grid) (runs : Runs) (side : Side) (zone : ℕ) → zoneWeight G side zone ≡ 0 → zonalMetres G runs side zone ≡ pos 0
+pub zonal-none : (G : Grid) (runs : Runs) (b : Background) (side : Side) (zone : ℕ) → zoneWeight G side zone ≡ 0 → zonalMetres G runs b side zone ≡ pos 0
 unfolding zonalMetres zoneWeight
-zonal-none G runs side zone h =
-    ap₂ nearest (Σ-none (length (G .nodes)) (λ v. eqb (zoneOf G side v) zone) (distance runs side) (weight G side) h) h ∙ nearest-zero 0
+zonal-none G runs b side zone h =
+    ap₂ nearest (Σ-none (length (G .nodes)) (λ v. eqb (zoneOf G side v) zone) (distance runs b side) (weight G side) h) h ∙ nearest-zero 0
 
-module _ (G : Grid) (runs : Runs) (r : Ranged G) (d : Divisors G) (u : PotentialsInRange (length (G .nodes)) runs) where
-  wider-node : (v : ℕ) → v < length (G .nodes) → natAbs (widerMetres runs v) ≤ 10000000
+pub local-node : (e : Edition) (nodes : ℕ) (runs : Runs) → PotentialsInRange e nodes runs → (v : ℕ) → v < nodes → natAbs (localMetres runs v) ≤ 10000000
+unfolding localMetres limitOf
+local-node e nodes runs u v h = metres-within (potential (runs Local) v) (u Local tt v h)
+
+module _ (G : Grid) (runs : Runs) (r : Ranged G) (u : PotentialsInRange (G .settings .edition) (length (G .nodes)) runs) (b : Background) (has : Of b (G .settings .edition)) where
+  wider-node : (v : ℕ) → v < length (G .nodes) → natAbs (widerMetres runs b v) ≤ 10000000
   unfolding widerMetres limitOf
-  wider-node v h = metres-within (potential (runs (Wider YearRound)) v) (u (Wider YearRound) v h)
+  wider-node v h = metres-within (potential (runs (Wider b)) v) (u (Wider b) has v h)
 
-  local-node : (v : ℕ) → v < length (G .nodes) → natAbs (localMetres runs v) ≤ 10000000
-  unfolding localMetres limitOf
-  local-node v h = metres-within (potential (runs Local) v) (u Local v h)
-
-  node-distance : (side : Side) (v : ℕ) → v < length (G .nodes) → natAbs (distance runs side v) ≤ 10000000
+  node-distance : (side : Side) (v : ℕ) → v < length (G .nodes) → natAbs (distance runs b side v) ≤ 10000000
   unfolding distance
   node-distance Generation v h = wider-node v h
-  node-distance Demand v h = rw (abs-neg (widerMetres runs v)) (wider-node v h)
+  node-distance Demand v h = rw (abs-neg (widerMetres runs b v)) (wider-node v h)
 
-  zone-to : (side : Side) (zone k : ℕ) → k ≤ length (G .nodes) → natAbs (Σ k (zoneShare G runs side zone)) ≤ 10000000 * zoneWeight G side zone
+  zone-to : (side : Side) (zone k : ℕ) → k ≤ length (G .nodes) → natAbs (Σ k (zoneShare G runs b side zone)) ≤ 10000000 * zoneWeight G side zone
   unfolding zoneWeight
   zone-to side zone k h = le-trans
-      (Σ-weighted-of 10000000 k (λ v. eqb (zoneOf G side v) zone) (distance runs side) (weight G side) (λ v l. node-distance side v (omega arith)))
+      (Σ-weighted-of 10000000 k (λ v. eqb (zoneOf G side v) zone) (distance runs b side) (weight G side) (λ v l. node-distance side v (omega arith)))
       (mul-le-mul-left 10000000 (sum-part k (length (G .nodes)) _ h))
 
-  zonal : (side : Side) (zone : ℕ) → natAbs (zonalMetres G runs side zone) ≤ 10000000
+  zonal : (side : Side) (zone : ℕ) → natAbs (zonalMetres G runs b side zone) ≤ 10000000
   unfolding zonalMetres
   zonal side zone = nearest-within _ 10000000 (zoneWeight G side zone) (zone-to side zone (length (G .nodes)) (le-refl _))
 
-  above-within : natAbs (aboveOfC G runs) ≤ 10000000 * belowOfC G
+  above-within : natAbs (aboveOfC G runs b) ≤ 10000000 * belowOfC G b
   above-within =
-      mixed (1000 - G .settings .p) (G .settings .p) (totalPaying G Demand) (totalPaying G Generation)
-      (overZones G Demand (zonalMetres G runs Demand))
-      (overZones G Generation (zonalMetres G runs Generation))
-      (overZones-within G r (zonalMetres G runs Demand) 10000000 (zonal Demand) Demand)
-      (overZones-within G r (zonalMetres G runs Generation) 10000000 (zonal Generation) Generation)
+      mixed (1000 - G .settings .p) (G .settings .p) (totalPayingIn G b Demand) (totalPayingIn G b Generation)
+      (overZones G b Demand (zonalMetres G runs b Demand))
+      (overZones G b Generation (zonalMetres G runs b Generation))
+      (overZones-within G r b (zonalMetres G runs b Demand) 10000000 (zonal Demand) Demand)
+      (overZones-within G r b (zonalMetres G runs b Generation) 10000000 (zonal Generation) Generation)
 
-  below-range : InRange (belowOfC G) 1 100000000000
-  below-range = shared (G .settings .p) (totalPaying G Generation) (totalPaying G Demand) (r .p)
-      (record { least = d Generation; most = r .payers Generation })
-      (record { least = d Demand; most = r .payers Demand })
+  below-range : InRange (belowOfC G b) 1 100000000000
+  below-range =
+      shared (G .settings .p) (totalPayingIn G b Generation) (totalPayingIn G b Demand) (r .p) (r .payersIn b has Generation) (r .payersIn b has Demand)
 
-  centre : natAbs (C G runs) ≤ 10000000
+  centre : natAbs (C G runs b) ≤ 10000000
   unfolding charging.C basis
-  centre = nearest-within (aboveOfC G runs) 10000000 (belowOfC G) above-within
+  centre = nearest-within (aboveOfC G runs b) 10000000 (belowOfC G b) above-within
 
-  with-C : (side : Side) (zone : ℕ) → natAbs (afterC G runs side zone) ≤ 20000000
+  with-C : (side : Side) (zone : ℕ) → natAbs (afterC G runs b side zone) ≤ 20000000
   unfolding charging.afterC charging.priced basis
-  with-C Generation zone = omega (arith, abs-add (zonalMetres G runs Generation zone) (C G runs), zonal Generation zone, centre)
-  with-C Demand zone = omega (arith, abs-sub (zonalMetres G runs Demand zone) (C G runs), zonal Demand zone, centre)
+  with-C Generation zone = omega (arith, abs-add (zonalMetres G runs b Generation zone) (C G runs b), zonal Generation zone, centre)
+  with-C Demand zone = omega (arith, abs-sub (zonalMetres G runs b Demand zone) (C G runs b), zonal Demand zone, centre)
 
-  pub metres-fit : MetresFit G runs
+  pub metres-fit : MetresFit G runs b
   metres-fit = record {
     widerNode = wider-node;
-    localNode = local-node;
     zoneTo = zone-to;
     zonal = zonal;
-    zonalNone = zonal-none G runs;
+    zonalNone = zonal-none G runs b;
     zonesTo = λ side k h. omega (
       arith,
-      zones-within G r (zonalMetres G runs side) 10000000 (zonal side) side k,
-      zones-to G r side k h,
-      r .payers side,
+      zones-within G r b (zonalMetres G runs b side) 10000000 (zonal side) side k,
+      kilowatts G r .zonesTo b side k h,
+      r .payersIn b has side .most,
     );
     above = omega (arith, above-within, below-range .most);
     below = below-range;

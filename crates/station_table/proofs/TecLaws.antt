@@ -1,29 +1,32 @@
 -- TEC added up cell by cell, and through the types of a node.
 use mathlib.Core.Path.{_≡_, refl, sym, _∙_, ap}
-use mathlib.Core.Logic.{_≢_}
 use mathlib.Core.Bool.{Bool, true, false, cond, _&&_}
 use mathlib.Core.List.{List}
-use Prim.Native.Nat.{ℕ, suc, _+_, _*_, _-_, _/_, _%_, _^_, _≤_, _<_, min}
-use native.Mathlib.Decide.{decLt}
+use Prim.Native.Nat.{ℕ, suc, _+_, _*_, _-_, _/_, _%_, _^_, _≤_, _<_}
+use native.Mathlib.Decide.{decLe, decLt}
 use native.Mathlib.Omega.{arith}
-use borrow.Author.Tests.{eq-eqb, ne-eqb}
+use borrow.Author.Tests.{eq-eqb, ne-eqb, le-leb, lt-leb, lt-ltb}
 use lib.Dec.{eqb, leb, ltb}
 use lib.ListN.{length, getD, set, replicate, List·getD-eq-default}
 use Rattle.integers.specs.Numbers.{sum}
-use Rattle.integers.proofs.Sum.{sum-zero, sum-suc, sum-more, sum-same, sum-bound, sum-none}
+use Rattle.integers.proofs.Sum.{sum-zero, sum-more, sum-same, sum-bound, sum-none}
 use Rattle.meaning.specs.Rows.{_between_and_, rows}
 use Rattle.meaning.specs.Study.{Study, station, noStation}
 use Rattle.meaning.specs.File.{u32, stationAt}
-use Rattle.meaning.specs.Grid.{plantOf, scales, pays, place, tecAt, capacityOf, gridOf, tecOf as tecOfTest}
+use Rattle.meaning.specs.Grid.{plantOf, place, tecAt, capacityOf, gridOf, overTypes}
 use Rattle.meaning.specs.declared.Kw.{Kw}
 use Rattle.meaning.specs.declared.Plant.{Plant}
+use Rattle.meaning.specs.declared.Plant.the-variants.{Intermittent, NuclearAndCcs, Interconnector, Hydro, PumpedStorage, Peaking, Other}
 use Rattle.meaning.proofs.Rows.{rows-at, rows-past, rows-same, rows-set, rows-none}
 use Rattle.meaning.proofs.Plants.{capacityAt, capacity-at, capacity-past}
 use Rattle.meaning.proofs.Says.{Says, says-as, _also_, says-eq, says-lt, says-between, agree}
+use Rattle.plants.specs.declared.Counted.{Counted}
+use Rattle.plants.specs.Counted.{partOf}
+use Rattle.plants.proofs.PlantLaws.{part-low}
 use Rattle.layout.specs.Readable.{readable}
-use Rattle.meaning.specs.Columns.{kilowatts, numberAt, kwAt}
+use Rattle.meaning.specs.Columns.{kilowatts, numberAt, kwAt, column}
 use Rattle.station_table.specs.Columns.{stationsOf}
-use Rattle.station_table.specs.Tec.{cellOf, cellTec, typesTec, tecIn, tecOf, typesOf}
+use Rattle.station_table.specs.Tec.{cellOf, cellTec, typesOf, Possible, possibleKw, typesTec, byNode}
 use Rattle.station_table.specs.declared.StationColumns.{StationColumns}
 use Rattle.station_table.proofs.ColumnAt.{station-node-at, plant-at, tec-at, by-type-at}
 use Rattle.layout.proofs.Rows.{stations-from}
@@ -118,53 +121,48 @@ module _ (nodes : ℕ) (node plant : List ℕ) (tec : List Kw) where
     cells-done count h l = let q : k ≡ count = omega arith in rw q at e
 
 -- ---- through the types of each node
--- one cell is of one node
-other : (c j : ℕ) → j ≢ c / 7 → min 7 (c - 7 * j) ≡ min 7 (c + 1 - 7 * j)
-other c j d = omega arith
+-- a cell that a file can have, and one that none has
+pub possible-is : (kw : ℕ) → kw ≤ 2199023255040 → possibleKw kw ≡ kw
+unfolding possibleKw
+possible-is kw h = rw (le-leb kw 2199023255040 h) refl
 
-part-low : (b : Bool) (x : ℕ) → x ≤ 2199023255040 → cond b x 0 ≤ 2199023255040
-part-low true x l = omega arith
-part-low false x l = omega arith
+pub impossible : (kw : ℕ) → 2199023255040 < kw → possibleKw kw ≡ 0
+unfolding possibleKw
+impossible kw h = rw (lt-leb kw 2199023255040 h) refl
 
-module _ (test : Plant → Bool) (by : List Kw) where
-  -- the sums when the cells before c are added
-  abbrev pub typeSums : ℕ → List Kw
-  typeSums c = rows 256 (λ v. kilowatts (typesTec test by (min 7 (c - 7 * v)) v))
+possible-low : (kw : ℕ) → possibleKw kw ≤ 2199023255040
+possible-low kw = go (decLe kw 2199023255040)
+  where
+    go : Dec (kw ≤ 2199023255040) → possibleKw kw ≤ 2199023255040
+    go (yes h) = omega (arith, possible-is kw h)
+    go (no h) = omega (arith, impossible kw (omega arith))
 
-  pub types-none : replicate 256 (kilowatts 0) ≡ typeSums 0
-  unfolding typesTec
-  types-none = rows-none 256 _ _ (λ v l. let e : min 7 (0 - 7 * v) ≡ 0 = omega arith in rw e (ap kilowatts (sum-zero _)))
+-- what counts of a cell fits, and so do seven of them
+pub cell-low : (counted : Counted) (plant : Plant) (kw : ℕ) → partOf counted plant (possibleKw kw) ≤ 2199023255040
+cell-low counted plant kw = omega (arith, part-low counted plant (possibleKw kw), possible-low kw)
 
-  types-low : ((c : ℕ) → kwAt by c ≤ 2199023255040) → (n v : ℕ) → typesTec test by n v ≤ n * 2199023255040
-  unfolding typesTec
-  types-low h n v = sum-bound 2199023255040 n _ (λ t l. part-low (test (plantOf (suc t))) (kwAt by (7 * v + t)) (h (7 * v + t)))
+-- what counts of seven types, in their order
+pub seven : (counted : Counted) (types : List Kw) (a b c d e f g : ℕ)
+    → a ≡ partOf counted Intermittent (possibleKw (kwAt types 0)) → b ≡ partOf counted NuclearAndCcs (possibleKw (kwAt types 1))
+    → c ≡ partOf counted Interconnector (possibleKw (kwAt types 2)) → d ≡ partOf counted Hydro (possibleKw (kwAt types 3))
+    → e ≡ partOf counted PumpedStorage (possibleKw (kwAt types 4)) → f ≡ partOf counted Peaking (possibleKw (kwAt types 5))
+    → g ≡ partOf counted Other (possibleKw (kwAt types 6))
+    → a + b + c + d + e + f + g ≡ sum 7 (λ t. partOf counted (plantOf (suc t)) (possibleKw (kwAt types t)))
+unfolding sum plantOf
+seven counted types a b c d e f g ea eb ec ed ee ef eg = omega (arith, ea, eb, ec, ed, ee, ef, eg)
 
-  module _ (c : ℕ) (h : c < 1792) {sums : List Kw} (e : sums ≡ typeSums c) where
-    types-here : kwAt sums (c / 7) ≡ typesTec test by (c % 7) (c / 7)
-    types-here =
-        let m : min 7 (c - 7 * (c / 7)) ≡ c % 7 = omega arith in
-        rw e (ap (λ w. w .0) (rows-at (kilowatts 0) 256 (λ v. kilowatts (typesTec test by (min 7 (c - 7 * v)) v)) (c / 7) (omega arith)) ∙ rw m refl)
+-- a node's cells are its types
+pub node-types : (counted : Counted) (by types : List Kw) (v : ℕ) → ((t : ℕ) → t < 7 → kwAt types t ≡ kwAt by (7 * v + t))
+    → sum 7 (λ t. partOf counted (plantOf (suc t)) (possibleKw (kwAt types t))) ≡ typesTec counted by 7 v
+unfolding typesTec
+node-types counted by types v h = sum-same 7 _ _ (λ t l. ap (λ kw. partOf counted (plantOf (suc t)) (possibleKw kw)) (h t l))
 
-    pub types-more : (w : ℕ) → w ≡ cond (test (plantOf (c % 7 + 1))) (kwAt by c) 0
-        → set sums (c / 7) (kilowatts (kwAt sums (c / 7) + w)) ≡ typeSums (c + 1)
-    unfolding typesTec
-    types-more w q =
-        let m : min 7 (c + 1 - 7 * (c / 7)) ≡ suc (c % 7) = omega arith in
-        let d : 7 * (c / 7) + c % 7 ≡ c = omega arith in
-        let s : c % 7 + 1 ≡ suc (c % 7) = omega arith in
-        rw (types-here, e) (rows-set 256 _ _ (c / 7) _ (omega arith)
-        (ap kilowatts (sym (rw m (sum-suc (c % 7) _ ∙ rw (d, q, s) refl))))
-        (λ j l n. rw (other c j n) refl))
-
-    -- a sum fits 64 bits, and so does one more type's TEC
-    pub types-fit : ((c : ℕ) → kwAt by c ≤ 2199023255040) → (w : ℕ) → w ≡ cond (test (plantOf (c % 7 + 1))) (kwAt by c) 0
-        → kwAt sums (c / 7) + w < 2 ^ 64
-    types-fit l w q = omega (arith, types-here, types-low l (c % 7) (c / 7), part-low (test (plantOf (c % 7 + 1))) (kwAt by c) (l c))
-
-  pub types-done : {sums : List Kw} (c : ℕ) → sums ≡ typeSums c → c ≤ 1792 → 1792 ≤ c → sums ≡ rows 256 (λ v. kilowatts (typesTec test by 7 v))
-  types-done c e h l =
-      let q : c ≡ 1792 = omega arith in
-      (rw q at e) ∙ rows-same 256 _ _ (λ v l. let m : min 7 (1792 - 7 * v) ≡ 7 = omega arith in rw m refl)
+pub nodes-done : {sums : List Kw} (counted : Counted) (by : List Kw) (v : ℕ) → sums ≡ column (kilowatts 0) 256 v (λ v. kilowatts (typesTec counted by 7 v)) → v ≤ 256 → 256 ≤ v
+    → sums ≡ byNode by counted
+unfolding byNode column
+nodes-done counted by v e h l =
+    let q : v ≡ 256 = omega arith in
+    (rw q at e) ∙ rows-same 256 _ _ (λ v l. simp (lt-ltb v 256 l))
 
 -- ---- of a study
 module _ (S : Study) where
@@ -203,21 +201,19 @@ module _ (S : Study) where
   by-type-is nodes count columns by n k e few q =
       q ∙ rw (n, k, e) (rows-same 1792 _ _ (λ c l. ap kilowatts (cell-is c (omega arith) l)))
 
-  -- the TEC of a node through its types
-  types-is : (test : Plant → Bool) (v : ℕ) → v < 256 → typesTec test (typesOf S) 7 v ≡ tecOfTest test (gridOf S) v
-  unfolding typesTec tecOfTest
-  types-is test v l = sum-same 7 _ _ (λ t m. ap (λ x. cond (test (plantOf (suc t))) x 0) (here t m))
+  -- what counts at a node, through its types
+  pub by-node-at : (by : List Kw) → by ≡ typesOf S → Possible by → (counted : Counted) (v : ℕ) → v < 256
+      → kwAt (byNode by counted) v ≡ overTypes (partOf counted) (gridOf S) v
+  unfolding byNode typesTec overTypes
+  by-node-at by e possible counted v l =
+      ap (λ w. w .0) (rows-at (kilowatts 0) 256 (λ v. kilowatts (typesTec counted by 7 v)) v l)
+      ∙ sum-same 7 _ _ (λ t m. ap (partOf counted (plantOf (suc t))) (possible-is (kwAt by (7 * v + t)) (possible (7 * v + t)) ∙ here t m))
     where
-      here : (t : ℕ) → t < 7 → kwAt (typesOf S) (7 * v + t) ≡ capacity v t
+      here : (t : ℕ) → t < 7 → kwAt by (7 * v + t) ≡ capacity v t
       here t m =
           let q : (7 * v + t) / 7 ≡ v = omega arith in
           let r : (7 * v + t) % 7 ≡ t = omega arith in
-          by-type-at S (7 * v + t) (omega arith) ∙ rw (q, r) refl
-
-  pub tec-is : (by : List Kw) → by ≡ typesOf S → tecIn by ≡ tecOf S
-  unfolding tecIn tecOf
-  tec-is by e =
-      rw (e, rows-same 256 _ _ (λ v l. ap kilowatts (types-is scales v l)), rows-same 256 _ _ (λ v l. ap kilowatts (types-is pays v l))) refl
+          rw e (by-type-at S (7 * v + t) (omega arith) ∙ rw (q, r) refl)
 
 -- ---- of a file: a station's TEC is a u32
 u32-below : (file : List ℕ) (at : ℕ) → ((i : ℕ) → getD file i 0 < 256) → u32 file at < 2 ^ 32

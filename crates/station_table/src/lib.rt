@@ -1,4 +1,4 @@
-// The stations' table: its columns, the TEC of each node, and refusal 5 of document 01. A file that is not whole reads as one without rows, and so has no bad one.
+// The stations' table: its columns, the TEC of each node by plant type and what counts of it, and refusal 5 of document 01. A file that is not whole reads as one without rows, and so has no bad one.
 mod row;
 mod tec;
 
@@ -6,9 +6,10 @@ ghost use mathlib.Core.Path.{_≡_};
 ghost use Rattle.meaning.specs.Tables.{stationsStage};
 ghost use Rattle.layout.specs.Readable.{readable};
 ghost use Rattle.station_table.specs.Columns.{stationsOf};
-ghost use Rattle.station_table.specs.Tec.{typesOf, tecOf};
+ghost use Rattle.station_table.specs.Tec.{typesOf, Possible, byNode};
 use meaning::Judgement;
 use meaning::Kw;
+use plants::Counted;
 
 // The number of each station's node, its plant type and TEC.
 pub struct StationColumns {
@@ -17,17 +18,10 @@ pub struct StationColumns {
     pub tec: [Kw; 512],
 }
 
-// TEC by node: what scales and weighs, and what pays.
-pub struct TecColumns {
-    pub scaling: [Kw; 256],
-    pub paying: [Kw; 256],
-}
-
-// The table judged, and its TEC added up by node and plant type, type t of node v at 7 v + t - 1, and by node: names are resolved once for all.
+// The table judged, and its TEC added up by node and plant type, type t of node v at 7 v + t - 1: names are resolved once for all.
 pub struct JudgedStations {
     pub judgement: Judgement,
     pub by_type: [Kw; 1792],
-    pub tec: TecColumns,
 }
 
 // The columns of the stations.
@@ -42,9 +36,9 @@ fn columns(file: &[u8]) -> StationColumns
     StationColumns { node, plant, tec }
 }
 
-// 5: the lowest station that is not sound; and the TEC of each node, by plant type and in all.
+// 5: the lowest station that is not sound; and the TEC of each node by plant type.
 pub fn judge(file: &[u8]) -> JudgedStations
-    ensures { λ r. ⌜ (r .judgement ≡ stationsStage (readable (now (file .entry)))) × (r .«by_type» ≡ typesOf (readable (now (file .entry)))) × (r .tec ≡ tecOf (readable (now (file .entry)))) ⌝ }
+    ensures { λ r. ⌜ (r .judgement ≡ stationsStage (readable (now (file .entry)))) × (r .«by_type» ≡ typesOf (readable (now (file .entry)))) × Possible (r .«by_type») ⌝ }
 {
     let nodes = layout::section(file, layout::NODES).count as usize;
     let rows = layout::section(file, layout::STATIONS);
@@ -52,10 +46,28 @@ pub fn judge(file: &[u8]) -> JudgedStations
     let node = columns.node;
     let judgement = row::stage(file, nodes, rows, node);
     let by_type = tec::by_type(columns, nodes, rows.count as usize);
-    let tec = tec::by_node(by_type);
-    JudgedStations {
-        judgement,
-        by_type,
-        tec,
+    JudgedStations { judgement, by_type }
+}
+
+// What counts of the TEC of each node, its types added up. A cell above what 512 stations can have, which no file has, counts as none.
+pub fn by_node(by_type: [Kw; 1792], counted: Counted) -> [Kw; 256]
+    ensures { λ r. ⌜ r ≡ byNode «by_type» counted ⌝ }
+{
+    let mut sums = [Kw(0); 256];
+    let mut v = 0;
+    while v < 256 {
+        let at = 7 * v;
+        let types = [
+            by_type[at],
+            by_type[at + 1],
+            by_type[at + 2],
+            by_type[at + 3],
+            by_type[at + 4],
+            by_type[at + 5],
+            by_type[at + 6],
+        ];
+        sums[v] = tec::of_types(counted, types);
+        v += 1;
     }
+    sums
 }

@@ -1,18 +1,18 @@
-// 01, step 1: TEC added up by node and plant type, and through the types by node.
+// 01, step 1: TEC added up by node and plant type, and what counts of it.
 use crate::StationColumns;
-use crate::TecColumns;
 use meaning::Kw;
+use meaning::Plant;
 use meaning::Section;
 use plants::Counted;
 ghost use mathlib.Core.Path.{_≡_};
-ghost use mathlib.Core.Bool.{cond};
-ghost use Prim.Native.Nat.{ℕ, _+_, _%_, _≤_, _<_, _^_};
+ghost use Prim.Native.Nat.{ℕ, suc, _+_, _≤_, _<_, _^_};
+ghost use Rattle.integers.specs.Numbers.{sum};
 ghost use Rattle.meaning.specs.File.{u32, rowAt};
 ghost use Rattle.meaning.specs.Rows.{rows};
 ghost use Rattle.meaning.specs.Grid.{plantOf};
 ghost use Rattle.meaning.specs.Columns.{kilowatts, kwAt, column};
-ghost use Rattle.plants.specs.Counted.{isCounted};
-ghost use Rattle.station_table.specs.Tec.{cellOf, cellTec, typesTec, tecIn};
+ghost use Rattle.plants.specs.Counted.{partOf};
+ghost use Rattle.station_table.specs.Tec.{cellOf, cellTec, possibleKw, Counts};
 
 // The TEC of each station; nothing past the last row, and no more than 512.
 pub fn by_station(file: &[u8], rows: Section, field: u32) -> [Kw; 512]
@@ -57,37 +57,33 @@ pub fn by_type(stations: StationColumns, nodes: usize, count: usize) -> [Kw; 179
     sums
 }
 
-// What counts of a cell's TEC.
-pub fn part(counted: Counted, cell: usize, tec: Kw) -> Kw
-    ensures { λ r. ⌜ r .0 ≡ cond (isCounted counted (plantOf (cell % 7 + 1))) (tec .0) 0 ⌝ }
+// A cell's TEC, as far as a file can have it.
+fn possible(tec: Kw) -> Kw
+    ensures { λ r. ⌜ r .0 ≡ possibleKw (tec .0) ⌝ }
 {
-    if plants::counts(counted, plants::plant_of(cell % 7 + 1)) {
+    if tec.0 <= 2199023255040 {
         return tec;
     }
     Kw(0)
 }
 
-// TEC by node, of the types that count.
-pub fn sums_of(by_type: [Kw; 1792], counted: Counted) -> [Kw; 256]
-    requires { ⌜ ((c : ℕ) → kwAt «by_type» c ≤ 2199023255040) ⌝ }
-    ensures { λ r. ⌜ r ≡ rows 256 (λ v. kilowatts (typesTec (isCounted counted) «by_type» 7 v)) ⌝ }
+// What counts of the TEC of a plant type at a node.
+fn part(counted: Counted, plant: Plant, tec: Kw) -> Kw
+    ensures { λ r. ⌜ Counts counted plant (tec .0) (r .0) ⌝ }
 {
-    let mut sums = [Kw(0); 256];
-    let mut cell = 0;
-    while cell < 1792 {
-        let more = part(counted, cell, by_type[cell]);
-        sums[cell / 7].0 += more.0;
-        cell += 1;
-    }
-    sums
+    plants::part(counted, plant, possible(tec))
 }
 
-// Both.
-pub fn by_node(by_type: [Kw; 1792]) -> TecColumns
-    requires { ⌜ ((c : ℕ) → kwAt «by_type» c ≤ 2199023255040) ⌝ }
-    ensures { λ r. ⌜ r ≡ tecIn «by_type» ⌝ }
+// And of its seven types, in their order.
+pub fn of_types(counted: Counted, types: [Kw; 7]) -> Kw
+    ensures { λ r. ⌜ r .0 ≡ sum 7 (λ t. partOf counted (plantOf (suc t)) (possibleKw (kwAt types t))) ⌝ }
 {
-    let scaling = sums_of(by_type, Counted::Scaling);
-    let paying = sums_of(by_type, Counted::Paying);
-    TecColumns { scaling, paying }
+    let intermittent = part(counted, Plant::Intermittent, types[0]).0;
+    let nuclear = part(counted, Plant::NuclearAndCcs, types[1]).0;
+    let links = part(counted, Plant::Interconnector, types[2]).0;
+    let hydro = part(counted, Plant::Hydro, types[3]).0;
+    let pumped = part(counted, Plant::PumpedStorage, types[4]).0;
+    let peaking = part(counted, Plant::Peaking, types[5]).0;
+    let other = part(counted, Plant::Other, types[6]).0;
+    Kw(intermittent + nuclear + links + hydro + pumped + peaking + other)
 }

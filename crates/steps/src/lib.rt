@@ -1,4 +1,5 @@
-// 01, steps 6, 7 and 10: the divisions of one number by another, for every input; and figures that say nothing.
+// 01, steps 6 and 7: the divisions of one number by another, for every input; and figures that say nothing.
+use meaning::Edition;
 use meaning::Figures;
 use meaning::Kw;
 use meaning::LocalFigures;
@@ -6,9 +7,10 @@ use meaning::Metres;
 use meaning::MicroPerKw;
 use meaning::Side;
 use meaning::SideFigures;
+use meaning::WiderFigures;
 use meaning::ZoneFigures;
 ghost use mathlib.Core.Path.{_≡_};
-ghost use Rattle.meaning.specs.Charging.{metres as metresOf, turned, averageOf, residualOf};
+ghost use Rattle.meaning.specs.Charging.{metres as metresOf, turned, averageOf, noWider};
 ghost use Rattle.meaning.specs.Columns.{noLine, noLocal};
 ghost use Rattle.steps.specs.Nothing.{noSide, noFigures};
 
@@ -37,25 +39,28 @@ pub fn average(sum: i64, kw: Kw) -> Metres
     Metres(integers::nearest(sum, kw.0))
 }
 
-// Step 10: what of a rest is for each kilowatt, rounded down.
-pub fn residual(rest: i64, kw: Kw) -> MicroPerKw
-    ensures { λ r. ⌜ r .0 ≡ residualOf rest (kw .0) ⌝ }
+// What a background says of no zone.
+pub fn no_wider() -> WiderFigures
+    ensures { λ r. ⌜ r ≡ noWider ⌝ }
 {
-    MicroPerKw(integers::floor_div(rest, kw.0))
+    let none = Metres(0);
+    WiderFigures {
+        metres: none,
+        after_c: none,
+        tariff: MicroPerKw(0),
+    }
 }
 
 // The line of no zone.
 pub fn no_line() -> ZoneFigures
     ensures { λ r. ⌜ r ≡ noLine ⌝ }
 {
-    let none = Metres(0);
-    let free = MicroPerKw(0);
+    let none = no_wider();
     ZoneFigures {
         weight: Kw(0),
-        metres: none,
-        after_c: none,
-        tariff: free,
-        total: free,
+        year_round: none,
+        peak: none,
+        total: MicroPerKw(0),
     }
 }
 
@@ -89,8 +94,11 @@ pub fn no_figures() -> Figures
 {
     let side = no_side();
     let node = no_local();
+    let none = Metres(0);
     Figures {
-        c: Metres(0),
+        edition: Edition::First,
+        c: none,
+        peak_c: none,
         generation: side,
         demand: side,
         nodes: 0,

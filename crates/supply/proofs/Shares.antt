@@ -1,18 +1,21 @@
 -- Step 1: shares, the missing kilowatts and who is handed one, as a loop adds them up.
-use mathlib.Core.Path.{_≡_, refl, ap}
+use mathlib.Core.Path.{_≡_, refl, _∙_, ap}
 use mathlib.Core.Bool.{Bool, true, false, cond}
 use mathlib.Core.List.{List}
 use Prim.Native.Nat.{ℕ, _+_, _*_, _/_, _%_, _≤_, _<_}
 use native.Mathlib.Nat.{mul-le-mul}
 use native.Mathlib.Omega.{arith}
 use lib.Dec.{eqb, ltb}
+use lib.ListN.{replicate}
 use Rattle.integers.specs.Numbers.{sum}
 use Rattle.integers.proofs.Sum.{sum-le, sum-part, sum-item, sum-more, sum-bound}
 use Rattle.meaning.specs.declared.Kw.{Kw}
 use Rattle.meaning.specs.Scaled.{wholeShare, leftOver, missing, scaled}
 use Rattle.meaning.proofs.Shares.{scaled-sum}
-use Rattle.meaning.specs.Columns.{kwAt}
-use Rattle.supply.specs.Supply.{Scalable}
+use Rattle.meaning.proofs.Generation.{scaled-nought}
+use Rattle.meaning.specs.Columns.{kilowatts, kwAt, column}
+use Rattle.meaning.proofs.Rows.{rows-none}
+use Rattle.supply.specs.Supply.{scaledBy, Scalable}
 
 pub product-small : (tec demand : ℕ) → tec ≤ 100000000 → demand ≤ 100000000 → tec * demand ≤ 10000000000000000
 product-small tec demand h k = mul-le-mul h k
@@ -76,3 +79,12 @@ module _ (n : ℕ) (tec : List Kw) (demand total : Kw) (s : Scalable n tec deman
       → share + cond (ltb before left) over 0 ≡ scaledAt v
   unfolding scaled
   scaled-is v share over before left e f g h = rw (e, f, g, h) refl
+
+-- ---- none remains: nothing is divided, and every node runs 0
+pub none-shared : (n : ℕ) (tec : List Kw) (demand : Kw) → demand .0 ≡ 0 → replicate 256 (kilowatts 0) ≡ column (kilowatts 0) 256 n (λ v. kilowatts (scaledBy n tec demand v))
+unfolding column
+none-shared n tec demand e = rows-none 256 _ (kilowatts 0) (λ v h. none-at v (ltb v n))
+  where
+    none-at : (v : ℕ) (b : Bool) → cond b (kilowatts (scaledBy n tec demand v)) (kilowatts 0) ≡ kilowatts 0
+    none-at v true = ap kilowatts (ap (λ (d : ℕ). scaled n (kwAt tec) d v) e ∙ scaled-nought n (kwAt tec) v)
+    none-at v false = refl

@@ -1,4 +1,4 @@
-// 01, step 1: scaled generation. After 7, node TEC times total demand is at most 10^16.
+// 01, step 1: scaled generation, of the demand that the variable TEC shares. Node TEC times that demand is at most 10^16.
 use meaning::Kw;
 ghost use mathlib.Core.Path.{_≡_};
 ghost use mathlib.Core.Bool.{cond};
@@ -6,7 +6,7 @@ ghost use Prim.Native.Nat.{_+_, _*_, _/_, _%_, _≤_};
 ghost use lib.Dec.{eqb, ltb};
 ghost use Rattle.meaning.specs.Scaled.{missing};
 ghost use Rattle.meaning.specs.Columns.{kilowatts, kwAt, column};
-ghost use Rattle.supply.specs.Supply.{scaledBy, Scalable};
+ghost use Rattle.supply.specs.Supply.{scaledBy, Scalable, Sharable};
 
 // Node TEC x total demand / total TEC, rounded down.
 pub fn share(tec: Kw, demand: Kw, total: Kw) -> Kw
@@ -69,4 +69,15 @@ pub fn scaled(n: usize, tec: [Kw; 256], demand: Kw, total: Kw) -> [Kw; 256]
         v += 1;
     }
     scaled
+}
+
+// The same, also of no demand: where none remains a node runs nothing, and nothing is divided.
+pub fn shared(n: usize, tec: [Kw; 256], demand: Kw, total: Kw) -> [Kw; 256]
+    requires { ⌜ Sharable n tec demand total ⌝ }
+    ensures { λ r. ⌜ r ≡ column (kilowatts 0) 256 n (λ v. kilowatts (scaledBy n tec demand v)) ⌝ }
+{
+    if demand.0 == 0 {
+        return [Kw(0); 256];
+    }
+    scaled(n, tec, demand, total)
 }

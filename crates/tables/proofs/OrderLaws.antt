@@ -37,7 +37,7 @@ pub rows-passed : (frame : Judgement) (file : List ℕ) → thenStations frame f
 rows-passed frame file p = let s = passes-orElse _ _ .0 p in record { toNodes = passes-orElse _ _ .0 (s .0) .0; toCircuits = s .0 }
 
 module _ (file : List ℕ) (long : System → ℕ) where
-  -- 1 to 7 and 13 in their order: a file that is not whole is stopped before its study matters
+  -- 1 to 7, 13 and 14 in their order: a file that is not whole is stopped before its study matters
   later : Study → Judgement
   later S = rowsStage S orElse gridStage (gridOf S)
 

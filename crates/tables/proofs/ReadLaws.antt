@@ -9,7 +9,7 @@ use Rattle.layout.specs.Readable.{readable}
 use Rattle.layout.specs.Frame.{countsOf}
 use Rattle.node_table.specs.Columns.{nodesOf}
 use Rattle.circuit_table.specs.Columns.{circuitsOf}
-use Rattle.station_table.specs.Tec.{tecOf}
+use Rattle.station_table.specs.Tec.{typesOf, Possible}
 use Rattle.tables.specs.declared.Opened.{Opened}
 use Rattle.tables.specs.Opens.{Columns, withJudgement}
 use Rattle.tables.specs.Reads.{Reads}
@@ -21,7 +21,8 @@ pub record StudyColumns (S : Study) (o : Opened) : Type 0 where
   pub settings : o .settings ≡ S .settings
   pub nodes : o .nodes ≡ nodesOf S
   pub circuits : o .circuits ≡ circuitsOf S
-  pub tec : o .tec ≡ tecOf S
+  pub byType : o .«by_type» ≡ typesOf S
+  pub possible : Possible (o .«by_type»)
 
 pub columns-shown : {frame : Judgement} {file : List ℕ} {o : Opened} → Columns frame file o → Passed frame file → StudyColumns (readable file) o
 columns-shown {frame} {file} t r =
@@ -31,7 +32,8 @@ columns-shown {frame} {file} t r =
       settings = t .settings;
       nodes = rw n at (t .nodes);
       circuits = rw n at (t .circuits);
-      tec = rw (shown-all (r .toCircuits) file) at (t .tec);
+      byType = rw (shown-all (r .toCircuits) file) at (t .byType);
+      possible = t .possible;
     }
 
 pub rows-read : {frame : Judgement} {file : List ℕ} {o : Opened} → Reads frame file o → o .judgement ≡ Passes → StudyColumns (readable file) o
@@ -39,4 +41,4 @@ rows-read {frame} {file} t p = columns-shown (t .columns) (rows-passed frame fil
 
 -- another judgement leaves the columns as they are
 pub columns-kept : {frame : Judgement} {file : List ℕ} {o : Opened} → Columns frame file o → (r : Judgement) → Columns frame file (withJudgement o r)
-columns-kept t r = record { counts = t .counts; settings = t .settings; nodes = t .nodes; circuits = t .circuits; tec = t .tec }
+columns-kept t r = record { counts = t .counts; settings = t .settings; nodes = t .nodes; circuits = t .circuits; byType = t .byType; possible = t .possible }

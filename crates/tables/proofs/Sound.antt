@@ -1,4 +1,4 @@
--- What later steps know once nothing among 1 to 7 and 13 stops a file.
+-- What later steps know once nothing among 1 to 7, 13 and 14 stops a file.
 use mathlib.Core.Path.{_≡_, refl, sym, _∙_, subst}
 use mathlib.Core.Bool.{true}
 use mathlib.Core.List.{List}
@@ -7,8 +7,10 @@ use native.Mathlib.Omega.{arith}
 use lib.ListN.{length}
 use Rattle.meaning.specs.declared.System.{System}
 use Rattle.meaning.specs.declared.Judgement.the-variants.{Passes}
+use Rattle.meaning.specs.declared.Edition.{Edition}
+use Rattle.meaning.specs.Editions.{HasSystem}
 use Rattle.meaning.specs.Study.{Study}
-use Rattle.meaning.specs.File.{solutionCount, fileWhole, runsWhole, studyOf, runsIn}
+use Rattle.meaning.specs.File.{fileWhole, runLength, runsWhole, studyOf, runsIn}
 use Rattle.meaning.specs.Conditions.{InRange, SoundTables, SoundStudy}
 use Rattle.meaning.specs.Grid.{gridOf}
 use Rattle.meaning.specs.Outcome.{fileStage, runsStage, rowsStage, gridStage, tablesStage}
@@ -24,6 +26,7 @@ use Rattle.tables.specs.declared.Opened.{Opened}
 use Rattle.tables.specs.Order.{frameStage}
 use Rattle.tables.specs.Opens.{Columns, Opens}
 use Rattle.tables.proofs.OrderLaws.{rows-passed, chain-is}
+use Rattle.tables.proofs.FrameLaws.{run-length}
 use Rattle.tables.proofs.ReadLaws.{StudyColumns, columns-shown}
 
 -- ---- of a file and the lengths of the runs
@@ -42,7 +45,7 @@ module _ (file : List ℕ) (long : System → ℕ) (p : tablesStage file long �
   pub passes-sound : SoundStudy (studyOf file)
   passes-sound = sound-pass (studyOf file) .0 (parts .2)
 
-  pub passes-runs : (system : System) → long system ≡ solutionCount file
+  pub passes-runs : (system : System) → long system ≡ runLength file system
   unfolding runsStage runsWhole
   passes-runs = says-systems (λ s. says-eq) .0 (passes-unless _ _ .0 (parts .1))
 
@@ -55,6 +58,7 @@ study-columns file long {o} t p =
 
 pub record SoundOpened (file : List ℕ) (long : System → ℕ) (o : Opened) : Type 0 where
   pub whole : fileWhole file ≡ true
+  pub study : SoundStudy (studyOf file)
   pub tables : SoundTables (studyOf file)
   pub columns : StudyColumns (studyOf file) o
   pub nodeCount : o .counts .nodes ≡ length (studyOf file .nodes)
@@ -63,7 +67,7 @@ pub record SoundOpened (file : List ℕ) (long : System → ℕ) (o : Opened) : 
   pub nodesFew : InRange (o .counts .nodes) 1 256
   pub circuitsFew : o .counts .circuits ≤ 512
   pub stationsFew : o .counts .stations ≤ 512
-  pub lengths : (system : System) → long system ≡ o .counts .nodes + o .counts .circuits
+  pub lengths : (system : System) → HasSystem (studyOf file .settings .edition) system → long system ≡ o .counts .nodes + o .counts .circuits
 
 pub opened-sound : {file : List ℕ} {long : System → ℕ} {o : Opened} → Opens file long o → o .judgement ≡ Passes
     → SoundOpened file long o
@@ -80,6 +84,7 @@ opened-sound {file} {long} {o} t q =
     let k : o .counts .stations ≡ length (studyOf file .stations) = rw c refl in
     record {
       whole = h;
+      study = passes-sound file long p;
       tables = passes-sound file long p .tables;
       columns = s;
       nodeCount = n;
@@ -88,5 +93,5 @@ opened-sound {file} {long} {o} t q =
       nodesFew = record { least = omega (arith, l .0, w .nodes .least); most = omega (arith, l .0, w .nodes .most) };
       circuitsFew = omega (arith, l .1, frame.circuits-most file (runsIn file) w);
       stationsFew = omega (arith, l .2, w .stations);
-      lengths = λ system. omega (arith, l .0, l .1, passes-runs file long p system);
+      lengths = λ system in-edition. omega (arith, n, m, l .0, l .1, passes-runs file long p system, run-length file system (subst (λ (e : Edition). HasSystem e system) (frame.edition-read file) in-edition));
     }

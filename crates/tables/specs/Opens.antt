@@ -9,7 +9,7 @@ use Rattle.layout.specs.Readable.{readable}
 use Rattle.layout.specs.Frame.{countsOf}
 use Rattle.node_table.specs.Columns.{nodesOf}
 use Rattle.circuit_table.specs.Columns.{circuitsOf}
-use Rattle.station_table.specs.Tec.{tecOf}
+use Rattle.station_table.specs.Tec.{typesOf, Possible}
 use Rattle.tables.specs.declared.Opened.{Opened}
 use Rattle.tables.specs.Order.{frameStage, readAfter, thenNodes, thenCircuits}
 
@@ -19,13 +19,14 @@ pub record Columns (frame : Judgement) (file : List ℕ) (o : Opened) : Type 0 w
   pub settings : o .settings ≡ readable file .settings
   pub nodes : o .nodes ≡ nodesOf (readAfter (thenNodes frame file) file)
   pub circuits : o .circuits ≡ circuitsOf (readAfter (thenNodes frame file) file)
-  pub tec : o .tec ≡ tecOf (readAfter (thenCircuits frame file) file)
+  pub byType : o .«by_type» ≡ typesOf (readAfter (thenCircuits frame file) file)
+  pub possible : Possible (o .«by_type»)
 
--- of a file, and the lengths of the runs: 1 to 7 and 13
+-- of a file, and the lengths of the runs: 1 to 7, 13 and 14
 pub record Opens (file : List ℕ) (long : System → ℕ) (o : Opened) : Type 0 where
   pub judgement : o .judgement ≡ tablesStage file long
   pub columns : Columns (frameStage file long) file o
 
 -- the same columns with another judgement
 abbrev pub withJudgement : Opened → Judgement → Opened
-withJudgement o judgement = record { judgement = judgement; counts = o .counts; settings = o .settings; nodes = o .nodes; circuits = o .circuits; tec = o .tec }
+withJudgement o judgement = record { judgement = judgement; counts = o .counts; settings = o .settings; nodes = o .nodes; circuits = o .circuits; «by_type» = o .«by_type» }

@@ -30,7 +30,7 @@ pub fn tables(frame: Judgement, file: &[u8]) -> Opened
     let circuit = judged.judgement;
     let after_circuits = or_else(after_nodes, circuit);
     let summed = station_table::judge(shown(after_circuits, file));
-    let tec = summed.tec;
+    let by_type = summed.by_type;
     let station = summed.judgement;
     Opened {
         judgement: or_else(after_circuits, station),
@@ -38,6 +38,6 @@ pub fn tables(frame: Judgement, file: &[u8]) -> Opened
         settings,
         nodes,
         circuits,
-        tec,
+        by_type,
     }
 }

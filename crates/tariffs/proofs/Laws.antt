@@ -3,34 +3,38 @@ use mathlib.Core.Path.{_≡_, refl, ap}
 use mathlib.Core.Bool.{Bool, true, false}
 use mathlib.Core.List.{List}
 use Prim.Native.Nat.{ℕ, _+_, _*_, _-_, _≤_, _<_}
-use native.Mathlib.Nat.{le-refl, le-trans, mul-le-mul-left}
+use native.Mathlib.Decide.{decLt}
+use native.Mathlib.Nat.{le-refl, le-trans}
 use native.Mathlib.Omega.{arith}
 use lib.Dec.{leb}
 use lib.IntN.{ℤ, pos, natAbs, _-ℤ_, _*ℤ_}
 use mir.Syntax.{w64}
 use mir.Val.{SFits}
-use Rattle.integers.specs.Numbers.{Σ, floorDiv}
-use Rattle.integers.proofs.Core.{Z}
-use Rattle.integers.proofs.Div.{nearest-within, floor-is, floor-abs}
+use Rattle.integers.specs.Numbers.{Σ}
+use Rattle.integers.proofs.Div.{nearest-within}
 use Rattle.integers.proofs.Laws.{abs-add, abs-sub, abs-mul-le, sfits-abs}
-use Rattle.integers.proofs.Sum.{sum-zero, sum-more, sum-bound, sum-item, sum-part, Σ-zero, Σ-more, Σ-weighted}
-use Rattle.meaning.specs.declared.Kw.{Kw}
+use Rattle.integers.proofs.Sum.{sum-zero, sum-more, sum-bound, sum-item, Σ-zero, Σ-more, Σ-weighted}
 use Rattle.meaning.specs.declared.Side.{Side}
 use Rattle.meaning.specs.declared.Side.the-variants.{Generation, Demand}
 use Rattle.meaning.specs.declared.MicroPerKw.{MicroPerKw}
 use Rattle.meaning.specs.declared.ZoneFigures.{ZoneFigures}
 use Rattle.meaning.specs.declared.SideFigures.{SideFigures}
-use Rattle.meaning.specs.Columns.{kilowatts, kwAt, price, column, noLine}
-use Rattle.meaning.specs.Proposal.{potential}
-use Rattle.meaning.specs.Charging.{metres, centre, withC, tariff, overZones, Priced, zoneTariff, afterC, rest, residual, residualOf, remainder, remainderOf, zoneFigures}
+use Rattle.meaning.specs.Columns.{kilowatts, price, column, noLine}
+use Rattle.meaning.specs.Charging.{metres, centre, withC, tariff, noWider}
+use Rattle.meaning.proofs.Columns.{column-at, column-past}
 use Rattle.meaning.proofs.Says.{says-le}
+use Rattle.rests.specs.declared.Rest.{Rest}
+use Rattle.rests.specs.Rests.{Holds, Charges}
+use Rattle.rests.proofs.Exact.{all-hold, holds-fewer}
 use Rattle.zones.specs.declared.ZoneSums.{ZoneSums}
 use Rattle.zones.specs.Sums.{SumsFit}
 use Rattle.zones.proofs.Laws.{metres-near}
 use Rattle.tariffs.specs.declared.over.Over.{Over}
-use Rattle.tariffs.specs.declared.by_zone.Terms.{Terms}
-use Rattle.tariffs.specs.Sides.{metresFrom, sumsIn, sumsOf, zonesIn, overFrom, withZone, tariffFrom, lineFrom, pricedIn, sideFigures, AllFit, OverFits, Ready, Prices, TermsFit, SideFits}
-use Rattle.tariffs.specs.Case.{localFrom, nodeFrom, localOf, NodesFit}
+use Rattle.tariffs.specs.declared.zonal.Zonal.{Zonal}
+use Rattle.tariffs.specs.declared.wider.Terms.{Terms}
+use Rattle.tariffs.specs.declared.wider.Wider.{Wider}
+use Rattle.tariffs.specs.Sides.{metresFrom, sumsIn, paysIn, overFrom, withZone, tariffFrom, widerFrom, widerOver, widerAt, lineFrom, sideFrom, AllFit, OverFits, Ready, Prices, TermsFit, LinesFit, ZonalFits, SideFits}
+use Rattle.tariffs.specs.Case.{localFrom}
 
 -- ---- step 8, zone by zone
 pub near : (z : ZoneSums) → SumsFit z → natAbs (metresFrom z) ≤ 10000000
@@ -104,18 +108,6 @@ module _ (t : Terms) (f : TermsFit t) (z : ZoneSums) (g : SumsFit z) where
   unfolding tariffFrom
   tariff-most = price-most priceable
 
-module _ (sums : List ZoneSums) (all : AllFit sums) (count : ℕ) (few : count ≤ 32) (t : Terms) (f : TermsFit t) (total : zonesIn sums count .total ≤ 100000000) where
-  abbrev pays : ℕ → ℕ
-  pays k = sumsIn sums k .paying .0
-
-  pub light : (k : ℕ) → k < count → pays k ≤ 100000000
-  light k h = le-trans (sum-item count k pays h) total
-
-  pub income-to : (k : ℕ) → k ≤ count → natAbs (Σ k (λ i. tariffFrom t (sumsIn sums i) *ℤ pos (pays i))) ≤ 1000000000000000000
-  income-to k h =
-      le-trans (Σ-weighted 10000000000 k (λ i. tariffFrom t (sumsIn sums i)) pays (λ i l. tariff-most t f (sumsIn sums i) (all .each i (omega arith))))
-      (mul-le-mul-left 10000000000 (le-trans (sum-part k count pays h) total))
-
 -- ---- local lines
 pub local-priceable : (u : ℤ) {k f : ℕ} → k ≤ 10000 → f ≤ 5000 → Prices (localFrom u) k f
 unfolding localFrom
@@ -125,69 +117,43 @@ local-priceable u hk hf = record { near = go (leb (natAbs (metres u)) 10000000) 
     go true h = rw h (omega (arith, says-le {m = natAbs (metres u)} {n = 10000000} .0 h))
     go false h = rw h (omega arith)
 
-module _ {n : ℕ} {paying : List Kw} {local : List ℤ} {k f : ℕ} (fit : NodesFit n paying local k f) where
-  pub node-most : (tec : ℕ) (u : ℤ) → natAbs (nodeFrom tec u k f .tariff .0) ≤ 10000000000
-  unfolding nodeFrom
-  node-most tec u = price-most (local-priceable u (fit .constant) (fit .factor))
+-- ---- the tariffs of a background, taken off a rest
+module _ {z : Zonal} {payers : ℕ} {t : Terms} (f : ZonalFits z payers) (g : TermsFit t) where
+  zone-most : (k : ℕ) → k < 32 → natAbs (tariffFrom t (sumsIn (z .sums) k)) ≤ 10000000000
+  zone-most k h = tariff-most t g (sumsIn (z .sums) k) (f .all .each k h)
 
-  pub node-light : (v : ℕ) → v < n → kwAt paying v ≤ 100000000
-  node-light v h = le-trans (sum-item n v (kwAt paying) h) (fit .light)
+  charges : Charges payers (z .count) (λ k. tariffFrom t (sumsIn (z .sums) k)) (paysIn (z .sums))
+  charges = record {
+    price = λ k h. omega (arith, zone-most k (omega (arith, f .few)));
+    part = λ k h. le-trans (sum-item (z .count) k (paysIn (z .sums)) h) (f .light);
+  }
 
-  pub local-to : (tec : List Kw) (v : ℕ) → v ≤ n → natAbs (Σ v (λ i. nodeFrom (kwAt tec i) (potential local i) k f .tariff .0 *ℤ pos (kwAt paying i))) ≤ 1000000000000000000
-  local-to tec v h =
-      le-trans (Σ-weighted 10000000000 v (λ i. nodeFrom (kwAt tec i) (potential local i) k f .tariff .0) (kwAt paying) (λ i l. node-most (kwAt tec i) (potential local i)))
-      (mul-le-mul-left 10000000000 (le-trans (sum-part v n (kwAt paying) h) (fit .light)))
+  pub lines-fit : (rest : Rest) → LinesFit (widerOver (z .sums) (z .count) t rest payers .lines)
+  unfolding widerOver widerFrom
+  lines-fit rest = record { each = λ k h. go k h (decLt k (z .count)) }
+    where
+      go : (k : ℕ) → k < 32 → Dec (k < z .count) → natAbs (widerAt (widerOver (z .sums) (z .count) t rest payers .lines) k .tariff .0) ≤ 10000000000
+      go k h (yes l) = rw (column-at noWider 32 (λ i. widerFrom t (sumsIn (z .sums) i)) noWider (z .count) k l h) (zone-most k h)
+      go k h (no l) = rw (column-past noWider 32 (λ i. widerFrom t (sumsIn (z .sums) i)) noWider (z .count) k (omega arith) h) (omega arith)
 
-  pub local-within : (tec : List Kw) → natAbs (localOf n tec paying local k f .income) ≤ 1000000000000000000
-  unfolding localOf
-  local-within tec = local-to tec n (le-refl n)
+  taken-off : {rest : Rest} {value : ℤ} (n : ℕ) → Holds rest value payers (n + 32)
+      → Holds (widerOver (z .sums) (z .count) t rest payers .rest) (value -ℤ Σ (z .count) (λ k. tariffFrom t (sumsIn (z .sums) k) *ℤ pos (paysIn (z .sums) k))) payers n
+  unfolding widerOver
+  taken-off n h = all-hold (z .count) n (holds-fewer (z .count + n) (omega (arith, f .few)) h) charges
 
-module _ (target : ℕ) (x y : ℤ) (ht : target ≤ 10000000000000000) (hx : natAbs x ≤ 1000000000000000000) (hy : natAbs y ≤ 1000000000000000000) where
-  pub less-fits : SFits w64 (pos target -ℤ x)
-  less-fits = simp Z (omega (arith, simp Z at hx))
+-- both backgrounds
+module _ {y p : Zonal} {t u : Terms} {rest : Rest} {payers : ℕ} (f : SideFits y p t u rest payers) where
+  abbrev first : Wider
+  first = widerOver (y .sums) (y .count) t rest payers
 
-  pub rest-fits : SFits w64 (pos target -ℤ x -ℤ y)
-  rest-fits = simp Z (omega (arith, simp Z at hx, simp Z at hy))
+  pub left-holds : Holds (widerOver (p .sums) (p .count) u (first .rest) payers .rest)
+      (f .value -ℤ Σ (y .count) (λ k. tariffFrom t (sumsIn (y .sums) k) *ℤ pos (paysIn (y .sums) k)) -ℤ Σ (p .count) (λ k. tariffFrom u (sumsIn (p .sums) k) *ℤ pos (paysIn (p .sums) k))) payers 0
+  left-holds = taken-off (f .peak) (f .peakTerms) 0 (taken-off (f .yearRound) (f .terms) 32 (f .holds))
 
-  pub rest-most : natAbs (pos target -ℤ x -ℤ y) ≤ 3000000000000000000
-  rest-most = simp Z (omega (arith, simp Z at hx, simp Z at hy))
-
-module _ (z : ℤ) (d : ℕ) (hz : natAbs z ≤ 3000000000000000000) (above : 1 ≤ d) (light : d ≤ 100000000) where
-  pub multiple-fits : SFits w64 (floorDiv z d *ℤ pos d)
-  multiple-fits = let f = floor-is z d above in simp Z (omega (arith, simp Z at hz, simp Z at (f .low), simp Z at (f .high)))
-
-  pub left-fits : SFits w64 (z -ℤ floorDiv z d *ℤ pos d)
-  left-fits = let f = floor-is z d above in simp Z (omega (arith, simp Z at hz, simp Z at (f .low), simp Z at (f .high)))
-
--- ---- the figures of a side
-module _ (sums : List ZoneSums) (count total : ℕ) (t : Terms) (target : ℕ) (local : ℤ) (f : SideFits sums count total t target local) where
-  abbrev S : Priced
-  S = pricedIn sums count t target local
-
-  abbrev income : ℤ
-  income = overZones count (zonesIn sums count .paying) (λ zone. tariffFrom t (sumsOf sums zone))
-
-  pub few-pay : zonesIn sums count .total ≤ 100000000
-  few-pay = rw (← f .totalIs) (f .most)
-
-  pub income-most : natAbs income ≤ 1000000000000000000
-  income-most = income-to sums (f .all) count (f .few) t (f .terms) few-pay count (le-refl count)
-
-  pub rest-is : pos target -ℤ income -ℤ local ≡ rest S
-  unfolding rest zoneTariff afterC pricedIn tariffFrom
-  rest-is = refl
-
-  pub rest-within : natAbs (rest S) ≤ 3000000000000000000
-  rest-within = rw (← rest-is) (rest-most target income local (f .target) income-most (f .local))
-
-  pub residual-within : natAbs (residualOf (rest S) total) ≤ 3000000000000000000
-  unfolding residualOf
-  residual-within = le-trans (floor-abs (rest S) total) rest-within
-
-  pub side-made : {r : MicroPerKw} {left : ℤ} {lines : List ZoneFigures}
-      → r .0 ≡ residualOf (rest S) total
-      → left ≡ remainderOf (rest S) total
-      → lines ≡ column noLine 32 count (λ k. lineFrom t r (sumsIn sums k))
-      → _≡_ {A = SideFigures} (record { zones = count; residual = r; remainder = left; zone = lines }) (sideFigures S)
-  unfolding sideFigures zoneFigures zoneTariff afterC residual remainder pricedIn lineFrom tariffFrom
-  side-made pr pm pl = let e = f .totalIs in let q = ap price (rw e at pr) in rw (pl, q, rw e at pm) refl
+-- the figures of a side, as the code puts them together
+pub side-from : (y p : Zonal) (t u : Terms) (rest : Rest) (payers : ℕ) {a b : Wider} {r : MicroPerKw} {left : ℤ} {zone : List ZoneFigures}
+    → a ≡ widerOver (y .sums) (y .count) t rest payers → b ≡ widerOver (p .sums) (p .count) u (a .rest) payers → r .0 ≡ b .rest .each → left ≡ pos (b .rest .over)
+    → zone ≡ column noLine 32 (y .count) (λ k. lineFrom (sumsIn (y .sums) k .weight) (widerAt (a .lines) k) (widerAt (b .lines) k) r)
+    → _≡_ {A = SideFigures} (record { zones = y .count; residual = r; remainder = left; zone = zone }) (sideFrom y p t u rest payers)
+unfolding sideFrom
+side-from y p t u rest payers ea eb er el ez = let q = ap price er in rw (ez, q, el, eb, ea) refl

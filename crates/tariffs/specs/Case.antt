@@ -4,33 +4,43 @@ use mathlib.Core.Bool.{Bool, cond, _&&_}
 use mathlib.Core.List.{List}
 use Prim.Native.Nat.{ℕ, _≤_}
 use lib.Dec.{leb}
-use lib.IntN.{ℤ, pos, natAbs, _*ℤ_}
+use lib.IntN.{ℤ, pos, natAbs}
 use lib.ListN.{length}
-use Rattle.integers.specs.Numbers.{sum, Σ}
+use Rattle.integers.specs.Numbers.{sum}
 use Rattle.meaning.specs.declared.Kw.{Kw}
+use Rattle.meaning.specs.declared.Metres.{Metres}
+use Rattle.meaning.specs.declared.Edition.{Edition}
+use Rattle.meaning.specs.declared.Background.{Background}
+use Rattle.meaning.specs.declared.Background.the-variants.{YearRound, Peak}
 use Rattle.meaning.specs.declared.Side.{Side}
 use Rattle.meaning.specs.declared.Side.the-variants.{Generation, Demand}
 use Rattle.meaning.specs.declared.LocalFigures.{LocalFigures}
 use Rattle.meaning.specs.declared.Figures.{Figures}
 use Rattle.meaning.specs.declared.Settings.{Settings}
+use Rattle.meaning.specs.Editions.{byEdition}
 use Rattle.meaning.specs.Rows.{_between_and_}
 use Rattle.meaning.specs.Proposal.{potential}
 use Rattle.meaning.specs.Columns.{kilowatts, distance, price, kwAt, column, noLocal}
-use Rattle.meaning.specs.Charging.{metres, centre, tariff, targetOf, Basis, C, priced, localFigures}
+use Rattle.meaning.specs.Charging.{metres, tariff, Basis, C, priced, localFigures}
 use Rattle.totals.specs.Totals.{totalOf}
 use Rattle.steps.specs.Nothing.{noFigures}
-use Rattle.zones.specs.declared.ZoneSums.{ZoneSums}
+use Rattle.rests.specs.declared.Rest.{Rest}
+use Rattle.rests.specs.Rests.{lessTo}
 use Rattle.zones.specs.Sums.{zoneSums, nodesIn}
 use Rattle.tariffs.specs.declared.over.Over.{Over}
-use Rattle.tariffs.specs.declared.by_zone.Terms.{Terms}
+use Rattle.tariffs.specs.declared.zonal.Zonal.{Zonal}
+use Rattle.tariffs.specs.declared.zonal.Sides.{Sides}
+use Rattle.tariffs.specs.declared.wider.Terms.{Terms}
 use Rattle.tariffs.specs.declared.nodes.Local.{Local}
-use Rattle.tariffs.specs.Sides.{zonesIn, overFrom, pricedIn, sideFigures, AllFit}
+use Rattle.tariffs.specs.Sides.{zonesIn, overFrom, zonalFrom, sideFigures, AllFit, ZonalFits}
 
 -- 01, The sheet: the figures of a case as one value, all that is printed but the names
 unfoldable pub figuresOf : Basis → Figures
 figuresOf B =
     record {
-      c = distance (C B);
+      edition = B .settings .edition;
+      c = distance (C B YearRound);
+      «peak_c» = distance (byEdition (pos 0) (C B Peak) (B .settings .edition));
       generation = sideFigures (priced B Generation);
       demand = sideFigures (priced B Demand);
       nodes = B .nodes;
@@ -45,48 +55,41 @@ localFrom u = cond (leb (natAbs (metres u)) 10000000) (metres u) (pos 0)
 unfoldable pub nodeFrom : (tec : ℕ) → (potential : ℤ) → (constant factor : ℕ) → LocalFigures
 nodeFrom tec u constant factor = record { tec = kilowatts tec; metres = distance (localFrom u); tariff = price (tariff (localFrom u) constant factor) }
 
--- a thing of each side
+-- the local lines of the nodes, and what their tariffs leave of a rest
+unfoldable pub localOf : (n : ℕ) → (tec paying : List Kw) → (local : List ℤ) → (constant factor : ℕ) → Rest → (payers : ℕ) → Local
+localOf n tec paying local constant factor rest payers =
+    record {
+      lines = column noLocal 256 n (λ v. nodeFrom (kwAt tec v) (potential local v) constant factor);
+      rest = lessTo rest payers (λ v. tariff (localFrom (potential local v)) constant factor) (kwAt paying) n;
+    }
+
+-- a thing of each side, and of each background
 abbrev pub bySide : {A : Type 0} → (generation demand : A) → Side → A
 bySide g d Generation = g
 bySide g d Demand = d
 
+abbrev pub byBackground : {A : Type 0} → (yearRound peak : A) → Background → A
+byBackground y p YearRound = y
+byBackground y p Peak = p
+
+abbrev pub sideIn : Sides → Side → Zonal
+sideIn z = bySide (z .generation) (z .demand)
+
 -- what steps 8 to 10 ask, of n nodes
-unfoldable pub basisIn : Settings → (tecSums demandSums : List ZoneSums) → (n : ℕ) → (tec paying : List Kw) → (local : List ℤ) → Basis
-basisIn s tecSums demandSums n tec paying local =
+unfoldable pub basisIn : Settings → (yearRound peak : Sides) → (payers load : ℕ) → (n : ℕ) → (tec paying : List Kw) → (local : List ℤ) → Basis
+basisIn s y p payers load n tec paying local =
     record {
       settings = s;
-      side = bySide (zonesIn tecSums (s .«generation_zones»)) (zonesIn demandSums (s .«demand_zones»));
+      side = λ b side. let z = sideIn (byBackground y p b) side in zonesIn (z .sums) (z .count);
+      payers = bySide payers load;
       nodes = n;
       tec = kwAt tec;
       paying = kwAt paying;
       local = λ v. localFrom (potential local v);
     }
 
--- the local lines of the nodes, and what they bring in
-unfoldable pub localOf : (n : ℕ) → (tec paying : List Kw) → (local : List ℤ) → (constant factor : ℕ) → Local
-localOf n tec paying local constant factor =
-    record {
-      lines = column noLocal 256 n (λ v. nodeFrom (kwAt tec v) (potential local v) constant factor);
-      income = Σ n (λ v. nodeFrom (kwAt tec v) (potential local v) constant factor .tariff .0 *ℤ pos (kwAt paying v));
-    }
-
--- the figures from these and the sums of the zones
-abbrev pub cBetween : Settings → (tecSums demandSums : List ZoneSums) → ℤ
-cBetween s tecSums demandSums = let g = overFrom tecSums (s .«generation_zones») in let d = overFrom demandSums (s .«demand_zones») in centre (s .p) (g .metres) (d .metres) (g .total .0) (d .total .0)
-
-abbrev pub termsOf : Settings → Side → (c : ℤ) → Terms
-termsOf s side c = record { side = side; c = distance c; constant = s .constant; factor = s .«wider_factor» }
-
-unfoldable pub figuresFrom : Settings → (tecSums demandSums : List ZoneSums) → (n : ℕ) → Local → Figures
-figuresFrom s tecSums demandSums n local =
-    let c = cBetween s tecSums demandSums in
-    record {
-      c = distance c;
-      generation = sideFigures (pricedIn tecSums (s .«generation_zones») (termsOf s Generation c) (targetOf Generation (s .p) (s .revenue)) (local .income));
-      demand = sideFigures (pricedIn demandSums (s .«demand_zones») (termsOf s Demand c) (targetOf Demand (s .p) (s .revenue)) (pos 0));
-      nodes = n;
-      local = local .lines;
-    }
+abbrev pub termsOf : Settings → Side → (c : Metres) → Terms
+termsOf s side c = record { side = side; c = c; constant = s .constant; factor = s .«wider_factor» }
 
 -- 01, Quantities: up to 32 zones a side, p up to 1,000, constant 10,000, factors 5,000, revenue 10^10
 unfoldable pub settingsFit : Settings → Bool
@@ -95,22 +98,39 @@ settingsFit s =
     && leb (s .«local_factor») 5000
     && leb (s .revenue) 10000000000
 
--- total TEC and total demand, 1 to 10^8, of the kilowatts that pay in the zones; and the TEC that pays at the nodes
-unfoldable pub totalsFit : (generation demand : Over) → (payers : Kw) → Bool
-totalsFit g d payers = g .total .0 between 1 and 100000000 && d .total .0 between 1 and 100000000 && leb (payers .0) 100000000
+-- the kilowatts that pay on a side, 1 to 10^8; and those in its zones are some of them, in each background
+unfoldable pub totalsFit : (payers : Kw) → (yearRound peak : Over) → Bool
+totalsFit payers y p = payers .0 between 1 and 100000000 && leb (y .total .0) (payers .0) && leb (p .total .0) (payers .0)
 
--- no figures where a setting or a total is out of range
-unfoldable pub figuresIn : Settings → (tecSums demandSums : List ZoneSums) → (n : ℕ) → (tec paying : List Kw) → (local : List ℤ) → Figures
-figuresIn s tecSums demandSums n tec paying local =
-    cond (settingsFit s && totalsFit (overFrom tecSums (s .«generation_zones»)) (overFrom demandSums (s .«demand_zones»)) (totalOf n paying))
-    (figuresOf (basisIn s tecSums demandSums n tec paying local)) noFigures
+-- no figures where a total is out of range
+unfoldable pub figuresIn : Settings → (yearRound peak : Sides) → (n : ℕ) → (tec paying demand : List Kw) → (local : List ℤ) → Figures
+figuresIn s y p n tec paying demand local =
+    let payers = totalOf n paying in
+    let load = totalOf n demand in
+    cond (totalsFit payers (y .generation .over) (p .generation .over) && totalsFit load (y .demand .over) (p .demand .over))
+    (figuresOf (basisIn s y p (payers .0) (load .0) n tec paying local)) noFigures
 
--- step 7, "generation weighted by TEC, demand by demand"
-unfoldable pub figuresOver : (n : ℕ) → Settings → (generationZone : List ℕ) (tec paying : List Kw) (demandZone : List ℕ) (demand : List Kw) (wider local : List ℤ) → Figures
-figuresOver n s generationZone tec paying demandZone demand wider local =
-    figuresIn s (zoneSums Generation n generationZone tec paying wider) (zoneSums Demand n demandZone demand demand wider) (nodesIn n (length local)) tec paying local
+-- step 7 of a background, "generation weighted by TEC, demand by demand"
+abbrev pub sidesOver : (generationZones demandZones n : ℕ) → (generationZone : List ℕ) (tec paying : List Kw) (demandZone : List ℕ) (demand : List Kw) (wider : List ℤ) → Sides
+sidesOver g d n generationZone tec paying demandZone demand wider =
+    record { generation = zonalFrom (zoneSums Generation n generationZone tec paying wider) g; demand = zonalFrom (zoneSums Demand n demandZone demand demand wider) d }
 
--- no step of it wraps
+-- how many nodes or zones peak has: none in edition 1
+abbrev pub atPeak : Edition → (count : ℕ) → ℕ
+atPeak e count = byEdition 0 count e
+
+-- no figures where a setting is out of range
+unfoldable pub figuresOver : (n : ℕ) → Settings → (generationZone : List ℕ) (tec paying payingAtPeak : List Kw) (demandZone : List ℕ) (demand : List Kw) (wider peakWider local : List ℤ) → Figures
+figuresOver n s generationZone tec paying payingAtPeak demandZone demand wider peakWider local =
+    let g = s .«generation_zones» in
+    let d = s .«demand_zones» in
+    let e = s .edition in
+    cond (settingsFit s)
+    (figuresIn s (sidesOver g d n generationZone tec paying demandZone demand wider) (sidesOver (atPeak e g) (atPeak e d) (atPeak e n) generationZone tec payingAtPeak demandZone demand peakWider)
+    (nodesIn n (length local)) tec paying demand local)
+    noFigures
+
+-- ---- no step of it wraps
 pub record SettingsFit (s : Settings) : Type 0 where
   pub generationZones : s .«generation_zones» ≤ 32
   pub demandZones : s .«demand_zones» ≤ 32
@@ -120,18 +140,26 @@ pub record SettingsFit (s : Settings) : Type 0 where
   pub localFactor : s .«local_factor» ≤ 5000
   pub revenue : s .revenue ≤ 10000000000
 
-pub record NodesFit (n : ℕ) (paying : List Kw) (local : List ℤ) (k f : ℕ) : Type 0 where
+pub record NodesFit (n : ℕ) (local : List ℤ) (k f : ℕ) : Type 0 where
   pub few : n ≤ 256
   pub run : n ≤ length local
-  pub light : sum n (kwAt paying) ≤ 100000000
   pub constant : k ≤ 10000
   pub factor : f ≤ 5000
 
-pub record CaseFits (s : Settings) (tecSums demandSums : List ZoneSums) (tec load : Over) : Type 0 where
+-- the zones of both sides in both backgrounds, as they were added up
+pub record SidesFit (s : Settings) (y p : Sides) : Type 0 where
   pub settings : SettingsFit s
-  pub tecAll : AllFit tecSums
-  pub demandAll : AllFit demandSums
-  pub tecIs : tec ≡ overFrom tecSums (s .«generation_zones»)
-  pub loadIs : load ≡ overFrom demandSums (s .«demand_zones»)
-  pub tecTotal : (1 ≤ tec .total .0) × (tec .total .0 ≤ 100000000)
-  pub demandTotal : (1 ≤ load .total .0) × (load .total .0 ≤ 100000000)
+  pub all : (b : Background) (side : Side) → AllFit (sideIn (byBackground y p b) side .sums)
+  pub few : (b : Background) (side : Side) → sideIn (byBackground y p b) side .count ≤ 32
+  pub over : (b : Background) (side : Side) → (let z = sideIn (byBackground y p b) side in z .over ≡ overFrom (z .sums) (z .count))
+  pub peakCount : (side : Side) → sideIn p side .count ≡ atPeak (s .edition) (sideIn y side .count)
+
+-- and the kilowatts that pay
+pub record CaseFits (s : Settings) (y p : Sides) (payers load : Kw) (n : ℕ) (paying : List Kw) (local : List ℤ) : Type 0 where
+  pub sides : SidesFit s y p
+  pub few : n ≤ 256
+  pub run : n ≤ length local
+  pub some : (side : Side) → 1 ≤ bySide (payers .0) (load .0) side
+  pub most : (side : Side) → bySide (payers .0) (load .0) side ≤ 100000000
+  pub light : (b : Background) (side : Side) → sideIn (byBackground y p b) side .over .total .0 ≤ bySide (payers .0) (load .0) side
+  pub payersAre : payers .0 ≡ sum n (kwAt paying)

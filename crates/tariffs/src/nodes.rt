@@ -1,17 +1,17 @@
-// Steps 6, 9 and 10 of the nodes: their local lines, and what these bring in.
+// Steps 6, 9 and 10 of the nodes: their local lines, and what their tariffs leave of the rest.
 use crate::price::price;
-use crate::price::worth;
 use meaning::Kw;
 use meaning::LocalFigures;
 use meaning::Metres;
+use rests::Rest;
 ghost use mathlib.Core.Path.{_≡_};
 ghost use Prim.Native.Nat.{_≤_};
 ghost use Rattle.tariffs.specs.Case.{localFrom, nodeFrom, localOf, NodesFit};
 
-// The local lines of the nodes, and what their tariffs bring in.
+// The local lines of the nodes, and the rest without what their tariffs bring in.
 pub struct Local {
     pub lines: [LocalFigures; 256],
-    pub income: i64,
+    pub rest: Rest,
 }
 
 // Step 6: local metres; 0 past their range.
@@ -38,7 +38,7 @@ pub fn node_line(tec: Kw, potential: i64, constant: usize, factor: usize) -> Loc
     }
 }
 
-// Those of the first nodes.
+// Those of the first nodes, their tariffs taken off the rest.
 pub fn local_figures(
     nodes: usize,
     tec: [Kw; 256],
@@ -46,21 +46,23 @@ pub fn local_figures(
     local: &[i64],
     constant: usize,
     factor: usize,
+    rest: Rest,
+    payers: Kw,
 ) -> Local
-    requires { ⌜ NodesFit nodes paying (now local) constant factor ⌝ }
-    ensures { λ r. ⌜ r ≡ localOf nodes tec paying (now (local .entry)) constant factor ⌝ }
+    requires { ⌜ NodesFit nodes (now local) constant factor ⌝ }
+    ensures { λ r. ⌜ r ≡ localOf nodes tec paying (now (local .entry)) constant factor rest (payers .0) ⌝ }
 {
     let mut lines = [steps::no_local(); 256];
-    let mut income: i64 = 0;
+    let mut left = rest;
     let mut v = 0;
     while v < nodes {
         let line = node_line(tec[v], local[v], constant, factor);
-        income += worth(line.tariff, paying[v]);
+        left = rests::less(left, payers, line.tariff, paying[v]);
         lines[v] = line;
         v += 1;
     }
     Local {
         lines: lines,
-        income: income,
+        rest: left,
     }
 }

@@ -1,3 +1,4 @@
 pub mod Writing
+pub mod Room
 pub mod SheetText
 pub mod Refusing

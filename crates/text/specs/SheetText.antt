@@ -30,7 +30,16 @@ abbrev pub localIn : List LocalFigures → ℕ → LocalFigures
 localIn local v = getD local v noLocal
 
 abbrev pub shownIn : Figures → (file : List ℕ) → Section → Shown
-shownIn f file rows = record { c = f .c .0; side = sidesIn f; nodes = f .nodes; name = nameOf file rows; local = localIn (f .local) }
+shownIn f file rows =
+    record {
+      edition = f .edition;
+      c = f .c .0;
+      peakC = f .«peak_c» .0;
+      side = sidesIn f;
+      nodes = f .nodes;
+      name = nameOf file rows;
+      local = localIn (f .local);
+    }
 
 -- whether the counts stay inside their tables and the file
 unfoldable pub sized : Figures → (file : List ℕ) → Section → Bool

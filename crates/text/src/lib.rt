@@ -16,7 +16,7 @@ pub fn write_figures(figures: Figures, file: &[u8], rows: Section, out: &mut [u8
     ensures { λ r. ⌜ Fitted (textOf figures (now (file .entry)) rows) (now (out .entry)) (now (out .exit)) r ⌝ }
 {
     if sections::sized(figures, file, rows) {
-        let mut aside = [0u8; 22851];
+        let mut aside = [0u8; sections::ROOM];
         let length = sections::put_figures(&mut aside, figures, file, rows);
         if out.len() < length {
             return length;

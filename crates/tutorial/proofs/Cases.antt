@@ -5,8 +5,10 @@ use Prim.Native.Nat.{ℕ}
 use Prim.Native.String.{String}
 use lib.IntN.{ℤ, pos, negℤ}
 use lib.ListN.{replicate}
+use Rattle.meaning.specs.declared.Edition.{Edition}
+use Rattle.meaning.specs.declared.Edition.the-variants.{First}
 use Rattle.meaning.specs.declared.Settings.{Settings}
-use Rattle.meaning.specs.Study.{Node, Circuit, Station, Study, Runs, runsOf}
+use Rattle.meaning.specs.Study.{Node, Circuit, Station, Study, Runs, threeRuns}
 use Rattle.meaning.specs.declared.Background.the-variants.{YearRound}
 use Rattle.meaning.specs.declared.System.the-variants.{Wider}
 use Rattle.meaning.specs.declared.Refusal.the-variants.{MissesTooHigh}
@@ -19,9 +21,9 @@ use Rattle.meaning.proofs.Kiln.{stationOf}
 use Rattle.meaning.proofs.Judged.{judged-pass}
 
 -- ---- tables
--- the factor of 275 kV overhead lines, and the reference's row
-abbrev settingsWith : (overhead275 reference : ℕ) → Settings
-settingsWith overhead275 reference =
+-- the edition, the factor of 275 kV overhead lines, and the reference's row
+abbrev pub settingsIn : Edition → (overhead275 reference : ℕ) → Settings
+settingsIn edition overhead275 reference =
     record {
       «generation_zones» = 4;
       «demand_zones» = 4;
@@ -36,8 +38,12 @@ settingsWith overhead275 reference =
       overhead132 = 1000;
       cable132 = 1000;
       reference = reference;
+      edition = edition;
       revenue = 5000000;
     }
+
+abbrev settingsWith : (overhead275 reference : ℕ) → Settings
+settingsWith = settingsIn First
 
 abbrev pub nodeIn : String → (generationZone demandZone demand : ℕ) → Node
 nodeIn n g d kw = record { name = name n; generationZone = g; demandZone = d; demand = kw }
@@ -63,29 +69,29 @@ stations = stationOf "GENA" "SUBA" 60000 ∷ stationOf "GENB" "SUBB" 240000 ∷ 
 abbrev more : ℕ → List Station
 more kw = stationOf "GENA" "SUBA" 60000 ∷ stationOf "GENB" "SUBB" 240000 ∷ stationOf "GEND" "SUBD" 300000 ∷ stationOf "GENB2" "SUBB" kw ∷ []
 
-abbrev studyWith : Settings → (voltage : ℕ) → List Station → Study
+abbrev pub studyWith : Settings → (voltage : ℕ) → List Station → Study
 studyWith s v ss = record { settings = s; nodes = nodes; circuits = circuitsAt v; stations = ss }
 
 -- ---- solutions
 -- base run: potentials of B, C and D, then flows
-abbrev baseWith : (b c d ab ac bc dc : ℤ) → List ℤ
+abbrev pub baseWith : (b c d ab ac bc dc : ℤ) → List ℤ
 baseWith b c d ab ac bc dc = pos 0 ∷ b ∷ c ∷ d ∷ ab ∷ ac ∷ bc ∷ dc ∷ []
 
 -- wider run: potentials of B, and of C and D, and what flows round the triangle
-abbrev widerWith : (b c flow : ℤ) → List ℤ
+abbrev pub widerWith : (b c flow : ℤ) → List ℤ
 widerWith b c flow = pos 0 ∷ b ∷ c ∷ c ∷ negℤ flow ∷ flow ∷ negℤ flow ∷ pos 0 ∷ []
 
-abbrev localRun : List ℤ
+abbrev pub localRun : List ℤ
 localRun = pos 0 ∷ pos 0 ∷ pos 0 ∷ pos 30000000000000 ∷ replicate 4 (pos 0)
 
 abbrev runsWith : (base wider : List ℤ) → Runs
-runsWith b w = runsOf b w localRun
+runsWith b w = threeRuns b w localRun
 
 abbrev tutBase : List ℤ
 tutBase = baseWith (negℤ (pos 125000000000)) (negℤ (pos 687500000000)) (pos 3062500000000) (pos 2500000000) (pos 27500000000) (pos 22500000000) (pos 150000000000)
 
 -- A-B forward, and backward: the tutorial's 0, -10, -15, -15 km and 0, 10, -5, -5 km
-abbrev forwardWider : List ℤ
+abbrev pub forwardWider : List ℤ
 forwardWider = widerWith (negℤ (pos 10000000000000)) (negℤ (pos 15000000000000)) (pos 200000000000)
 
 abbrev backwardWider : List ℤ
@@ -157,6 +163,7 @@ otherSettings =
       overhead132 = 1000;
       cable132 = 1000;
       reference = 1;
+      edition = First;
       revenue = 7000000;
     }
 
@@ -173,7 +180,7 @@ otherStudy =
 
 abbrev pub otherRuns : Runs
 otherRuns =
-    runsOf
+    threeRuns
     (baseWith (negℤ (pos 750000000000)) (negℤ (pos 2625000000000)) (pos 2125000000000) (pos 15000000000) (pos 105000000000) (pos 75000000000) (pos 190000000000))
     (pos 0 ∷ negℤ (pos 10000000000000) ∷ negℤ (pos 15000030000000) ∷ negℤ (pos 15000000000000)
     ∷ negℤ (pos 200000000000)
@@ -193,7 +200,7 @@ other-acceptable = judged-pass other otherRuns .0 refl
 -- ---- TUT1 with demand at D and no generation there: of the directions only that of its marked circuit has turned
 abbrev pub fedRuns : Runs
 fedRuns =
-    runsOf
+    threeRuns
     (baseWith (negℤ (pos 375000000000)) (negℤ (pos 1062500000000)) (negℤ (pos 2312500000000)) (pos 7500000000) (pos 42500000000) (pos 27500000000)
     (negℤ (pos 50000000000)))
     forwardWider
@@ -217,7 +224,7 @@ fed-acceptable = judged-pass fed fedRuns .0 refl
 -- ---- TUT1 with the second node for reference
 abbrev pub movedRuns : Runs
 movedRuns =
-    runsOf
+    threeRuns
     (pos 125000000000 ∷ pos 0 ∷ negℤ (pos 562500000000) ∷ pos 3187500000000 ∷ pos 2500000000 ∷ pos 27500000000 ∷ pos 22500000000
     ∷ pos 150000000000
     ∷ [])
@@ -264,7 +271,7 @@ unused-acceptable = judged-pass unused tutRuns .0 refl
 -- ---- TUT1 with the rows of B and C exchanged
 abbrev pub exchangedRuns : Runs
 exchangedRuns =
-    runsOf
+    threeRuns
     (pos 0 ∷ negℤ (pos 687500000000) ∷ negℤ (pos 125000000000) ∷ pos 3062500000000 ∷ pos 2500000000 ∷ pos 27500000000 ∷ pos 22500000000
     ∷ pos 150000000000
     ∷ [])

@@ -17,7 +17,7 @@ use Rattle.meaning.specs.Figures.{widerMetres, localMetres}
 use Rattle.meaning.specs.Outcome.{sheetOf}
 use Rattle.meaning.specs.Read.{lineAt}
 use Rattle.meaning.specs.Distances.{apart, shownMetres, OfOneName, OfNode, DistancesWithin}
-use Rattle.meaning.specs.OnlyDirections.{Asked, sameCircuits, sameNames, sameFactors, sameReference, sameDirections, Holds}
+use Rattle.meaning.specs.OnlyDirections.{Asked, sameCircuits, sameNames, sameFactors, sameReference, sameDirections, BothFirst, Holds}
 use Rattle.meaning.proofs.Opened.{opened}
 use Rattle.claims.proofs.Tarn.{four}
 use Rattle.tutorial.proofs.Cases.{tut, tutRuns, tut-acceptable, five, fiveRuns, five-acceptable, turned, turnedRuns, turned-acceptable, further, furtherRuns, further-acceptable, other, otherRuns, other-acceptable, fed, fedRuns, fed-acceptable}
@@ -32,8 +32,12 @@ tut-five sameFactors = refl
 tut-five sameReference = refl
 tut-five sameDirections = four _ (λ h. refl) (λ h. refl) (λ h. refl) (λ h. refl)
 
+tut-five-first : BothFirst (studyOf tut) (studyOf five)
+unfolding opened
+tut-five-first = (refl, refl)
+
 five-within : DistancesWithin 1 (gridOf (studyOf tut)) (gridOf (studyOf five)) tutRuns fiveRuns (sheetOf tut tutRuns) (sheetOf five fiveRuns)
-five-within = only-directions-count tut five tutRuns fiveRuns tut-acceptable five-acceptable tut-five
+five-within = only-directions-count tut five tutRuns fiveRuns tut-acceptable five-acceptable tut-five-first tut-five
 
 -- ---- TUT1_P150 and TUT1_P200
 turned-further : (a : Asked) → Holds a (studyOf turned) (studyOf further) turnedRuns furtherRuns
@@ -44,8 +48,12 @@ turned-further sameFactors = refl
 turned-further sameReference = refl
 turned-further sameDirections = four _ (λ h. refl) (λ h. refl) (λ h. refl) (λ h. refl)
 
+turned-further-first : BothFirst (studyOf turned) (studyOf further)
+unfolding opened
+turned-further-first = (refl, refl)
+
 further-within : DistancesWithin 1 (gridOf (studyOf turned)) (gridOf (studyOf further)) turnedRuns furtherRuns (sheetOf turned turnedRuns) (sheetOf further furtherRuns)
-further-within = only-directions-count turned further turnedRuns furtherRuns turned-acceptable further-acceptable turned-further
+further-within = only-directions-count turned further turnedRuns furtherRuns turned-acceptable further-acceptable turned-further-first turned-further
 
 -- ---- TUT1 and TUT1_OTHER: other demand, TEC, stations, zones, money and solver
 tut-other : (a : Asked) → Holds a (studyOf tut) (studyOf other) tutRuns otherRuns
@@ -56,8 +64,12 @@ tut-other sameFactors = refl
 tut-other sameReference = refl
 tut-other sameDirections = four _ (λ h. refl) (λ h. refl) (λ h. refl) (λ h. refl)
 
+tut-other-first : BothFirst (studyOf tut) (studyOf other)
+unfolding opened
+tut-other-first = (refl, refl)
+
 other-within : DistancesWithin 1 (gridOf (studyOf tut)) (gridOf (studyOf other)) tutRuns otherRuns (sheetOf tut tutRuns) (sheetOf other otherRuns)
-other-within = only-directions-count tut other tutRuns otherRuns tut-acceptable other-acceptable tut-other
+other-within = only-directions-count tut other tutRuns otherRuns tut-acceptable other-acceptable tut-other-first tut-other
 
 -- ---- TUT1 and TUT1 with D fed from C: the marked circuit turned, and no wider distance moved; D's local distance moved 60 km
 tut-fed : (a : Asked) → a ≢ sameDirections → Holds a (studyOf tut) (studyOf fed) tutRuns fedRuns
@@ -68,10 +80,10 @@ tut-fed sameFactors n = refl
 tut-fed sameReference n = refl
 tut-fed sameDirections n = absurd (n refl)
 
-fed-wider : (v : ℕ) → v < 4 → apart (widerMetres tutRuns v) (widerMetres fedRuns v) ≤ 1
+fed-wider : (v : ℕ) → v < 4 → apart (widerMetres tutRuns YearRound v) (widerMetres fedRuns YearRound v) ≤ 1
 unfolding opened
 fed-wider =
-    own-directions-count tut fed tutRuns fedRuns tut-acceptable fed-acceptable tut-fed (Wider YearRound) tt
+    own-directions-count tut fed tutRuns fedRuns tut-acceptable fed-acceptable (refl, refl) tut-fed (Wider YearRound) tt tt
     (four _ (λ p. refl) (λ p. refl) (λ p. refl) (λ p. absurd (marked (p .1))))
   where
     marked : _≡_ {A = ℕ} 1 0 → ⊥
@@ -83,7 +95,7 @@ fed-local = refl
 
 -- ---- the distances that the tutorial prints, in metres: the same before and after, and in TUT1_OTHER
 abbrev wider : Runs → List Metres
-wider runs = rows 4 (widerMetres runs)
+wider runs = rows 4 (widerMetres runs YearRound)
 
 abbrev forward : List Metres
 forward = pos 0 ∷ negℤ (pos 10000) ∷ negℤ (pos 15000) ∷ negℤ (pos 15000) ∷ []
@@ -149,7 +161,7 @@ at-b-five = record { zonal = refl; some = omega arith; others = four _ (λ d. re
 
 zone-lines-near : apart (shownMetres (lineAt 2 tutSheet)) (shownMetres (lineAt 2 fiveSheet)) ≤ 1
 unfolding opened
-zone-lines-near = five-shown .zoneLines Generation 1 2 2 (omega arith) at-b at-b-five
+zone-lines-near = five-shown .zoneLines YearRound tt Generation 1 2 2 (omega arith) at-b at-b-five
 
 -- lines 11 and 8, `L SUBD`, have one name
 at-d : OfOneName (lineAt 11 tutSheet) (lineAt 8 otherSheet)

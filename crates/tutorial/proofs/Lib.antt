@@ -4,3 +4,5 @@ pub mod Cases
 pub mod Exercise
 -- and nothing less than what it asks will do
 pub mod Needed
+-- the tutorial's two backgrounds, by request 5: which one a circuit counts for, and that a closure can change it
+pub mod Backgrounds

@@ -6,7 +6,8 @@ use Prim.Native.Nat.{ℕ}
 use native.Mathlib.Omega.{arith}
 use lib.IntN.{pos, negℤ}
 use lib.ListN.{replicate}
-use Rattle.meaning.specs.Study.{Study, Runs, runsOf}
+use Rattle.meaning.specs.declared.Edition.the-variants.{First}
+use Rattle.meaning.specs.Study.{Study, Runs, threeRuns}
 use Rattle.meaning.specs.Conditions.{Acceptable}
 use Rattle.meaning.specs.OnlyDirections.{Asked, sameCircuits, sameNames, sameFactors, sameReference, sameDirections, Two, HoldsOf, Needed, EachIsNeeded, AcceptedIsNeeded, MetreIsReached}
 use Rattle.meaning.proofs.Write.{fileOf}
@@ -157,6 +158,7 @@ metreStudy =
         overhead132 = 2500;
         cable132 = 1000;
         reference = 2;
+        edition = First;
         revenue = 9;
       };
       nodes = nodeIn "HEAD" 1 1 0 ∷ nodeIn "MILL" 2 1 0 ∷ nodeIn "FORD" 2 1 0 ∷ nodeIn "WEIR" 3 1 3500 ∷ [];
@@ -166,7 +168,7 @@ metreStudy =
 
 abbrev metreRuns : Runs
 metreRuns =
-    runsOf
+    threeRuns
     (pos 2000000000 ∷ pos 0 ∷ negℤ (pos 3000000000) ∷ negℤ (pos 6000000000) ∷ pos 2000000000 ∷ pos 3000000000 ∷ pos 3000000000 ∷ [])
     (pos 4499999999 ∷ pos 0 ∷ negℤ (pos 2500000000) ∷ negℤ (pos 2500000000) ∷ replicate 3 (pos 0))
     (pos 0 ∷ pos 0 ∷ pos 0 ∷ negℤ (pos 2499999999) ∷ replicate 3 (pos 0))

@@ -78,6 +78,9 @@ refusal-requires-10 c κs = search needs
 enum-known-cause-8 : tie.Need-enum-known-cause-8
 enum-known-cause-8 c = search needs
 
+base-number-requires : tie.Need-base-number-requires
+base-number-requires c κs = search needs
+
 refusal-requires-11 : tie.Need-refusal-requires-11
 refusal-requires-11 c κs = search needs
 
@@ -92,6 +95,18 @@ enum-told-5 c = search needs
 
 refusal-requires-13 : tie.Need-refusal-requires-13
 refusal-requires-13 c κs = search needs
+
+enum-told-6 : tie.Need-enum-told-6
+enum-told-6 c = search needs
+
+refusal-requires-14 : tie.Need-refusal-requires-14
+refusal-requires-14 c κs = search needs
+
+enum-known-cause-9 : tie.Need-enum-known-cause-9
+enum-known-cause-9 c = search needs
+
+refusal-requires-15 : tie.Need-refusal-requires-15
+refusal-requires-15 c κs = search needs
 
 returns : tie.Need-returns
 unfolding values
@@ -135,7 +150,7 @@ returns-10 c = rw (c .before .system-number3 .ensures) at (c .refusal10 .ensures
 
 returns-11 : tie.Need-returns-11
 unfolding values
-returns-11 c = c .refusal11 .ensures ∙ sym (ap (λ (r : Refusal). values (Refused r)) (c .before .before .cause8 .given .1))
+returns-11 c = rw (c .before .base-number .ensures) at (c .refusal11 .ensures) ∙ sym (ap (λ (r : Refusal). values (Refused r)) (c .before .before .before .cause8 .given .1))
 
 returns-12 : tie.Need-returns-12
 unfolding values
@@ -144,6 +159,14 @@ returns-12 c = c .refusal12 .ensures ∙ sym (ap (λ (r : Refusal). values (Refu
 returns-13 : tie.Need-returns-13
 unfolding values
 returns-13 c = c .refusal13 .ensures ∙ sym (ap (λ (r : Refusal). values (Refused r)) (c .before .enum-told5 .given .1))
+
+returns-14 : tie.Need-returns-14
+unfolding values
+returns-14 c = c .refusal14 .ensures ∙ sym (ap (λ (r : Refusal). values (Refused r)) (c .before .enum-told6 .given .1))
+
+returns-15 : tie.Need-returns-15
+unfolding values
+returns-15 c = c .refusal15 .ensures ∙ sym (ap (λ (r : Refusal). values (Refused r)) (c .before .before .cause9 .given .1))
 
 pub of-refusal-spec : {M : Type 1} → statement M
 of-refusal-spec =
@@ -173,11 +196,16 @@ of-refusal-spec =
     system-number-requires-3
     refusal-requires-10
     enum-known-cause-8
+    base-number-requires
     refusal-requires-11
     enum-told-4
     refusal-requires-12
     enum-told-5
     refusal-requires-13
+    enum-told-6
+    refusal-requires-14
+    enum-known-cause-9
+    refusal-requires-15
     returns
     returns-2
     returns-3
@@ -190,4 +218,6 @@ of-refusal-spec =
     returns-10
     returns-11
     returns-12
-    returns-13)
+    returns-13
+    returns-14
+    returns-15)

@@ -17,7 +17,7 @@ module _ (c : tie.After-open) where
   bytes = s .args .file .now
 
   abbrev runs : Runs
-  runs = runsOf (s .args .base .now) (s .args .wider .now) (s .args .local .now)
+  runs = let a = s .args in runsOf (a .base .now) (a .wider .now) (a .local .now) (a .peak-base .now) (a .peak-wider .now)
 
   abbrev read : Opened
   read = c .«open» .result
@@ -34,6 +34,15 @@ no-figures-requires c κs = search needs
 enum-told-2 : tie.Need-enum-told-2
 enum-told-2 c = search needs
 
+by-node-requires : tie.Need-by-node-requires
+by-node-requires c κs = search needs
+
+by-node-requires-2 : tie.Need-by-node-requires-2
+by-node-requires-2 c κs = search needs
+
+paying-at-peak-requires : tie.Need-paying-at-peak-requires
+paying-at-peak-requires c κs = search needs
+
 figures-requires : tie.Need-figures-requires
 figures-requires c κs = search needs
 
@@ -45,9 +54,12 @@ returns c =
 
 returns-2 : tie.Need-returns-2
 returns-2 c =
-    let d = c .before .before .before .before .before .before in
+    let k = c .before in
+    let p = k .before .before in
+    let t = p .before in
+    let d = t .before .before .before .before .before in
     let a = d .before .before in
-    charged (bytes a) (runs a) (read a) (a .«open» .ensures) (d .enum-told2 .given .1) (c .figures .ensures)
+    charged (bytes a) (runs a) (read a) (a .«open» .ensures) (d .enum-told2 .given .1) (t .by-node .ensures) (p .by-node2 .ensures) (k .paying-at-peak .ensures) (c .figures .ensures)
 
 pub of-columns-spec : {M : Type 1} → statement M
 of-columns-spec =
@@ -57,6 +69,9 @@ of-columns-spec =
     enum-told
     no-figures-requires
     enum-told-2
+    by-node-requires
+    by-node-requires-2
+    paying-at-peak-requires
     figures-requires
     returns
     returns-2)

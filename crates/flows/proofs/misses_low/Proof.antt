@@ -7,17 +7,17 @@ use Rattle.integers.proofs.Machine.{Back, back}
 use Rattle.integers.proofs.Sum.{sum-zero, sum-more}
 use Rattle.meaning.specs.Columns.{numberAt}
 use Rattle.flows.proofs.Circuits.{place-fits}
-use Rattle.flows.specs.Flows.{number, netIn}
+use Rattle.flows.specs.Flows.{number, netOf}
 use Rattle.flows.specs.Turns.{missSize, sizeAt}
 use Rattle.flows.proofs.Misses.{size-most, too-high, all-low}
 use Rattle.flows.proofs.misses_low.Statement.{statement}
 use Rattle.flows.proofs.misses_low.Tie as tie
 
 abbrev Inv-loop : tie.InvT-loop
-Inv-loop run k offset n m total₀ c₀ total c = (c ≤ m) × (total ≤ 100000000) × (total ≡ sum c (sizeAt (netIn k run) offset run))
+Inv-loop n first second x offset run m total₀ c₀ total c = (c ≤ m) × (total ≤ 100000000) × (total ≡ sum c (sizeAt (netOf n 0 first second x run) offset run))
 
 abbrev μ-loop : tie.MeasureT-loop
-μ-loop run k offset n m total₀ c₀ total c = m - c
+μ-loop n first second x offset run m total₀ c₀ total c = m - c
 
 circuits-in-requires : tie.Need-circuits-in-requires Inv-loop μ-loop
 circuits-in-requires c κs = tt
@@ -65,8 +65,8 @@ shared-slice-copy-out-miss-size c = omega arith
 mul-miss-size-3 : tie.Need-mul-miss-size-3 Inv-loop μ-loop
 mul-miss-size-3 c = place-fits _ (few (c .before .before .before .before .before .before))
 
-array-copy-out-miss-size : tie.Need-array-copy-out-miss-size Inv-loop μ-loop
-array-copy-out-miss-size c = few (c .before .before .before .before .before .before)
+element-copy-out-miss-size-2 : tie.Need-element-copy-out-miss-size-2 Inv-loop μ-loop
+element-copy-out-miss-size-2 c = few (c .before .before .before .before .before .before)
 
 miss-size-requires : tie.Need-miss-size-requires Inv-loop μ-loop
 miss-size-requires c κs = tt
@@ -86,7 +86,7 @@ module _ (c : tie.After-miss-size Inv-loop μ-loop) where
   s = l .before .before
 
   abbrev size : ℕ → ℕ
-  size = sizeAt (netIn (s .args .t1) (s .args .run .now)) (s .args .t2) (s .args .run .now)
+  size = sizeAt (netOf (s .args .n) 0 (s .args .first .now) (s .args .second .now) (s .args .x .now) (s .args .run .now)) (s .args .offset .now) (s .args .run .now)
 
   bp : Back (p .number-at .result)
   bp = back _ (p .number-at .ok)
@@ -94,16 +94,16 @@ module _ (c : tie.After-miss-size Inv-loop μ-loop) where
   bq : Back (q .number-at2 .result)
   bq = back _ (q .number-at2 .ok)
 
-  bf : Back (number (s .args .run .now) (s .args .t1 .nodes + l .loop .c))
+  bf : Back (number (s .args .run .now) (s .args .n + l .loop .c))
   bf = back _ (c .before .before .miss-size-arg2 .given)
 
-  bo : Back (number (s .args .t2) (l .loop .c))
+  bo : Back (number (s .args .offset .now) (l .loop .c))
   bo = back _ (c .before .miss-size-arg3 .given)
 
   sized : c .miss-size .result ≡ size (l .loop .c)
   sized =
       simp (bp, bq, bf, bo) at (c .miss-size .ensures)
-      ∙ ap₂ (λ (a b : ℤ). missSize a b (numberAt (s .args .t1 .x) (l .loop .c)) (number (s .args .run .now) (s .args .t1 .nodes + l .loop .c)) (number (s .args .t2) (l .loop .c))) (p .number-at .ensures) (q .number-at2 .ensures)
+      ∙ ap₂ (λ (a b : ℤ). missSize a b (numberAt (s .args .x .now) (l .loop .c)) (number (s .args .run .now) (s .args .n + l .loop .c)) (number (s .args .offset .now) (l .loop .c))) (p .number-at .ensures) (q .number-at2 .ensures)
 
   most : c .miss-size .result ≤ 5030000000000000000
   most = rw sized (size-most _ _ _ _ _)
@@ -117,7 +117,8 @@ add-total c = omega (arith, most c)
 returns : tie.Need-returns Inv-loop μ-loop
 returns c =
     let d = c .before in
-    too-high (s d .args .t1) (s d .args .t2) (s d .args .run .now) (l d .loop .c + 1) _ (omega arith) (next d) (omega arith)
+    let a = s d .args in
+    too-high (a .n) (a .first .now) (a .second .now) (a .x .now) (a .offset .now) (a .run .now) (l d .loop .c + 1) _ (omega arith) (next d) (omega arith)
 
 add-c : tie.Need-add-c Inv-loop μ-loop
 add-c c = omega arith
@@ -131,8 +132,8 @@ loop-again c = (omega arith, omega arith, next (c .before))
 returns-2 : tie.Need-returns-2 Inv-loop μ-loop
 returns-2 c =
     let l = c .before in
-    let s = l .before .before in
-    all-low (s .args .t1) (s .args .t2) (s .args .run .now) _ _ (omega arith) (l .loop .inv .2) (l .loop .inv .1)
+    let a = l .before .before .args in
+    all-low (a .n) (a .first .now) (a .second .now) (a .x .now) (a .offset .now) (a .run .now) _ _ (omega arith) (l .loop .inv .2) (l .loop .inv .1)
 
 pub misses-low-spec : {M : Type 1} → statement M
 misses-low-spec =
@@ -154,7 +155,7 @@ misses-low-spec =
     mul-miss-size-2
     shared-slice-copy-out-miss-size
     mul-miss-size-3
-    array-copy-out-miss-size
+    element-copy-out-miss-size-2
     miss-size-requires
     add-total
     returns

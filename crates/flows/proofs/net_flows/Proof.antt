@@ -11,10 +11,10 @@ use Rattle.flows.proofs.net_flows.Statement.{statement}
 use Rattle.flows.proofs.net_flows.Tie as tie
 
 abbrev Inv-loop : tie.InvT-loop
-Inv-loop run k n m net₀ c₀ net c = (c ≤ m) × Netted (numberAt (k .first)) (numberAt (k .second)) (carriedIn k run) c net
+Inv-loop n first second run m net₀ c₀ net c = (c ≤ m) × Netted (numberAt first) (numberAt second) (carriedIn n first second run) c net
 
 abbrev μ-loop : tie.MeasureT-loop
-μ-loop run k n m net₀ c₀ net c = m - c
+μ-loop n first second run m net₀ c₀ net c = m - c
 
 circuits-in-requires : tie.Need-circuits-in-requires Inv-loop μ-loop
 circuits-in-requires c κs = tt
@@ -47,11 +47,11 @@ module _ (c : tie.After-carried Inv-loop μ-loop) where
   s = l .before .before
 
   abbrev flows : ℕ → ℤ
-  flows = carriedIn (s .args .t1) (s .args .run .now)
+  flows = carriedIn (s .args .n) (s .args .first .now) (s .args .second .now) (s .args .run .now)
 
   flow-is : c .carried .result ≡ flows (l .loop .c)
   flow-is =
-      let b : Back (number (s .args .run .now) (s .args .t1 .nodes + l .loop .c)) = back _ (c .before .carried-arg .given) in
+      let b : Back (number (s .args .run .now) (s .args .n + l .loop .c)) = back _ (c .before .carried-arg .given) in
       simp b at (c .carried .ensures)
 
   bf : Back (flows (l .loop .c))
@@ -103,7 +103,8 @@ loop-again c =
 returns : tie.Need-returns Inv-loop μ-loop
 returns c =
     let l = c .before in
-    netted-all (l .before .before .args .t1) (l .before .before .args .run .now) (l .loop .c) _ (omega arith) (l .loop .inv .1)
+    let a = l .before .before .args in
+    netted-all (a .n) (a .first .now) (a .second .now) (a .run .now) (l .loop .c) _ (omega arith) (l .loop .inv .1)
 
 pub net-flows-spec : {M : Type 1} → statement M
 net-flows-spec =

@@ -1,68 +1,49 @@
 use mathlib.Core.Path.{_≡_, sym, _∙_}
-use Prim.Native.Nat.{_+_, _-_, _≤_, _<_}
+use Prim.Native.Nat.{_-_, _≤_}
 use native.Mathlib.Omega.{arith}
 use lib.IntN.{pos}
-use Rattle.integers.proofs.Machine.{Back, back}
+use Rattle.integers.proofs.Machine.{back}
 use Rattle.meaning.specs.Columns.{column}
 use Rattle.meaning.proofs.Columns.{column-none, column-turn, column-done}
-use Rattle.flows.proofs.Circuits.{place-fits}
-use Rattle.flows.specs.Flows.{number, offsetAt, offsetsOf}
+use Rattle.flows.specs.Flows.{offsetAt, offsetsOf}
 use Rattle.flows.proofs.offsets.Statement.{statement}
 use Rattle.flows.proofs.offsets.Tie as tie
 
 abbrev Inv-loop : tie.InvT-loop
-Inv-loop system base k n m offset₀ c₀ offset c = (c ≤ m) × (offset ≡ column (pos 0) 512 c (offsetAt system k base))
+Inv-loop system length mark headings offset₀ c₀ offset c = (c ≤ 512) × (offset ≡ column (pos 0) 512 c (offsetAt system length mark headings))
 
 abbrev μ-loop : tie.MeasureT-loop
-μ-loop system base k n m offset₀ c₀ offset c = m - c
-
-circuits-in-requires : tie.Need-circuits-in-requires Inv-loop μ-loop
-circuits-in-requires c κs = tt
+μ-loop system length mark headings offset₀ c₀ offset c = 512 - c
 
 loop-holds : tie.Need-loop-holds Inv-loop μ-loop
 loop-holds c = (omega arith, sym (column-none (pos 0) 512 _))
 
--- a turn's circuit is a row of the columns
-few : (c : tie.In-loop Inv-loop μ-loop) → c .before .loop .c < 512
-few c = omega arith
-
 mul-offset-of : tie.Need-mul-offset-of Inv-loop μ-loop
-mul-offset-of c = place-fits _ (few c)
+mul-offset-of c = omega arith
 
 element-copy-out-offset-of : tie.Need-element-copy-out-offset-of Inv-loop μ-loop
-element-copy-out-offset-of c = few c
+element-copy-out-offset-of c = omega arith
 
 mul-offset-of-2 : tie.Need-mul-offset-of-2 Inv-loop μ-loop
-mul-offset-of-2 c = place-fits _ (few (c .before))
+mul-offset-of-2 c = omega arith
 
 element-copy-out-offset-of-2 : tie.Need-element-copy-out-offset-of-2 Inv-loop μ-loop
-element-copy-out-offset-of-2 c = few (c .before)
-
-add-offset-of : tie.Need-add-offset-of Inv-loop μ-loop
-add-offset-of c = omega arith
+element-copy-out-offset-of-2 c = omega arith
 
 mul-offset-of-3 : tie.Need-mul-offset-of-3 Inv-loop μ-loop
 mul-offset-of-3 c = omega arith
 
-shared-slice-copy-out-offset-of : tie.Need-shared-slice-copy-out-offset-of Inv-loop μ-loop
-shared-slice-copy-out-offset-of c = omega arith
-
--- the base flow of a turn's circuit
-module _ (c : tie.After-offset-of-arg3 Inv-loop μ-loop) where
-  abbrev l : tie.At-loop Inv-loop μ-loop
-  l = c .before .before .before .before
-
-  bf : Back (let s = l .before .before in number (s .args .base .now) (s .args .t2 .nodes + l .loop .c))
-  bf = back _ (c .offset-of-arg3 .given)
+array-copy-out-offset-of : tie.Need-array-copy-out-offset-of Inv-loop μ-loop
+array-copy-out-offset-of c = omega arith
 
 offset-of-requires : tie.Need-offset-of-requires Inv-loop μ-loop
 offset-of-requires c κs = tt
 
 mul-offset : tie.Need-mul-offset Inv-loop μ-loop
-mul-offset c = place-fits _ (few (c .before .before .before .before))
+mul-offset c = omega arith
 
 array-set-from-offset : tie.Need-array-set-from-offset Inv-loop μ-loop
-array-set-from-offset c = few (c .before .before .before .before)
+array-set-from-offset c = omega arith
 
 add-c : tie.Need-add-c Inv-loop μ-loop
 add-c c = omega arith
@@ -72,8 +53,8 @@ loop-less c = omega arith
 
 loop-again : tie.Need-loop-again Inv-loop μ-loop
 loop-again c =
-    let d = c .before in
-    (omega arith, column-turn (pos 0) 512 _ (l d .loop .c) (omega arith) (l d .loop .inv .1) (back _ (c .offset-of .ok) ∙ simp (bf d) at (c .offset-of .ensures)))
+    let l = c .before .before .before .before .before in
+    (omega arith, column-turn (pos 0) 512 _ (l .loop .c) (omega arith) (l .loop .inv .1) (back _ (c .offset-of .ok) ∙ c .offset-of .ensures))
 
 returns : tie.Need-returns Inv-loop μ-loop
 unfolding offsetsOf
@@ -87,15 +68,13 @@ offsets-spec =
     (tie.spec
     Inv-loop
     μ-loop
-    circuits-in-requires
     loop-holds
     mul-offset-of
     element-copy-out-offset-of
     mul-offset-of-2
     element-copy-out-offset-of-2
-    add-offset-of
     mul-offset-of-3
-    shared-slice-copy-out-offset-of
+    array-copy-out-offset-of
     offset-of-requires
     mul-offset
     array-set-from-offset

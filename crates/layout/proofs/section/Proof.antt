@@ -2,7 +2,7 @@ use mathlib.Core.Path.{_≡_, refl, sym, _∙_}
 use mathlib.Core.Bool.{true}
 use Prim.Native.Nat.{_<_}
 use borrow.Author.Needs.{needs}
-use Rattle.meaning.specs.File.{fileWhole}
+use Rattle.meaning.specs.File.{editionAt, sections, fileWhole}
 use Rattle.meaning.proofs.Says.{_also_, says-lt, says-true}
 use Rattle.layout.specs.Readable.{sectionIn}
 use Rattle.layout.proofs.Rows.{in-whole}
@@ -10,8 +10,11 @@ use Rattle.layout.proofs.section.Statement.{statement}
 use Rattle.layout.proofs.section.Tie as tie
 
 -- a number of a section, and a whole file
-passed : (c : tie.Then1) → let a = c .before .before .before .args in (a .number < 7) × (fileWhole (a .file .now) ≡ true)
-passed c = (says-lt also says-true _) .0 (rw (c .before .whole .ensures) at (c .if1 .taken))
+passed : (c : tie.Then1) → let a = c .before .before .before .before .args in (a .number < sections (editionAt (a .file .now))) × (fileWhole (a .file .now) ≡ true)
+passed c = (says-lt also says-true _) .0 (rw (c .before .whole .ensures, c .before .before .sections .ensures .0) at (c .if1 .taken))
+
+sections-requires : tie.Need-sections-requires
+sections-requires c κs = search needs
 
 whole-requires : tie.Need-whole-requires
 whole-requires c κs = search needs
@@ -24,7 +27,7 @@ returns c = let p = passed (c .before) in c .section .ensures ∙ sym (in-whole 
 
 returns-2 : tie.Need-returns-2
 unfolding sectionIn
-returns-2 c = rw (rw (c .before .whole .ensures) at (c .if1 .left)) refl
+returns-2 c = rw (rw (c .before .whole .ensures, c .before .before .sections .ensures .0) at (c .if1 .left)) refl
 
 pub section-spec : {M : Type 1} → statement M
-section-spec = tie.close (tie.spec whole-requires section-requires returns returns-2)
+section-spec = tie.close (tie.spec sections-requires whole-requires section-requires returns returns-2)

@@ -1,6 +1,5 @@
 -- `lines::zone_line` meets its contract, by the case of the zone.
 use native.Mathlib.Omega.{arith}
-use Rattle.meaning.specs.Sheet.{zoneNumbers}
 use Rattle.lines.proofs.Making.{both, longer}
 use Rattle.lines.proofs.Lined.{zone-dash, zone-full}
 use borrow.Author.Needs.{needs}
@@ -24,27 +23,19 @@ returns c =
     let t = c .before .before in
     let n = t .before .before .before in
     let a = n .before .before .args in
-    rw (zone-dash (a .side) (a .zone) (a .residual .0) (a .z) (t .if1 .taken))
+    rw (zone-dash (a .edition) (a .side) (a .zone) (a .residual .0) (a .z) (t .if1 .taken))
     (longer (both (both (n .before .letter-of .ensures) (n .with-count .ensures)) (c .with-word .ensures)) (omega arith))
 
-zone-numbers-requires : tie.Need-zone-numbers-requires
-zone-numbers-requires c κs = search needs
-
-slice-aggregate-with-numbers : tie.Need-slice-aggregate-with-numbers
-slice-aggregate-with-numbers c = search needs
-
-with-numbers-requires : tie.Need-with-numbers-requires
-with-numbers-requires c κs = search needs
+with-figures-requires : tie.Need-with-figures-requires
+with-figures-requires c κs = search needs
 
 returns-2 : tie.Need-returns-2
-unfolding zoneNumbers
 returns-2 c =
-    let z = c .before .before in
-    let e = z .before in
+    let e = c .before in
     let n = e .before .before .before in
     let a = n .before .before .args in
-    rw (zone-full (a .side) (a .zone) (a .residual .0) (a .z) (e .if1 .left))
-    (both (both (n .before .letter-of .ensures) (n .with-count .ensures)) (rw (z .zone-numbers .ensures) at (c .with-numbers .ensures)))
+    rw (zone-full (a .edition) (a .side) (a .zone) (a .residual .0) (a .z) (e .if1 .left))
+    (longer (both (both (n .before .letter-of .ensures) (n .with-count .ensures)) (c .with-figures .ensures)) (omega arith))
 
 pub zone-line-spec : {M : Type 1} → statement M
 zone-line-spec =
@@ -55,7 +46,5 @@ zone-line-spec =
     slice-aggregate-with-word
     with-word-requires
     returns
-    zone-numbers-requires
-    slice-aggregate-with-numbers
-    with-numbers-requires
+    with-figures-requires
     returns-2)

@@ -13,8 +13,8 @@ use Rattle.output.proofs.with_runs.Tie as tie
 
 -- with the file's own runs
 settled : (w : tie.After-write)
-    → _≡_ {A = Settled} (record { answer = w .write .result; buffer = w .write .last .1 .1 .1 .1 .0 }) (settle (w .before .before .before .args .file .now) (runsIn (w .before .before .before .args .file .now)) zeros)
-settled w = subst (λ (r : Runs). _≡_ {A = Settled} (record { answer = w .write .result; buffer = w .write .last .1 .1 .1 .1 .0 }) (settle (w .before .before .before .args .file .now) r zeros)) (w .before .before .before .pre) (w .write .ensures .contract)
+    → _≡_ {A = Settled} (record { answer = w .write .result; buffer = w .write .last .1 .1 .1 .1 .1 .1 .0 }) (settle (w .before .before .before .args .file .now) (runsIn (w .before .before .before .args .file .now)) zeros)
+settled w = subst (λ (r : Runs). _≡_ {A = Settled} (record { answer = w .write .result; buffer = w .write .last .1 .1 .1 .1 .1 .1 .0 }) (settle (w .before .before .before .args .file .now) r zeros)) (w .before .before .before .pre) (w .write .ensures .contract)
 
 slice-aggregate-write : tie.Need-slice-aggregate-write
 slice-aggregate-write c = search needs

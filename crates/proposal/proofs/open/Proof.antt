@@ -20,13 +20,13 @@ module _ (c : tie.After-open) where
   bytes = s .args .file .now
 
   abbrev runs : Runs
-  runs = runsOf (s .args .base .now) (s .args .wider .now) (s .args .local .now)
+  runs = runsOf (s .args .base .now) (s .args .wider .now) (s .args .local .now) (s .args .peak-base .now) (s .args .peak-wider .now)
 
   abbrev read : Opened
   read = c .«open» .result
 
   opened : Opens bytes (λ s. length (runs s)) read
-  opened = rw (by-system length (s .args .base .now) (s .args .wider .now) (s .args .local .now)) at (c .«open» .ensures)
+  opened = rw (by-system length (s .args .base .now) (s .args .wider .now) (s .args .local .now) (s .args .peak-base .now) (s .args .peak-wider .now)) at (c .«open» .ensures)
 
 open-requires : tie.Need-open-requires
 open-requires c κs = search needs

@@ -15,7 +15,7 @@ module _ (p : tie.After-charge) where
   file = s .args .file .now
 
   abbrev runs : Runs
-  runs = runsOf (s .args .base .now) (s .args .wider .now) (s .args .local .now)
+  runs = runsOf (s .args .base .now) (s .args .wider .now) (s .args .local .now) (s .args .peak-base .now) (s .args .peak-wider .now)
 
 charge-requires : tie.Need-charge-requires
 charge-requires c κs = search needs

@@ -15,7 +15,7 @@ module _ (p : tie.After-charge) where
   file = s .args .file .now
 
   abbrev runs : Runs
-  runs = runsOf (s .args .base .now) (s .args .wider .now) (s .args .local .now)
+  runs = runsOf (s .args .base .now) (s .args .wider .now) (s .args .local .now) (s .args .peak-base .now) (s .args .peak-wider .now)
 
   abbrev out : List ℕ
   out = s .args .out .now

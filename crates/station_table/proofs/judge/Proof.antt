@@ -1,10 +1,10 @@
-use mathlib.Core.Path.{sym, _∙_, ap}
+use mathlib.Core.Path.{sym, ap}
 use Prim.Native.Nat.{ℕ, _<_, _^_}
 use native.Mathlib.Omega.{arith}
 use Rattle.meaning.specs.Columns.{kwAt}
 use Rattle.layout.proofs.Rows.{nodes-from, nodes-few, stations-from, stations-few}
 use Rattle.station_table.specs.declared.StationColumns.{StationColumns}
-use Rattle.station_table.proofs.TecLaws.{cells-all, tec-below, by-type-is, tec-is}
+use Rattle.station_table.proofs.TecLaws.{cells-all, tec-below, by-type-is}
 use borrow.Author.Needs.{needs}
 use Rattle.station_table.proofs.judge.Statement.{statement}
 use Rattle.station_table.proofs.judge.Tie as tie
@@ -43,20 +43,15 @@ by-type-requires c κs =
     let rows = s .before in
     (nodes-few _ (rows .before .before .section .ensures), stations-few _ (rows .section2 .ensures), below s)
 
-by-node-requires : tie.Need-by-node-requires
-by-node-requires c κs =
-    let s = c .before .before .before .before in
-    λ cell. cells-all _ _ _ _ _ cell (c .by-type .ensures) (below s) (stations-few _ (s .before .section2 .ensures))
-
 returns : tie.Need-returns
 returns c =
-    let t = c .before in
-    let s = t .before .before .before .before in
+    let s = c .before .before .before .before in
     let rows = s .before in
     let nodes = nodes-from _ (rows .before .before .section .ensures) in
     let stations = stations-from _ (rows .section2 .ensures) in
-    let by = by-type-is _ _ _ _ _ (sym (nodes .count)) (sym (stations .count)) (s .columns .ensures) (stations-few _ (rows .section2 .ensures)) (t .by-type .ensures) in
-    (t .before .before .stage .ensures, by, c .by-node .ensures ∙ tec-is _ _ by)
+    let few = stations-few _ (rows .section2 .ensures) in
+    let by = by-type-is _ _ _ _ _ (sym (nodes .count)) (sym (stations .count)) (s .columns .ensures) few (c .by-type .ensures) in
+    (c .before .before .stage .ensures, by, λ cell. cells-all _ _ _ _ _ cell (c .by-type .ensures) (below s) few)
 
 pub judge-spec : {M : Type 1} → statement M
 judge-spec =
@@ -69,5 +64,4 @@ judge-spec =
     stage-requires
     cast-by-type
     by-type-requires
-    by-node-requires
     returns)

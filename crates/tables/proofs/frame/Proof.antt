@@ -1,8 +1,8 @@
 -- `tables::frame` meets its contract.
-use mathlib.Core.Path.{_≡_, sym, _∙_}
-use mathlib.Core.Bool.{true}
+use mathlib.Core.Path.{_≡_, sym, _∙_, ap₂}
+use mathlib.Core.Bool.{true, _&&_}
 use native.Mathlib.Omega.{arith}
-use Rattle.meaning.specs.Study.{bySystem}
+use Rattle.meaning.specs.Editions.{bySystem}
 use Rattle.meaning.specs.File.{fileWhole, runsWhole}
 use Rattle.tables.proofs.FrameLaws.{file-stops, runs-stop, settings-decide, few-rows, setting-is, runs-are}
 use borrow.Author.Needs.{needs}
@@ -18,32 +18,42 @@ counts-requires c κs = search needs
 is-whole : (c : tie.Then1) → fileWhole (c .before .before .before .args .file .now) ≡ true
 is-whole c = sym (c .before .whole .ensures) ∙ c .if1 .taken
 
-runs-told : (c : tie.After-same-lengths) → let a = c .before .before .before .before .before .before .args in c .same-lengths .result ≡ runsWhole (a .file .now) (bySystem (a .base) (a .wider) (a .local))
-runs-told c =
-    let n = c .before .before in
-    let a = n .before .before .before .before .args in
-    c .same-lengths .ensures ∙ runs-are (a .file .now) (n .counts .ensures) (is-whole (n .before)) (a .base) (a .wider) (a .local)
-
-add-same-lengths : tie.Need-add-same-lengths
-add-same-lengths c = omega (arith, few-rows _ (c .before .counts .ensures))
-
-same-lengths-requires : tie.Need-same-lengths-requires
-same-lengths-requires c κs = search needs
-
 settings-requires : tie.Need-settings-requires
 settings-requires c κs = search needs
+
+add-count : tie.Need-add-count
+add-count c = omega (arith, few-rows _ (c .before .before .counts .ensures))
+
+peak-count-requires : tie.Need-peak-count-requires
+peak-count-requires c κs = search needs
+
+year-round-runs-requires : tie.Need-year-round-runs-requires
+year-round-runs-requires c κs = search needs
+
+peak-runs-requires : tie.Need-peak-runs-requires
+peak-runs-requires c κs = search needs
 
 stage-requires : tie.Need-stage-requires
 stage-requires c κs = search needs
 
+runs-told : (c : tie.After-peak-runs) → let a = c .before .before .before .before .before .before .before .before .before .args in
+    (c .before .year-round-runs .result && c .peak-runs .result) ≡ runsWhole (a .file .now) (bySystem (a .base) (a .wider) (a .local) (a .peak-base) (a .peak-wider))
+runs-told c =
+    let p = c .before .before in
+    let s = p .before .before in
+    let n = s .before in
+    let a = n .before .before .before .before .args in
+    ap₂ _&&_ (c .before .year-round-runs .ensures) (rw (p .peak-count .ensures) at (c .peak-runs .ensures))
+    ∙ runs-are (a .file .now) (n .counts .ensures) (is-whole (n .before)) (s .settings .ensures) (a .base) (a .wider) (a .local) (a .peak-base) (a .peak-wider)
+
 returns : tie.Need-returns
 returns c =
-    let l = c .before .before .before in
-    let n = l .before .before in
-    settings-decide _ _ (is-whole (n .before)) (sym (runs-told l) ∙ c .before .before .if2 .taken) (setting-is _ (n .counts .ensures) (c .before .settings .ensures) (c .stage .ensures))
+    let l = c .before .before in
+    let s = l .before .before .before .before in
+    settings-decide _ _ (is-whole (s .before .before)) (sym (runs-told l) ∙ c .before .if2 .taken) (setting-is _ (s .before .counts .ensures) (s .settings .ensures) (c .stage .ensures))
 
 returns-2 : tie.Need-returns-2
-returns-2 c = runs-stop _ _ (is-whole (c .before .before .before .before)) (sym (runs-told (c .before)) ∙ c .if2 .left)
+returns-2 c = runs-stop _ _ (is-whole (c .before .before .before .before .before .before .before)) (sym (runs-told (c .before)) ∙ c .if2 .left)
 
 returns-3 : tie.Need-returns-3
 returns-3 c = file-stops _ _ (sym (c .before .whole .ensures) ∙ c .if1 .left)
@@ -54,9 +64,11 @@ frame-spec =
     (tie.spec
     whole-requires
     counts-requires
-    add-same-lengths
-    same-lengths-requires
     settings-requires
+    add-count
+    peak-count-requires
+    year-round-runs-requires
+    peak-runs-requires
     stage-requires
     returns
     returns-2

@@ -1,44 +1,97 @@
+use mathlib.Core.Path.{_≡_, sym, _∙_}
+use mathlib.Core.Bool.{true}
 use borrow.Author.Needs.{needs}
 use lib.ListN.{length}
-use Rattle.meaning.specs.declared.Side.the-variants.{Generation, Demand}
-use Rattle.zones.proofs.Laws.{zone-fits, reached-most}
-use Rattle.tariffs.specs.Sides.{AllFit}
-use Rattle.tariffs.specs.Case.{figuresOver}
+use Rattle.zones.proofs.Laws.{reached-most}
+use Rattle.tariffs.specs.Case.{settingsFit, SettingsFit}
+use Rattle.tariffs.proofs.CaseLaws.{settings-say, peak-few, sides-fit, over-made, over-none}
 use Rattle.tariffs.proofs.figures.Statement.{statement}
 use Rattle.tariffs.proofs.figures.Tie as tie
 
-sums-by-zone-requires : tie.Need-sums-by-zone-requires
-sums-by-zone-requires c κs = search needs
+settings-fit-requires : tie.Need-settings-fit-requires
+settings-fit-requires c κs = search needs
 
-sums-by-zone-requires-2 : tie.Need-sums-by-zone-requires-2
-sums-by-zone-requires-2 c κs = search needs
+-- the settings, as they were tested
+tested : (c : tie.Then1) → settingsFit (c .before .before .args .settings) ≡ true
+tested c = sym (c .before .settings-fit .ensures) ∙ c .if1 .taken
+
+held : (c : tie.Then1) → SettingsFit (c .before .before .args .settings)
+held c = settings-say (c .before .before .args .settings) (tested c)
+
+sides-of-requires : tie.Need-sides-of-requires
+sides-of-requires c κs = (held c .generationZones, held c .demandZones)
+
+at-peak-requires : tie.Need-at-peak-requires
+at-peak-requires c κs = search needs
+
+at-peak-requires-2 : tie.Need-at-peak-requires-2
+at-peak-requires-2 c κs = search needs
+
+at-peak-requires-3 : tie.Need-at-peak-requires-3
+at-peak-requires-3 c κs = search needs
+
+sides-of-requires-2 : tie.Need-sides-of-requires-2
+sides-of-requires-2 c κs =
+    let d = c .before in
+    let g = d .before in
+    let t = g .before .before in
+    let e = t .before .before .args .settings .edition in
+    (peak-few e (g .at-peak .ensures) (held t .generationZones), peak-few e (d .at-peak2 .ensures) (held t .demandZones))
 
 nodes-in-requires : tie.Need-nodes-in-requires
 nodes-in-requires c κs = search needs
 
 ranged-figures-requires : tie.Need-ranged-figures-requires
 ranged-figures-requires c κs =
-    let d = c .before in
-    let s = d .before .before in
-    let a = s .args in
-    let reached = reached-most (a .nodes) (length (a .local .now)) in
-    let tecSums : AllFit (d .before .sums-by-zone .result) = rw (d .before .sums-by-zone .ensures) (record { each = zone-fits Generation (a .generation-zone) (a .tec) (a .paying) (a .wider .now) (a .nodes) }) in
-    let demandSums : AllFit (d .sums-by-zone2 .result) = rw (d .sums-by-zone2 .ensures) (record { each = zone-fits Demand (a .demand-zone) (a .demand) (a .demand) (a .wider .now) (a .nodes) }) in
-    (tecSums, demandSums, rw (c .nodes-in .ensures) (reached .0), rw (c .nodes-in .ensures) (reached .1))
+    let p = c .before in
+    let n = p .before in
+    let d = n .before in
+    let g = d .before in
+    let y = g .before in
+    let t = y .before in
+    let a = t .before .before .args in
+    let reached = reached-most (a .nodes) (length (a .local .now)) in (
+      sides-fit (a .settings) (a .nodes) (a .generation-zone) (a .tec) (a .paying) (a .paying-at-peak) (a .demand-zone) (a .demand) (a .wider .now) (a .peak-wider .now)
+          (y .sides-of .ensures) (g .at-peak .ensures) (d .at-peak2 .ensures) (n .at-peak3 .ensures) (p .sides-of2 .ensures) (tested t),
+      rw (c .nodes-in .ensures) (reached .0),
+      rw (c .nodes-in .ensures) (reached .1),
+    )
 
 returns : tie.Need-returns
-unfolding figuresOver
 returns c =
-    let n = c .before in
+    let p = c .before .before in
+    let n = p .before in
     let d = n .before in
-    rw (← d .before .sums-by-zone .ensures, ← d .sums-by-zone2 .ensures, ← n .nodes-in .ensures) (c .ranged-figures .ensures)
+    let g = d .before in
+    let y = g .before in
+    let t = y .before in
+    let a = t .before .before .args in
+    over-made (a .settings) (a .nodes) (a .generation-zone) (a .tec) (a .paying) (a .paying-at-peak) (a .demand-zone) (a .demand) (a .wider .now) (a .peak-wider .now)
+    (y .sides-of .ensures) (g .at-peak .ensures) (d .at-peak2 .ensures) (n .at-peak3 .ensures) (p .sides-of2 .ensures) (tested t) (a .local .now) (c .before .nodes-in .ensures) (c .ranged-figures .ensures)
+
+no-figures-requires : tie.Need-no-figures-requires
+no-figures-requires c κs = search needs
+
+returns-2 : tie.Need-returns-2
+returns-2 c =
+    let e = c .before in
+    let a = e .before .before .args in
+    c .no-figures .ensures
+    ∙ over-none (a .settings) (a .nodes) (a .generation-zone) (a .tec) (a .paying) (a .paying-at-peak) (a .demand-zone) (a .demand) (a .wider .now) (a .peak-wider .now) (a .local .now)
+    (sym (e .before .settings-fit .ensures) ∙ e .if1 .left)
 
 pub figures-spec : {M : Type 1} → statement M
 figures-spec =
     tie.close
     (tie.spec
-    sums-by-zone-requires
-    sums-by-zone-requires-2
+    settings-fit-requires
+    sides-of-requires
+    at-peak-requires
+    at-peak-requires-2
+    at-peak-requires-3
+    sides-of-requires-2
     nodes-in-requires
     ranged-figures-requires
-    returns)
+    returns
+    no-figures-requires
+    returns-2)

@@ -7,6 +7,7 @@ use native.Mathlib.Omega.{arith}
 use lib.ListN.{length, take, replicate, length-replicate}
 use borrow.Author.Needs.{needs}
 use Rattle.meaning.specs.Sheet.{sheetText}
+use Rattle.text.specs.Room.{room}
 use Rattle.text.specs.SheetText.{shownIn, textOf, sized}
 use Rattle.lines.proofs.Making.{front}
 use Rattle.text.proofs.Sizing.{written, says-sized, text-sized, text-none, fitted-written, fitted-short, fitted-none}
@@ -27,8 +28,8 @@ is-text : (t : tie.Then1) → let a = start (t .before) .args in textOf (a .figu
 is-text t = let a = start (t .before) .args in text-sized (a .figures) (a .file .now) (a .rows) (is-sized t)
 
 -- there is room aside for any text
-wide : 22851 ≤ length (replicate {A = ℕ} 22851 0)
-wide = rw (length-replicate {A = ℕ} 22851 0) (omega arith)
+wide : room ≤ length (replicate {A = ℕ} room 0)
+wide = rw (length-replicate {A = ℕ} room 0) (omega arith)
 
 sized-requires : tie.Need-sized-requires
 sized-requires c κs = search needs

@@ -6,6 +6,12 @@ use borrow.Author.Needs.{needs}
 use Rattle.wirepulley.proofs.wirepulley_write.Statement.{statement}
 use Rattle.wirepulley.proofs.wirepulley_write.Tie as tie
 
+slice-aggregate-write : tie.Need-slice-aggregate-write
+slice-aggregate-write c = search needs
+
+slice-aggregate-write-2 : tie.Need-slice-aggregate-write-2
+slice-aggregate-write-2 c = search needs
+
 write-requires : tie.Need-write-requires
 write-requires c κs = search needs
 
@@ -22,4 +28,4 @@ returns c =
 
 pub wirepulley-write-spec : {M : Type 1} → statement M
 wirepulley-write-spec =
-    tie.close (tie.spec write-requires tell-requires same-length returns)
+    tie.close (tie.spec slice-aggregate-write slice-aggregate-write-2 write-requires tell-requires same-length returns)

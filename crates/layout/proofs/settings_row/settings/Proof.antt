@@ -1,4 +1,4 @@
-use Rattle.meaning.specs.File.{settingsAt}
+use Rattle.meaning.specs.File.{editionAt, settingsAt}
 use borrow.Author.Needs.{needs}
 use Rattle.layout.proofs.settings_row.settings.Statement.{statement}
 use Rattle.layout.proofs.settings_row.settings.Tie as tie
@@ -42,13 +42,17 @@ u32-at-requires-12 c κs = search needs
 u32-at-requires-13 : tie.Need-u32-at-requires-13
 u32-at-requires-13 c κs = search needs
 
+edition-requires : tie.Need-edition-requires
+edition-requires c κs = search needs
+
 u64-at-requires : tie.Need-u64-at-requires
 u64-at-requires c κs = search needs
 
 returns : tie.Need-returns
-unfolding settingsAt
+unfolding settingsAt editionAt
 returns c =
-    let q = c .before .before .before .before .before .before .before in
+    let l = c .before in
+    let q = l .before .before .before .before .before .before .before in
     rw (
       q .before .before .before .before .before .before .u32-at .ensures .value,
       q .before .before .before .before .before .u32-at2 .ensures .value,
@@ -57,12 +61,13 @@ returns c =
       q .before .before .u32-at5 .ensures .value,
       q .before .u32-at6 .ensures .value,
       q .u32-at7 .ensures .value,
-      c .before .before .before .before .before .before .u32-at8 .ensures .value,
-      c .before .before .before .before .before .u32-at9 .ensures .value,
-      c .before .before .before .before .u32-at10 .ensures .value,
-      c .before .before .before .u32-at11 .ensures .value,
-      c .before .before .u32-at12 .ensures .value,
-      c .before .u32-at13 .ensures .value,
+      l .before .before .before .before .before .before .u32-at8 .ensures .value,
+      l .before .before .before .before .before .u32-at9 .ensures .value,
+      l .before .before .before .before .u32-at10 .ensures .value,
+      l .before .before .before .u32-at11 .ensures .value,
+      l .before .before .u32-at12 .ensures .value,
+      l .before .u32-at13 .ensures .value,
+      l .edition .ensures,
       c .u64-at .ensures,
     )
 
@@ -83,5 +88,6 @@ settings-spec =
     u32-at-requires-11
     u32-at-requires-12
     u32-at-requires-13
+    edition-requires
     u64-at-requires
     returns)

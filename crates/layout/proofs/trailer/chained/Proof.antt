@@ -6,13 +6,16 @@ use Rattle.layout.proofs.trailer.chained.Statement.{statement}
 use Rattle.layout.proofs.trailer.chained.Tie as tie
 
 abbrev Inv-loop : tie.InvT-loop
-Inv-loop file version follow₀ start₀ section₀ follow start section = ChainedTo file section follow start
+Inv-loop file version sections follow₀ start₀ section₀ follow start section = ChainedTo file section follow start
 
 abbrev μ-loop : tie.MeasureT-loop
-μ-loop file version follow₀ start₀ section₀ follow start section = 7 - section
+μ-loop file version sections follow₀ start₀ section₀ follow start section = sections - section
 
 version-requires : tie.Need-version-requires Inv-loop μ-loop
 version-requires c κs = search needs
+
+sections-requires : tie.Need-sections-requires Inv-loop μ-loop
+sections-requires c κs = search needs
 
 loop-holds : tie.Need-loop-holds Inv-loop μ-loop
 loop-holds c = chained-none
@@ -32,7 +35,7 @@ mul-start c = omega (arith, size-low _ (c .before .before .before .before .loop 
 add-start : tie.Need-add-start Inv-loop μ-loop
 add-start c =
     let l = c .before .before .before .before in
-    omega (arith, l .loop .inv .within, l .loop .inv .low, size-low _ (l .loop .section) (c .before .record-size .ensures) (c .count .ensures .1))
+    omega (arith, l .loop .inv .low, size-low _ (l .loop .section) (c .before .record-size .ensures) (c .count .ensures .1))
 
 add-section : tie.Need-add-section Inv-loop μ-loop
 add-section c = search needs
@@ -43,13 +46,18 @@ loop-less c = search needs
 loop-again : tie.Need-loop-again Inv-loop μ-loop
 loop-again c =
     let l = c .before .before .before .before in
-    chained-on (l .loop .inv) (omega arith) (c .before .before .offset .ensures .0) (rw (l .before .version .ensures) at (c .before .record-size .ensures)) (c .count .ensures .0) (c .count .ensures .1)
+    chained-on (l .loop .inv) (omega (arith, l .before .sections .ensures .0)) (c .before .before .offset .ensures .0) (rw (l .before .before .version .ensures) at (c .before .record-size .ensures)) (c .count .ensures .0) (c .count .ensures .1)
+
+trailer-size-requires : tie.Need-trailer-size-requires Inv-loop μ-loop
+trailer-size-requires c κs = search needs
 
 add-result : tie.Need-add-result Inv-loop μ-loop
-add-result c = omega (arith, c .before .loop .inv .within, c .before .loop .inv .low)
+add-result c =
+    let l = c .before .before in
+    omega (arith, l .loop .inv .within, l .loop .inv .low, l .before .sections .ensures)
 
 returns : tie.Need-returns Inv-loop μ-loop
-returns c = chained-is (c .before .loop .inv) (omega arith)
+returns c = let l = c .before .before in chained-is (l .loop .inv) (omega (arith, l .before .sections .ensures .0)) (c .trailer-size .ensures .0)
 
 pub chained-spec : {M : Type 1} → statement M
 chained-spec =
@@ -58,6 +66,7 @@ chained-spec =
     Inv-loop
     μ-loop
     version-requires
+    sections-requires
     loop-holds
     offset-requires
     record-size-requires
@@ -67,5 +76,6 @@ chained-spec =
     add-section
     loop-less
     loop-again
+    trailer-size-requires
     add-result
     returns)

@@ -1,4 +1,4 @@
-use mathlib.Core.Path.{_∙_, ap}
+use mathlib.Core.Path.{_∙_, ap₂}
 use Rattle.meaning.specs.File.{mostCircuits}
 use Rattle.layout.proofs.FileLaws.{counted-is}
 use borrow.Author.Needs.{needs}
@@ -11,11 +11,11 @@ count-requires c κs = search needs
 count-requires-2 : tie.Need-count-requires-2
 count-requires-2 c κs = search needs
 
-add-numbers : tie.Need-add-numbers
-add-numbers c = search needs
-
 count-requires-3 : tie.Need-count-requires-3
 count-requires-3 c κs = search needs
+
+edition-requires : tie.Need-edition-requires
+edition-requires c κs = search needs
 
 version-requires : tie.Need-version-requires
 version-requires c κs = search needs
@@ -26,23 +26,20 @@ most-circuits-requires c κs = search needs
 count-requires-4 : tie.Need-count-requires-4
 count-requires-4 c κs = search needs
 
-count-requires-5 : tie.Need-count-requires-5
-count-requires-5 c κs = search needs
+add-solved : tie.Need-add-solved
+add-solved c = search needs
 
-count-requires-6 : tie.Need-count-requires-6
-count-requires-6 c κs = search needs
-
-count-requires-7 : tie.Need-count-requires-7
-count-requires-7 c κs = search needs
+solved-requires : tie.Need-solved-requires
+solved-requires c κs = search needs
 
 returns : tie.Need-returns
 returns c =
-    let stations = c .before .before .before in
-    let most = stations .before in
-    let one = most .before .before in
-    counted-is _ _ _ _ _ _ _ _ _ (one .count3 .ensures .0) (one .before .before .count .ensures .0) (one .before .count2 .ensures .0)
-    (most .most-circuits .ensures ∙ ap mostCircuits (most .before .version .ensures))
-    (stations .count4 .ensures .0) (c .before .before .count5 .ensures .0) (c .before .count6 .ensures .0) (c .count7 .ensures .0)
+    let s = c .before in
+    let m = s .before in
+    let o = m .before .before .before in
+    counted-is _ _ _ _ _ _ _ (o .count3 .ensures .0) (o .before .before .count .ensures .0) (o .before .count2 .ensures .0)
+    (m .most-circuits .ensures ∙ ap₂ mostCircuits (m .before .before .edition .ensures) (m .before .version .ensures))
+    (s .count4 .ensures .0) (c .solved .ensures)
 
 pub counted-spec : {M : Type 1} → statement M
 counted-spec =
@@ -50,12 +47,11 @@ counted-spec =
     (tie.spec
     count-requires
     count-requires-2
-    add-numbers
     count-requires-3
+    edition-requires
     version-requires
     most-circuits-requires
     count-requires-4
-    count-requires-5
-    count-requires-6
-    count-requires-7
+    add-solved
+    solved-requires
     returns)

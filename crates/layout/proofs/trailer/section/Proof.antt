@@ -1,12 +1,22 @@
+use mathlib.Core.Path.{_≡_}
+use mathlib.Core.List.{List}
+use Prim.Native.Nat.{ℕ, _≤_, _<_}
 use native.Mathlib.Omega.{arith}
+use Rattle.meaning.specs.File.{editionAt, sections, recordSize}
 use Rattle.meaning.proofs.Whole.{whole-file}
-use Rattle.layout.proofs.FileLaws.{record-small, section-told}
+use Rattle.layout.proofs.FileLaws.{sections-most, record-small, section-told}
 use borrow.Author.Needs.{needs}
 use Rattle.layout.proofs.trailer.section.Statement.{statement}
 use Rattle.layout.proofs.trailer.section.Tie as tie
 
+below : (file : List ℕ) (s : ℕ) → s < sections (editionAt file) → s < 9
+below file s h = omega (arith, sections-most (editionAt file))
+
+small : (v k : ℕ) {size : ℕ} → size ≡ recordSize v k → size ≤ 64
+small v k e = rw e (record-small v k)
+
 offset-requires : tie.Need-offset-requires
-offset-requires c κs = let p = c .before .pre in (omega (arith, whole-file _ (p .0) .long), p .1)
+offset-requires c κs = let p = c .before .pre in (omega (arith, whole-file _ (p .0) .long), below _ _ (p .1))
 
 cast-t4 : tie.Need-cast-t4
 cast-t4 c = search needs
@@ -15,13 +25,13 @@ version-requires : tie.Need-version-requires
 version-requires c κs = omega (arith, whole-file _ (c .before .before .pre .0) .long)
 
 record-size-requires : tie.Need-record-size-requires
-record-size-requires c κs = search needs
+record-size-requires c κs = let b = below _ _ (c .before .before .before .pre .1) in omega (arith, b)
 
 cast-t7 : tie.Need-cast-t7
-cast-t7 c = omega (arith, record-small (c .before .version .result) (c .before .before .before .before .args .number), c .record-size .ensures)
+cast-t7 c = omega (arith, small _ _ (c .record-size .ensures))
 
 count-requires : tie.Need-count-requires
-count-requires c κs = let p = c .before .before .before .before .pre in (omega (arith, whole-file _ (p .0) .long), p .1)
+count-requires c κs = let p = c .before .before .before .before .pre in (omega (arith, whole-file _ (p .0) .long), below _ _ (p .1))
 
 cast-t9 : tie.Need-cast-t9
 cast-t9 c = search needs

@@ -9,7 +9,7 @@ use Rattle.numbers.specs.Numbers.{rowOf}
 use Rattle.numbers.proofs.Found.{AllPass, row-past}
 use Rattle.meaning.specs.Rows.{failing, rows}
 use Rattle.meaning.specs.Proposal.{flow, Proposed}
-use Rattle.flows.specs.Flows.{netIn, netFlow, netFlows, missesLow}
+use Rattle.flows.specs.Flows.{netOf, netFlow, netFlows, missesLow}
 use Rattle.flows.proofs.Net.{net-flows-are}
 use Rattle.flows.proofs.Misses.{misses-are}
 use Rattle.proposal.specs.Case.{proposedIn}
@@ -19,10 +19,10 @@ use Rattle.proposal.proofs.kernel.judge_system.Tie as tie
 
 module _ (s : tie.Start) where
   abbrev net : Network
-  net = netIn (s .args .k) (s .args .run .now)
+  net = netOf (s .args .n) (s .args .reference) (s .args .first .now) (s .args .second .now) (s .args .x .now) (s .args .run .now)
 
   abbrev offered : Proposed
-  offered = proposedIn (s .args .system) (s .args .supply) (s .args .offset) (s .args .run .now)
+  offered = proposedIn (s .args .system) (s .args .supply) (s .args .offset .now) (s .args .run .now)
 
 -- ---- what 8, 9 and 10 answered, over the whole network
 module _ (c : tie.After-first-out-of-range) where
@@ -39,13 +39,13 @@ module _ (c : tie.Else1) where
   in-range : (failing (numbers (net s9) (offered s9)) (count (net s9)) ≡ none) × AllPass (numbers (net s9) (offered s9)) (count (net s9))
   in-range = row-past (numbers (net s9) (offered s9)) (count (net s9)) (omega (arith, number (c .before)))
 
-  nets : netFlows (s9 .args .k) (s9 .args .run .now) ≡ rows 256 (netFlow (net s9) (flow (net s9) (s9 .args .run .now)))
-  nets = net-flows-are (s9 .args .k) (s9 .args .run .now) (flows-small (net s9) (limitOf (s9 .args .system)) (s9 .args .run .now) (limit-small (s9 .args .system)) (in-range .1))
+  nets : netFlows (s9 .args .n) (s9 .args .first .now) (s9 .args .second .now) (s9 .args .run .now) ≡ rows 256 (netFlow (net s9) (flow (net s9) (s9 .args .run .now)))
+  nets = net-flows-are (s9 .args .n) (s9 .args .reference) (s9 .args .first .now) (s9 .args .second .now) (s9 .args .x .now) (s9 .args .run .now) (flows-small (net s9) (limitOf (s9 .args .system)) (s9 .args .run .now) (limit-small (s9 .args .system)) (in-range .1))
 
-  lows : missesLow (s9 .args .k) (s9 .args .offset) (s9 .args .run .now) ≡ low (net s9) (offered s9)
+  lows : missesLow (s9 .args .n) (s9 .args .first .now) (s9 .args .second .now) (s9 .args .x .now) (s9 .args .offset .now) (s9 .args .run .now) ≡ low (net s9) (offered s9)
   lows =
       let any = numbers-small (net s9) (limitOf (s9 .args .system)) (s9 .args .run .now) (limit-small (s9 .args .system)) (in-range .1) (s9 .pre .based .long) in
-      misses-are (s9 .args .k) (s9 .args .offset) (s9 .args .run .now) (λ c h. record {
+      misses-are (s9 .args .n) (s9 .args .reference) (s9 .args .first .now) (s9 .args .second .now) (s9 .args .x .now) (s9 .args .offset .now) (s9 .args .run .now) (λ c h. record {
         from = any _;
         to = any _;
         times = s9 .pre .xSmall c h;
@@ -57,10 +57,10 @@ module _ (c : tie.After-first-apart) where
   abbrev s : tie.Start
   s = s9 (c .before .before)
 
-  node : c .first-apart .result < s .args .k .nodes → failing (nodes (net s) (offered s)) (s .args .k .nodes) ≡ some (c .first-apart .result)
+  node : c .first-apart .result < s .args .n → failing (nodes (net s) (offered s)) (s .args .n) ≡ some (c .first-apart .result)
   node = node-found (net s) (offered s) _ _ (s .args .supply) (s .pre .based .nodes) refl (c .before .net-flows .ensures ∙ nets (c .before .before)) (c .first-apart .ensures)
 
-  even : s .args .k .nodes ≤ c .first-apart .result → failing (nodes (net s) (offered s)) (s .args .k .nodes) ≡ none
+  even : s .args .n ≤ c .first-apart .result → failing (nodes (net s) (offered s)) (s .args .n) ≡ none
   even = nodes-even (net s) (offered s) _ _ (s .args .supply) (s .pre .based .nodes) refl (c .before .net-flows .ensures ∙ nets (c .before .before)) (c .first-apart .ensures)
 
 abbrev s10 : tie.Else2 → tie.Start
@@ -72,8 +72,8 @@ limit-of-requires c κs = search needs
 first-out-of-range-requires : tie.Need-first-out-of-range-requires
 first-out-of-range-requires c κs = search needs
 
-add-t12 : tie.Need-add-t12
-add-t12 c = search needs
+add-t15 : tie.Need-add-t15
+add-t15 c = search needs
 
 returns : tie.Need-returns
 returns c = let s = s8 (c .before) in stops-number (net s) (offered s) _ (number (c .before)) (omega arith)
@@ -84,8 +84,8 @@ net-flows-requires c κs = tt
 first-apart-requires : tie.Need-first-apart-requires
 first-apart-requires c κs = search needs
 
-add-t15 : tie.Need-add-t15
-add-t15 c = search needs
+add-t18 : tie.Need-add-t18
+add-t18 c = search needs
 
 returns-2 : tie.Need-returns-2
 returns-2 c =
@@ -111,11 +111,11 @@ judge-system-spec =
     (tie.spec
     limit-of-requires
     first-out-of-range-requires
-    add-t12
+    add-t15
     returns
     net-flows-requires
     first-apart-requires
-    add-t15
+    add-t18
     returns-2
     misses-low-requires
     returns-3

@@ -1,39 +1,51 @@
--- `proposal::order::proposals` meets its contract: each stage is judged where those before it pass, and that is 01's order.
-use mathlib.Core.Path.{_≡_, _∙_}
-use Rattle.meaning.specs.declared.Background.the-variants.{YearRound}
-use Rattle.meaning.specs.declared.Judgement.{Judgement}
-use Rattle.meaning.specs.declared.Judgement.the-variants.{Passes}
-use Rattle.meaning.specs.declared.System.{System}
-use Rattle.meaning.specs.declared.System.the-variants.{Base, Wider, Local}
-use Rattle.meaning.specs.Answers.{_orElse_}
-use Rattle.meaning.specs.Systems.{inOrder, ordered}
-use Rattle.meaning.proofs.Answers.{orElse-assoc, orElse-none}
+-- `proposal::order::proposals` meets its contract: what follows systems 1 and 4 is judged where they pass, and that is 02's order. A base system has the offset 0 whatever the headings.
+use mathlib.Core.Path.{_∙_}
+use Rattle.meaning.specs.declared.Background.the-variants.{YearRound, Peak}
+use Rattle.meaning.specs.declared.System.the-variants.{Base}
+use Rattle.meaning.proofs.Answers.{stops-first, passes-first}
+use Rattle.flows.specs.Flows.{offsetIn}
+use Rattle.proposal.proofs.Told.{in-two-parts, of-peak, flows-first}
+use borrow.Author.Needs.{needs}
 use Rattle.proposal.proofs.order.proposals.Statement.{statement}
 use Rattle.proposal.proofs.order.proposals.Tie as tie
 
-one-by-one : (solution : System → Judgement) (directions : Judgement)
-    → (((Passes orElse solution (Base YearRound)) orElse directions) orElse solution (Wider YearRound)) orElse solution Local ≡ ordered solution directions
-unfolding ordered inOrder _orElse_
-one-by-one solution directions = simp (orElse-assoc, orElse-none)
+of-flows-requires : tie.Need-of-flows-requires
+of-flows-requires c κs = c .pre (Base YearRound) tt
 
-solution-requires : tie.Need-solution-requires
-solution-requires c κs = c .pre (Base YearRound)
+of-peak-flows-requires : tie.Need-of-peak-flows-requires
+of-peak-flows-requires c κs = λ e. c .before .pre (Base Peak) (of-peak e)
 
-doubt-requires : tie.Need-doubt-requires
-doubt-requires c κs = c .before .pre (Base YearRound) .based
+enum-known-of-peak-base : tie.Need-enum-known-of-peak-base
+enum-known-of-peak-base c = search needs
 
-solution-requires-2 : tie.Need-solution-requires-2
-solution-requires-2 c κs = c .before .before .pre (Wider YearRound)
+enum-told : tie.Need-enum-told
+enum-told c = search needs
 
-solution-requires-3 : tie.Need-solution-requires-3
-solution-requires-3 c κs = c .before .before .before .pre Local
+after-flows-requires : tie.Need-after-flows-requires
+after-flows-requires c κs = search needs
 
 returns : tie.Need-returns
+unfolding offsetIn
 returns c =
-    let w = c .before in
-    let d = w .before in
-    let b = d .before in
-    c .solution3 .ensures ∙ rw (w .solution2 .ensures, d .doubt .ensures, b .solution .ensures) (one-by-one _ _)
+    let s = c .before in
+    let f = s .before .before in
+    stops-first _ (f .of-peak-flows .ensures ∙ flows-first _ _ _ (f .before .of-flows .ensures)) (s .of-peak-base .given .1) ∙ in-two-parts _ _ _ _
+
+returns-2 : tie.Need-returns-2
+unfolding offsetIn
+returns-2 c =
+    let t = c .before in
+    let f = t .before .before in
+    passes-first _ (f .of-peak-flows .ensures ∙ flows-first _ _ _ (f .before .of-flows .ensures)) (t .enum-told .given .1) (c .after-flows .ensures) ∙ in-two-parts _ _ _ _
 
 pub proposals-spec : {M : Type 1} → statement M
-proposals-spec = tie.close (tie.spec solution-requires doubt-requires solution-requires-2 solution-requires-3 returns)
+proposals-spec =
+    tie.close
+    (tie.spec
+    of-flows-requires
+    of-peak-flows-requires
+    enum-known-of-peak-base
+    enum-told
+    after-flows-requires
+    returns
+    returns-2)

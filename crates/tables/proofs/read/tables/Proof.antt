@@ -69,7 +69,8 @@ returns c =
         settings = p .settings .ensures;
         nodes = rw (m .columns .ensures, m .before .shown2 .ensures, after-nodes (m .before .before)) refl;
         circuits = rw (n .judge2 .ensures .1, m .before .shown2 .ensures, after-nodes (m .before .before)) refl;
-        tec = rw (j .judge3 .ensures .2, s .shown3 .ensures, after-circuits d) refl;
+        byType = rw (j .judge3 .ensures .1, s .shown3 .ensures, after-circuits d) refl;
+        possible = j .judge3 .ensures .2;
       };
     }
 

@@ -1,45 +1,41 @@
--- The invariant: a column of the nodes passed, and the sum of what they bring in.
+-- The invariant: a column of the nodes passed, and the rest without what they bring in.
 use mathlib.Core.Path.{_≡_, refl, sym, _∙_, ap}
 use mathlib.Core.List.{List}
-use Prim.Native.Nat.{ℕ, _+_, _≤_, _-_}
+use Prim.Native.Nat.{ℕ, _≤_, _-_}
 use native.Mathlib.Omega.{arith}
-use lib.IntN.{ℤ, pos, _+ℤ_, _*ℤ_}
+use lib.IntN.{ℤ}
 use lib.ListN.{replicate}
-use mir.Facts.{toZ-ofZ}
-use mir.Syntax.{w64}
-use mir.Val.{SFits, toZ, ofZ}
-use Rattle.integers.specs.Numbers.{Σ}
-use Rattle.integers.proofs.Laws.{sfits-abs}
 use Rattle.integers.proofs.Machine.{back}
-use Rattle.integers.proofs.Sum.{Σ-zero, Σ-more}
 use Rattle.meaning.specs.declared.Kw.{Kw}
 use Rattle.meaning.specs.declared.LocalFigures.{LocalFigures}
 use Rattle.meaning.specs.Columns.{kwAt, column, noLocal}
+use Rattle.meaning.specs.Charging.{tariff}
 use Rattle.meaning.specs.Proposal.{potential}
 use Rattle.meaning.proofs.Columns.{column-none, column-turn}
-use Rattle.tariffs.specs.Case.{nodeFrom, localOf}
-use Rattle.tariffs.proofs.Laws.{node-most, node-light, local-to}
+use Rattle.rests.specs.Rests.{lessTo}
+use Rattle.rests.proofs.Laws.{less-none, less-turn}
+use Rattle.tariffs.specs.Case.{localFrom, nodeFrom, localOf}
 use Rattle.tariffs.proofs.nodes.local_figures.Statement.{statement}
 use Rattle.tariffs.proofs.nodes.local_figures.Tie as tie
 
 abbrev line : (tec : List Kw) (local : List ℤ) (constant factor : ℕ) → ℕ → LocalFigures
 line tec local constant factor v = nodeFrom (kwAt tec v) (potential local v) constant factor
 
-abbrev brought : (tec paying : List Kw) (local : List ℤ) (constant factor : ℕ) → ℕ → ℤ
-brought tec paying local constant factor v = line tec local constant factor v .tariff .0 *ℤ pos (kwAt paying v)
+abbrev charge : (local : List ℤ) (constant factor : ℕ) → ℕ → ℤ
+charge local constant factor v = tariff (localFrom (potential local v)) constant factor
 
 abbrev Inv-loop : tie.InvT-loop
-Inv-loop nodes local constant factor tec paying lines₀ income₀ v₀ lines income v =
-    (v ≤ nodes) × (lines ≡ column noLocal 256 v (line tec local constant factor)) × (toZ w64 income ≡ Σ v (brought tec paying local constant factor))
+Inv-loop nodes local constant factor payers tec paying lines₀ left₀ v₀ lines left v =
+    (v ≤ nodes) × (lines ≡ column noLocal 256 v (line tec local constant factor)) × (left ≡ lessTo left₀ (payers .0) (charge local constant factor) (kwAt paying) v)
 
 abbrev μ-loop : tie.MeasureT-loop
-μ-loop nodes local constant factor tec paying lines₀ income₀ v₀ lines income v = nodes - v
+μ-loop nodes local constant factor payers tec paying lines₀ left₀ v₀ lines left v = nodes - v
 
 no-local-requires : tie.Need-no-local-requires Inv-loop μ-loop
 no-local-requires c κs = tt
 
 loop-holds : tie.Need-loop-holds Inv-loop μ-loop
-loop-holds c = (omega arith, ap (replicate 256) (c .no-local .ensures) ∙ sym (column-none _ _ _), sym (Σ-zero _))
+loop-holds c = (omega arith, ap (replicate 256) (c .no-local .ensures) ∙ sym (column-none _ _ _), sym (less-none _ _ _ _))
 
 mul-node-line : tie.Need-mul-node-line Inv-loop μ-loop
 mul-node-line c = omega (arith, c .before .before .before .pre .few)
@@ -70,35 +66,21 @@ module _ (c : tie.After-node-line Inv-loop μ-loop) where
   abbrev lines : ℕ → LocalFigures
   lines = line (S .args .t2) (S .args .local .now) (S .args .constant) (S .args .factor)
 
-  abbrev term : ℕ → ℤ
-  term = brought (S .args .t2) (S .args .t3) (S .args .local .now) (S .args .constant) (S .args .factor)
-
   made : c .node-line .result ≡ lines I
   made = simp (back (potential (S .args .local .now) I) (c .before .node-line-arg2 .given)) at (c .node-line .ensures)
 
-  so-far : toZ w64 (L .loop .income) ≡ Σ I term
-  so-far = L .loop .inv .2
+  priced : c .node-line .result .tariff .0 ≡ charge (S .args .local .now) (S .args .constant) (S .args .factor) I
+  unfolding nodeFrom
+  priced = ap (λ (l : LocalFigures). l .tariff .0) made
 
-  both : SFits w64 (Σ I term +ℤ term I)
-  both = rw (Σ-more I term) at (sfits-abs (Σ (I + 1) term) (omega (arith, local-to (S .pre) (S .args .t2) (I + 1) (omega arith))))
+mul-less : tie.Need-mul-less Inv-loop μ-loop
+mul-less c = omega (arith, S c .pre .few)
 
-mul-worth : tie.Need-mul-worth Inv-loop μ-loop
-mul-worth c = omega (arith, S c .pre .few)
+array-copy-out-less : tie.Need-array-copy-out-less Inv-loop μ-loop
+array-copy-out-less c = omega (arith, S c .pre .few)
 
-array-copy-out-worth : tie.Need-array-copy-out-worth Inv-loop μ-loop
-array-copy-out-worth c = omega (arith, S c .pre .few)
-
-worth-requires : tie.Need-worth-requires Inv-loop μ-loop
-worth-requires c κs =
-    let l = c .before in
-    (rw (made l) (node-most (S l .pre) (kwAt (S l .args .t2) (I l)) (potential (S l .args .local .now) (I l))), node-light (S l .pre) (I l) (omega arith))
-
--- and what it brings in
-this : (c : tie.After-worth Inv-loop μ-loop) → (let l = c .before .before in toZ w64 (ofZ w64 (c .worth .result)) ≡ term l (I l))
-this c = back _ (c .worth .ok) ∙ rw (made (c .before .before)) at (c .worth .ensures)
-
-add-income : tie.Need-add-income Inv-loop μ-loop
-add-income c = let l = c .before .before in simp (so-far, this) (both l)
+less-requires : tie.Need-less-requires Inv-loop μ-loop
+less-requires c κs = tt
 
 mul-lines : tie.Need-mul-lines Inv-loop μ-loop
 mul-lines c = omega (arith, S (c .before .before) .pre .few)
@@ -117,7 +99,7 @@ loop-again c =
     let l = c .before .before in (
       omega arith,
       column-turn noLocal 256 _ (I l) (omega (arith, S l .pre .few)) (L l .loop .inv .1) (made l),
-      toZ-ofZ (add-income c) ∙ simp (so-far, this) (sym (Σ-more _ _)),
+      less-turn _ _ _ _ (I l) (L l .loop .inv .2) (priced l) (c .less .ensures),
     )
 
 returns : tie.Need-returns Inv-loop μ-loop
@@ -140,10 +122,9 @@ local-figures-spec =
     mul-node-line-2
     shared-slice-copy-out-node-line
     node-line-requires
-    mul-worth
-    array-copy-out-worth
-    worth-requires
-    add-income
+    mul-less
+    array-copy-out-less
+    less-requires
     mul-lines
     array-set-from-lines
     add-v
