@@ -2,7 +2,7 @@
 //! distances of both. Nothing is proved here: the promise is that of docs/only-directions.md.
 
 use crate::charges::nodal_metres;
-use crate::file::{whole_case, Case, CircuitRow, Name};
+use crate::file::{whole_case, Case, CircuitRow, Edition, Name};
 use crate::judge::judge_case;
 use crate::quantities::Metres;
 use crate::refusal::Refusal;
@@ -55,12 +55,12 @@ pub fn beside(first: &Case, second: &Case) -> Beside {
 impl Side {
     /// A case of a whole file. Where it is refused, directions and distances are still those it proposes.
     pub fn of(case: &Case) -> Side {
-        let [base, wider, local] = &case.runs;
+        let [base, wider, local, ..] = &case.runs;
         let nodes = case.nodes.len();
         let metres = |run: &[i64]| run.iter().take(nodes).map(|potential| nodal_metres(*potential)).collect();
         let flows = base.iter().skip(nodes);
         Side {
-            refusal: judge_case(&case.bytes(), [base, wider, local]).err(),
+            refusal: judge_case(&case.bytes(), case.lent()).err(),
             circuits: case.circuits.clone(),
             names: case.nodes.iter().map(|row| row.name).collect(),
             factors: case.settings.factors,
@@ -116,8 +116,17 @@ impl Beside {
     }
 }
 
-/// A case from the bytes of a whole file, or of a text that describes one.
+/// A case of edition 1 from the bytes of a whole file, or of a text that describes one. 02, CR 12: "Prove over edition 1".
 pub fn read(input: &[u8]) -> Result<Case, String> {
+    let case = read_any(input)?;
+    match case.edition {
+        Edition::One => Ok(case),
+        Edition::Two => Err("a case of edition 2: request 12 speaks of edition 1 alone".to_string()),
+    }
+}
+
+/// A case of any edition.
+fn read_any(input: &[u8]) -> Result<Case, String> {
     if let Some(case) = whole_case(input) {
         return Ok(case);
     }

@@ -1,14 +1,18 @@
 //! 01 steps 1 and 6 to 10: kilowatts, metres and money. 02, CR 1: "Type 3 TEC stays in scaling and zonal weights, and
-//! leaves both generation terms of C, wider and local income, and the residual's divisor".
+//! leaves both generation terms of C, wider and local income, and the residual's divisor". 02, CR 5: the same for each
+//! background of the edition.
 
-use crate::file::Name;
+use crate::background::{Background, Running, LOCAL_SYSTEM};
+use crate::file::{Name, RUNS};
 use crate::quantities::{nearest, rounded_down, Kw, Metres, MicroPerKw};
-use crate::tables::{Node, Station, Tables};
+use crate::refusal::Refusal;
+use crate::tables::{Node, Plant, Station, Tables, PLANTS};
 
 /// 01 "The sheet": everything it prints.
 #[derive(Clone, Debug, PartialEq, Eq)]
 pub struct Sheet {
-    pub c: Metres,
+    /// 02, CR 5: of each background as they are printed.
+    pub c: Vec<Metres>,
     pub generation: Side,
     pub demand: Side,
     pub local: Vec<LocalLine>,
@@ -23,14 +27,22 @@ pub struct Side {
     pub remainder: i128,
 }
 
-/// 01 "The sheet": "zone, zonal metres, metres after C, tariff, residual, total".
+/// 01 "The sheet": "zone, zonal metres, metres after C, tariff, residual, total". 02, CR 5: "peak's metres, metres after C
+/// and tariff before year round's, and a total adds both and the residual".
 #[derive(Clone, Debug, PartialEq, Eq)]
 pub struct ZoneLine {
+    /// Of each background as they are printed.
+    pub figures: Vec<ZoneFigures>,
+    pub residual: MicroPerKw,
+    pub total: MicroPerKw,
+}
+
+/// 01 "The sheet": a zone's figures in one background.
+#[derive(Clone, Copy, Debug, PartialEq, Eq)]
+pub struct ZoneFigures {
     pub metres: Metres,
     pub after_c: Metres,
     pub tariff: MicroPerKw,
-    pub residual: MicroPerKw,
-    pub total: MicroPerKw,
 }
 
 /// 01 "The sheet": "`L`, node name without padding, local metres, local tariff".
@@ -48,7 +60,7 @@ pub struct ZoneRow {
     pub metres: Metres,
     /// The kilowatts that its metres are weighed with.
     pub weight: Kw,
-    /// The kilowatts that are charged: generation without type 3, all of demand.
+    /// The kilowatts that are charged: generation without type 3 (at peak without type 1 too), all of demand.
     pub chargeable: Kw,
 }
 
@@ -68,6 +80,21 @@ pub fn node_tec(tables: &Tables) -> Vec<Kw> {
 /// 02, CR 1: of each node the TEC that is charged, the sum over its stations of other types than 3.
 pub fn node_chargeable(tables: &Tables) -> Vec<Kw> {
     node_sums(tables, Station::chargeable)
+}
+
+/// 02, CR 1 and CR 5: of each node the TEC that a background's tariff is charged on.
+pub fn node_charged(tables: &Tables, background: Background) -> Vec<Kw> {
+    node_tec_of(tables, |plant| background.charges(plant))
+}
+
+/// Of each node the TEC of some plant types.
+fn node_tec_of(tables: &Tables, counts: impl Fn(Plant) -> bool) -> Vec<Kw> {
+    node_sums(tables, |station| if counts(station.plant) { station.tec } else { Kw(0) })
+}
+
+/// The sum of some nodes' kilowatts.
+pub fn total(kilowatts: &[Kw]) -> Kw {
+    Kw(kilowatts.iter().map(|kw| kw.0).sum())
 }
 
 /// 01 step 1: of each node "the sum over its stations" of some of their kilowatts.
@@ -94,10 +121,60 @@ pub fn scaled_generation(node_tec: &[Kw], total_demand: Kw, total_tec: Kw) -> Ve
     scaled
 }
 
+/// 02, CR 5: of each node what its fixed types run at: "their percentage of TEC per node and type, rounded down".
+pub fn fixed_generation(tables: &Tables, background: Background) -> Vec<Kw> {
+    let mut fixed = vec![Kw(0); tables.nodes.len()];
+    for of_type in PLANTS {
+        if let Running::Fixed(percent) = background.running(of_type) {
+            for (kw, tec) in fixed.iter_mut().zip(node_tec_of(tables, |plant| plant == of_type)) {
+                kw.0 += rounded_down(percent * tec.0, 100);
+            }
+        }
+    }
+    fixed
+}
+
+/// 02, CR 5: of each node the TEC of its variable types together.
+pub fn variable_tec(tables: &Tables, background: Background) -> Vec<Kw> {
+    node_tec_of(tables, |plant| background.running(plant) == Running::Variable)
+}
+
+/// 02, CR 5: "the remaining demand", which variable types share; below zero where the fixed ones run above demand.
+pub fn remaining_demand(tables: &Tables, background: Background) -> Kw {
+    Kw(tables.total_demand.0 - total(&fixed_generation(tables, background)).0)
+}
+
+/// 02, CR 5: "14, system 0 row 0, fixed generation above demand or variable generation too small in a background, after
+/// 13". In edition 1 nothing is fixed and 7 has it that all TEC is enough.
+pub fn judge_generation(tables: &Tables) -> Result<(), Refusal> {
+    let enough = |background: &Background| {
+        let remaining = remaining_demand(tables, *background).0;
+        0 <= remaining && remaining <= total(&variable_tec(tables, *background)).0
+    };
+    match tables.edition.backgrounds().iter().all(enough) {
+        true => Ok(()),
+        false => Err(Refusal { number: 14, system: 0, row: 0 }),
+    }
+}
+
+/// 01 step 1, 02 CR 5: of each node the generation of a background: what is fixed, and its share of the remaining demand
+/// "by 01's rule for scaled generation and missing kilowatts, or .. 0 where none remains". 14 went before.
+pub fn generation(tables: &Tables, background: Background) -> Vec<Kw> {
+    let mut generation = fixed_generation(tables, background);
+    let remaining = remaining_demand(tables, background);
+    if remaining.0 > 0 {
+        let tec = variable_tec(tables, background);
+        for (kw, variable) in generation.iter_mut().zip(scaled_generation(&tec, remaining, total(&tec))) {
+            kw.0 += variable.0;
+        }
+    }
+    generation
+}
+
 /// 01 step 1: "Net is scaled generation less demand".
-pub fn net(tables: &Tables) -> Vec<Kw> {
-    let scaled = scaled_generation(&node_tec(tables), tables.total_demand, tables.total_tec);
-    scaled.iter().zip(&tables.nodes).map(|(scaled, node)| Kw(scaled.0 - node.demand.0)).collect()
+pub fn net(tables: &Tables, background: Background) -> Vec<Kw> {
+    let generation = generation(tables, background);
+    generation.iter().zip(&tables.nodes).map(|(scaled, node)| Kw(scaled.0 - node.demand.0)).collect()
 }
 
 /// 01 step 6: "Nodal marginal metres are the nearest of potential / 1,000,000,000".
@@ -132,18 +209,19 @@ fn over_chargeable(zones: &[Zone], figure: impl Fn(Metres) -> i128) -> i128 {
 
 /// 01 step 8: "C is the nearest of ((1000-p) x sum of demand zone metres times kW, less p x sum of generation zone
 /// metres times kW) / (p x total TEC + (1000-p) x total demand)". 02, CR 1: type 3 TEC "leaves both generation terms of
-/// C", the sum and the total.
-pub fn c(tables: &Tables, generation: &[Zone], demand: &[Zone]) -> Metres {
-    let (number, divisor) = c_division(tables, generation, demand);
+/// C", the sum and the total. 02, CR 5: at peak type 1 too. The divisor is above zero: 13 and 14 went before.
+pub fn c(tables: &Tables, background: Background, generation: &[Zone], demand: &[Zone]) -> Metres {
+    let (number, divisor) = c_division(tables, background, generation, demand);
     Metres(nearest(number, divisor))
 }
 
 /// 01 step 8: the number and the divisor that C is the nearest of.
-pub fn c_division(tables: &Tables, generation: &[Zone], demand: &[Zone]) -> (i128, i128) {
+pub fn c_division(tables: &Tables, background: Background, generation: &[Zone], demand: &[Zone]) -> (i128, i128) {
     let p = tables.settings.p as i128;
     let metre_kilowatts = |zones| over_chargeable(zones, |metres| metres.0);
     let number = (1000 - p) * metre_kilowatts(demand) - p * metre_kilowatts(generation);
-    let divisor = p * tables.total_chargeable.0 + (1000 - p) * tables.total_demand.0;
+    let charged = total(&node_charged(tables, background));
+    let divisor = p * charged.0 + (1000 - p) * tables.total_demand.0;
     (number, divisor)
 }
 
@@ -159,27 +237,55 @@ pub fn residual(rest: i128, total: Kw) -> (MicroPerKw, i128) {
     (MicroPerKw(residual), rest - residual * total.0)
 }
 
-/// 01 steps 6 to 10: the sheet from sound tables and the wider and local potentials of the nodes.
-pub fn sheet(tables: &Tables, wider: &[i64], local: &[i64]) -> Sheet {
+/// 01 steps 7 and 8: the zones of one side in one background.
+struct Column {
+    zones: Vec<Zone>,
+    /// C for generation ("add C") and its negative for demand ("subtract it").
+    shift: i128,
+}
+
+impl Column {
+    /// 01 step 8: metres after C.
+    fn after_c(&self, metres: Metres) -> Metres {
+        Metres(metres.0 + self.shift)
+    }
+
+    /// 01 step 9: a zone's tariff.
+    fn tariff(&self, tables: &Tables, metres: Metres) -> MicroPerKw {
+        tariff(self.after_c(metres), tables.settings.constant, tables.settings.wider_factor)
+    }
+}
+
+/// 01 steps 6 to 10: the sheet from sound tables and the potentials at the head of each run. 02, CR 5: a column for each
+/// background, as they are printed.
+pub fn sheet(tables: &Tables, runs: [&[i64]; RUNS]) -> Sheet {
     let settings = &tables.settings;
-    let generation = zones(settings.generation_zones, &generation_rows(tables, wider));
-    let demand = zones(settings.demand_zones, &demand_rows(tables, wider));
-    let c = c(tables, &generation, &demand);
-    let local = local_charges(tables, local);
     let p = settings.p as i128;
-    let target = |share: i128| settings.revenue as i128 * share * 1000;
-    let generation_target = target(1000 - p) - local.income;
+    let potentials = |system: u32| &runs[system as usize - 1][..tables.nodes.len()];
+    let (mut c, mut generation, mut demand) = (Vec::new(), Vec::new(), Vec::new());
+    for background in tables.edition.printed() {
+        let wider = potentials(background.wider_system());
+        let supplied = zones(settings.generation_zones, &generation_rows(tables, *background, wider));
+        let asked = zones(settings.demand_zones, &demand_rows(tables, wider));
+        let metres = self::c(tables, *background, &supplied, &asked);
+        c.push(metres);
+        generation.push(Column { zones: supplied, shift: metres.0 });
+        demand.push(Column { zones: asked, shift: -metres.0 });
+    }
+    let local = local_charges(tables, potentials(LOCAL_SYSTEM));
+    let target = |share: i128| settings.revenue as i128 * share * 1_000;
     Sheet {
         c,
-        generation: side(tables, &generation, c.0, generation_target, tables.total_chargeable),
-        demand: side(tables, &demand, -c.0, target(p), tables.total_demand),
+        generation: side(tables, &generation, target(1000 - p) - local.income, tables.total_chargeable),
+        demand: side(tables, &demand, target(p), tables.total_demand),
         local: local.lines,
     }
 }
 
-/// 01 step 7: "generation weighted by TEC". 02, CR 1: by all of it, and charged without type 3.
-pub fn generation_rows(tables: &Tables, wider: &[i64]) -> Vec<ZoneRow> {
-    let kilowatts = node_tec(tables).into_iter().zip(node_chargeable(tables));
+/// 01 step 7: "generation weighted by TEC". 02, CR 1: by all of it, and charged without type 3. 02, CR 5: in both
+/// backgrounds, and at peak charged without type 1 too.
+pub fn generation_rows(tables: &Tables, background: Background, wider: &[i64]) -> Vec<ZoneRow> {
+    let kilowatts = node_tec(tables).into_iter().zip(node_charged(tables, background));
     let nodes = tables.nodes.iter().zip(kilowatts).zip(wider);
     let row = |((node, (weight, chargeable)), potential): ((&Node, (Kw, Kw)), &i64)| ZoneRow {
         zone: node.generation_zone,
@@ -226,18 +332,24 @@ fn local_charges(tables: &Tables, local: &[i64]) -> LocalCharges {
     charges
 }
 
-/// 01 steps 8 to 10 for one side: metres after C, tariffs, income, residual, totals. `shift` is C for generation
-/// ("add C") and its negative for demand ("subtract it"); `target` has local income already taken off; `total` is what
-/// the residual is spread over. 02, CR 1: zones "with only type 3 TEC print as before", and add nothing to the income.
-fn side(tables: &Tables, zones: &[Zone], shift: i128, target: i128, total: Kw) -> Side {
-    let settings = &tables.settings;
-    let after_c = |metres: Metres| Metres(metres.0 + shift);
-    let zone_tariff = |metres: Metres| tariff(after_c(metres), settings.constant, settings.wider_factor);
-    let income = over_chargeable(zones, |metres| zone_tariff(metres).0);
+/// 01 steps 8 to 10 for one side: metres after C, tariffs, income, residual, totals. `target` has local income already
+/// taken off; `total` is what the residual is spread over. 02, CR 1: zones "with only type 3 TEC print as before", and add
+/// nothing to the income. 02, CR 5: "a total adds both and the residual".
+fn side(tables: &Tables, columns: &[Column], target: i128, total: Kw) -> Side {
+    let income: i128 =
+        columns.iter().map(|column| over_chargeable(&column.zones, |metres| column.tariff(tables, metres).0)).sum();
     let (residual, remainder) = residual(target - income, total);
-    let line = |metres: Metres| {
-        let tariff = zone_tariff(metres);
-        ZoneLine { metres, after_c: after_c(metres), tariff, residual, total: MicroPerKw(tariff.0 + residual.0) }
+    let figures = |column: &Column, place: usize| {
+        column.zones[place].metres.map(|metres| ZoneFigures {
+            metres,
+            after_c: column.after_c(metres),
+            tariff: column.tariff(tables, metres),
+        })
     };
-    Side { zones: zones.iter().map(|zone| zone.metres.map(line)).collect(), remainder }
+    let line = |place: usize| {
+        let figures = columns.iter().map(|column| figures(column, place)).collect::<Option<Vec<ZoneFigures>>>()?;
+        let total = MicroPerKw(figures.iter().map(|figures| figures.tariff.0).sum::<i128>() + residual.0);
+        Some(ZoneLine { figures, residual, total })
+    };
+    Side { zones: (0..columns[0].zones.len()).map(line).collect(), remainder }
 }

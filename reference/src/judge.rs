@@ -1,11 +1,11 @@
 //! 01 "What stops a case", order: the whole judgement, as a library entry and as the program prints it. 02, CR 1 puts 13
-//! between 7 and 8.
+//! between 7 and 8, CR 5 puts 14 behind it and 15 before 11.
 
-use crate::charges::{sheet, Sheet};
-use crate::file::{whole_case, Case};
+use crate::charges::{judge_generation, sheet, Sheet};
+use crate::file::{whole_case, Case, RUNS};
 use crate::refusal::Refusal;
 use crate::sheet::print;
-use crate::solutions::{base_system, judge_directions, judge_system, local_system, wider_system};
+use crate::solutions::{base_systems, judge_directions, judge_system, length_systems, System};
 use crate::tables::{judge_chargeable, sound_tables, Tables};
 
 /// 01 "What stops a case": what an entry with a lent buffer answers.
@@ -22,38 +22,46 @@ pub const NOT_WHOLE: Refusal = Refusal { number: 1, system: 0, row: 0 };
 /// 01 "What stops a case", 12.
 pub const BUFFER_TOO_SHORT: Refusal = Refusal { number: 12, system: 0, row: 0 };
 
-/// 01, the library: judges the file's tables and the lent runs (base, wider, local), "and judges the runs": the
-/// solutions inside the file are counted and not looked at. The sheet's bytes, or the refusal among 1 to 11 and 13.
-pub fn judge_case(file: &[u8], runs: [&[i64]; 3]) -> Result<Vec<u8>, Refusal> {
+/// 01, the library: judges the file's tables and the lent runs (base, wider, local; 02, CR 5: then peak base and peak
+/// wider), "and judges the runs": the solutions inside the file are counted and not looked at. Runs that aren't lent are
+/// empty. The sheet's bytes, or the refusal among 1 to 11 and 13 to 15.
+pub fn judge_case<const N: usize>(file: &[u8], runs: [&[i64]; N]) -> Result<Vec<u8>, Refusal> {
     let case = whole_case(file).ok_or(NOT_WHOLE)?;
-    if runs.iter().any(|run| !run_fits(&case, run)) {
+    let runs = five_runs(runs);
+    if !runs_fit(&case, runs) {
         return Err(NOT_WHOLE);
     }
     let tables = sound_tables(&case)?;
     judge_chargeable(&tables)?;
+    judge_generation(&tables)?;
     Ok(print(&judge_runs(&tables, runs)?))
 }
 
-/// 01 "The case file": "A run of another length is refused as 1".
-fn run_fits(case: &Case, run: &[i64]) -> bool {
-    run.len() == case.nodes.len() + case.circuits.len()
+/// 02, CR 5: the lent runs, those that aren't lent empty.
+fn five_runs<const N: usize>(lent: [&[i64]; N]) -> [&[i64]; RUNS] {
+    assert!(N <= RUNS, "at most five runs are lent");
+    std::array::from_fn(|place| lent.get(place).copied().unwrap_or_default())
 }
 
-/// 01 "What stops a case", order: "8, 9, 10 for system 1 (base); 11; 8, 9, 10 for system 2 (wider), then 3 (local)".
-/// The tables have chargeable TEC: 13 went before.
-pub fn judge_runs(tables: &Tables, runs: [&[i64]; 3]) -> Result<Sheet, Refusal> {
-    let [base, wider, local] = runs;
-    let nodes = tables.nodes.len();
-    judge_system(tables, &base_system(tables), base)?;
-    let signed_lengths = judge_directions(tables, &base[nodes..])?;
-    judge_system(tables, &wider_system(tables, &signed_lengths), wider)?;
-    judge_system(tables, &local_system(tables, &signed_lengths), local)?;
-    Ok(sheet(tables, &wider[..nodes], &local[..nodes]))
+/// 01 "The case file": "A run of another length is refused as 1". 02, CR 5: the peak runs of a case of edition 1 are empty.
+fn runs_fit(case: &Case, runs: [&[i64]; RUNS]) -> bool {
+    let length = |place: usize| if place < case.edition.runs() { case.rows() } else { 0 };
+    runs.iter().enumerate().all(|(place, run)| run.len() == length(place))
+}
+
+/// 01 "What stops a case", order: "8, 9, 10 for system 1 (base); 11; 8, 9, 10 for system 2 (wider), then 3 (local)". 02,
+/// CR 5: "8 to 10 for systems 1 and 4; 15 ..; 11 ..; 8 to 10 for 2, 5 and 3". 13 and 14 went before.
+pub fn judge_runs(tables: &Tables, runs: [&[i64]; RUNS]) -> Result<Sheet, Refusal> {
+    let judge = |system: &System| judge_system(tables, system, runs[system.number as usize - 1]);
+    base_systems(tables).iter().try_for_each(judge)?;
+    let lengths = judge_directions(tables, runs)?;
+    length_systems(tables, &lengths).iter().try_for_each(judge)?;
+    Ok(sheet(tables, runs))
 }
 
 /// 01 "What stops a case", 12 and the last paragraph: the same with a lent buffer. "Every refusal ... writes nothing";
 /// after acceptance "bytes behind it are untouched".
-pub fn judge_into(file: &[u8], runs: [&[i64]; 3], buffer: &mut [u8]) -> Answer {
+pub fn judge_into<const N: usize>(file: &[u8], runs: [&[i64]; N], buffer: &mut [u8]) -> Answer {
     match judge_case(file, runs) {
         Err(refusal) => Answer::Refused(refusal),
         Ok(sheet) if sheet.len() > buffer.len() => Answer::Refused(BUFFER_TOO_SHORT),
@@ -68,7 +76,7 @@ pub fn judge_into(file: &[u8], runs: [&[i64]; 3], buffer: &mut [u8]) -> Answer {
 pub fn program_output(input: &[u8]) -> Vec<u8> {
     let answer = match whole_case(input) {
         None => Err(NOT_WHOLE),
-        Some(case) => judge_case(input, [&case.runs[0], &case.runs[1], &case.runs[2]]),
+        Some(case) => judge_case(input, case.lent()),
     };
     answer.unwrap_or_else(|refusal| format!("{refusal}\n").into_bytes())
 }

@@ -1,7 +1,7 @@
-//! The cases of the greatest counts: 256 nodes, 512 circuits or 480 in version 2, 512 stations, 32 and 32 zones, by a
+//! The cases of the greatest counts: 256 nodes, 512 circuits or 480 in version 2 or 320 in edition 2, 512 stations, 32 and 32 zones, by a
 //! fixed rule.
 
-use crate::file::{padded, Case, CircuitRow, NodeRow, Settings, StationRow, Version};
+use crate::file::{padded, Case, CircuitRow, Edition, NodeRow, Settings, StationRow, Version};
 use crate::solver::solved;
 
 /// Rows and columns of the ring of rings.
@@ -12,6 +12,7 @@ const SIDE: u32 = 16;
 pub fn largest() -> Case {
     let case = Case {
         version: Version::One,
+        edition: Edition::One,
         settings: settings(),
         nodes: places().map(|(row, column)| node(row, column)).collect(),
         circuits: places().flat_map(|(row, column)| [east(row, column), south(row, column)]).collect(),
@@ -24,12 +25,25 @@ pub fn largest() -> Case {
 /// LARGEST_2, of version 2 (02, CR 3): LARGEST without the circuits that close its rings, which are 32, and with factors
 /// on most of the 480 others. 63,360 bytes.
 pub fn largest_of_version_2() -> Case {
+    solved(&Case { version: Version::Two, circuits: open_grid(|_| true), ..largest() }).0
+}
+
+/// The largest of edition 2 (02, CR 5): LARGEST_2 with 80 of its circuits to the south, those of every third column but the
+/// last and five of the last. 61,072 bytes.
+pub fn largest_of_edition_2() -> Case {
+    let circuits = open_grid(|(row, column)| column % 3 == 0 && (column < SIDE - 1 || row < 5));
+    let case = Case { version: Version::Two, circuits, ..largest() };
+    solved(&case.in_edition_2().expect("320 circuits")).0
+}
+
+/// The circuits of the grid without those that close its rings, to the south only from the places asked for, with factors by
+/// their turn.
+fn open_grid(south_from: impl Fn((u32, u32)) -> bool) -> Vec<CircuitRow> {
     let last = SIDE - 1;
     let east = |(row, column)| (column < last).then(|| east(row, column));
-    let south = |(row, column)| (row < last).then(|| south(row, column));
+    let south = |(row, column)| (row < last && south_from((row, column))).then(|| south(row, column));
     let circuits = places().flat_map(|place| [east(place), south(place)]).flatten();
-    let circuits = circuits.zip(0..).map(|(row, turn)| with_factor(row, turn)).collect();
-    solved(&Case { version: Version::Two, circuits, ..largest() }).0
+    circuits.zip(0..).map(|(row, turn)| with_factor(row, turn)).collect()
 }
 
 /// A circuit with a factor by its turn: by voltage, its own, its own at 320 or at 525.

@@ -1,4 +1,4 @@
-//! Independent reference for document 01 and change requests 1 to 3 of 02: one study case in, a tariff sheet or a
+//! Independent reference for document 01 and change requests 1 to 3 and 5 of 02: one study case in, a tariff sheet or a
 //! refusal out.
 //!
 //! Written from their words for clarity, not for speed: `i128` for every sum, one function for each
@@ -6,6 +6,7 @@
 //! program prints. `text` writes and reads cases as plain text, `solver` proposes solutions, `largest` and
 //! `longest` build cases of the greatest counts, `beside` sets two cases side by side (request 12).
 
+pub mod background;
 pub mod beside;
 pub mod charges;
 pub mod file;

@@ -1,6 +1,6 @@
 //! The longest file, with a sheet nearly as long as one can be: what a program's buffers have to hold.
 
-use crate::file::{padded, Case, CircuitRow, NodeRow, Settings, StationRow, Version};
+use crate::file::{padded, Case, CircuitRow, Edition, Name, NodeRow, Settings, StationRow, Version};
 use crate::solver::solved;
 
 /// Nodes at the end of a circuit each.
@@ -20,8 +20,39 @@ pub fn longest() -> Case {
     circuits.extend(leaves().flat_map(|leaf| vec![circuit(middle, leaf, 1); 2]));
     let tec = |turn: u32| [300_000, 0][turn.min(1) as usize] + turn % 2;
     let stations = (0..512).map(|turn| station(turn, nodes[turn as usize / 2].name, tec(turn))).collect();
-    let version = Version::One;
-    solved(&Case { version, settings: settings(), nodes, circuits, stations, runs: Default::default() }).0
+    let (version, edition) = (Version::One, Edition::One);
+    solved(&Case { version, edition, settings: settings(), nodes, circuits, stations, runs: Default::default() }).0
+}
+
+/// Nodes at the end of a circuit each, in edition 2.
+const LEAVES_EDITION_2: u32 = 251;
+
+/// The same of edition 2 (02, CR 5): 256 nodes and 320 circuits. A length stands in one background only, so two circuits in a
+/// row lead down, the first year round's and the second peak's: BELOW runs about 8,000 kW at peak alone, and so does ABOVE on
+/// FAR's side, while HUB runs as much year round alone. 61,072 bytes, and a sheet of 15,145.
+pub fn longest_of_edition_2() -> Case {
+    let names = ["FAR_________", "ABOVE_______", "HUB_________", "BELOW_______", "MIDDLE______"];
+    let spine = names.map(|text| padded(text.as_bytes()));
+    let leaves: Vec<Name> =
+        (0..LEAVES_EDITION_2).map(|place| padded(format!("LEAF_____{place:03}").as_bytes())).collect();
+    let leaf_nodes = leaves.iter().zip(0..).map(|(name, place)| node(*name, place % 32 + 1, 1_000));
+    let nodes: Vec<NodeRow> = spine.iter().map(|name| node(*name, 1, 0)).chain(leaf_nodes).collect();
+    let links = spine.windows(2).map(|ends| circuit(ends[0], ends[1], 0));
+    let hung = leaves.iter().map(|leaf| circuit(spine[4], *leaf, 1));
+    let circuits: Vec<CircuitRow> = links.chain(hung).collect();
+    // 65 of the 255 stand twice.
+    let circuits = circuits.iter().chain(&circuits[..65]).cloned().collect();
+    // Of the spine: type 7 at FAR, 6 at ABOVE and BELOW, 1 at HUB; elsewhere type 2, a kilowatt each.
+    let own = [(7, 300_000), (6, 10_000), (1, 11_500), (6, 10_000)];
+    let station = |turn: u32| {
+        let place = turn as usize / 2;
+        let (plant, tec) = own.get(place).copied().filter(|_| turn % 2 == 0).unwrap_or((2, turn % 2));
+        StationRow { plant, ..station(turn, nodes[place].name, tec) }
+    };
+    let stations = (0..512).map(station).collect();
+    let (version, edition) = (Version::Two, Edition::Two);
+    let settings = Settings { reference: 3, zero: edition.zero(), ..settings() };
+    solved(&Case { version, edition, settings, nodes, circuits, stations, runs: Default::default() }).0
 }
 
 /// The greatest constant, security factors and revenue, and a factor that takes 500 km to 10^7 m.

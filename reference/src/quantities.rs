@@ -20,6 +20,8 @@ pub const CIRCUITS: (u32, u32) = (0, 512);
 pub const STATIONS: (u32, u32) = (0, 512);
 /// 02, CR 3: "Version 2 holds at most 480 circuits".
 pub const CIRCUITS_VERSION_2: (u32, u32) = (0, 480);
+/// 02, CR 5: "in version 2 files of at most 320 circuits".
+pub const CIRCUITS_EDITION_2: (u32, u32) = (0, 320);
 /// 01 "Quantities", table: generation and demand zones, each.
 pub const ZONES: (u32, u32) = (1, 32);
 /// 01 "Quantities", table: demand of a node and TEC of a station, kW.
@@ -54,6 +56,10 @@ pub const MISSES_LIMIT: i128 = 100_000_000;
 pub const IDLE_FLOW: i128 = 200_000_000;
 /// 01 step 4: a base flow of more than this magnitude is directed, mW.
 pub const DIRECTED_FLOW: i128 = 400_000_000;
+/// 02, CR 5: a year round flow not greater in magnitude than peak's by more than this counts for peak, mW.
+pub const PEAK_LEAD: i128 = 400_000_000;
+/// 02, CR 5: a year round flow greater in magnitude than peak's by more than this counts for year round, mW.
+pub const YEAR_ROUND_LEAD: i128 = 800_000_000;
 
 /// 01 "Quantities": a number lies within its range, both ends included.
 pub fn within<T: PartialOrd>(number: T, range: (T, T)) -> bool {

@@ -1,7 +1,11 @@
 //! Cases by chance, for comparisons: the same number gives the same case.
 
-use crate::file::{padded, Case, CircuitRow, NodeRow, Settings, StationRow, Version};
+use crate::background::Background;
+use crate::charges::{fixed_generation, total, variable_tec};
+use crate::file::{padded, Case, CircuitRow, Edition, NodeRow, Settings, StationRow, Version, TABLES};
+use crate::quantities::ROW_KW;
 use crate::solver::solved;
+use crate::tables::{sound_tables, Tables};
 
 /// A plain generator of numbers by chance (splitmix64).
 pub struct Chance(pub u64);
@@ -40,6 +44,11 @@ impl Chance {
 
 /// A case of at most so many nodes, with sound tables for nearly every number and solutions for those.
 pub fn random(seed: u64, most_nodes: u64) -> Case {
+    solved(&drawn(seed, most_nodes)).0
+}
+
+/// Such a case without solutions.
+fn drawn(seed: u64, most_nodes: u64) -> Case {
     let chance = &mut Chance(seed);
     let nodes = chance.within(1, most_nodes.clamp(1, 256));
     let more = if nodes == 1 { 0 } else { chance.within(0, nodes.min(512 + 1 - nodes)) };
@@ -47,6 +56,7 @@ pub fn random(seed: u64, most_nodes: u64) -> Case {
     let settings = settings(chance, nodes);
     let mut case = Case {
         version: Version::One,
+        edition: Edition::One,
         nodes: (0..nodes).map(|number| node(chance, number, &settings)).collect(),
         circuits: (1..nodes + more).map(|number| circuit(chance, number, nodes)).collect(),
         stations: (0..stations).map(|number| station(chance, number, nodes)).collect(),
@@ -54,13 +64,18 @@ pub fn random(seed: u64, most_nodes: u64) -> Case {
         settings,
     };
     fit_totals(&mut case);
-    solved(&case).0
+    case
 }
 
 /// 02, CR 3: such a case in version 2, where three circuits in four have a factor of their own, some of them at 320 or 525.
 pub fn random_of_version_2(seed: u64, most_nodes: u64) -> Case {
+    solved(&drawn_of_version_2(seed, most_nodes)).0
+}
+
+/// Such a case without solutions.
+fn drawn_of_version_2(seed: u64, most_nodes: u64) -> Case {
     let chance = &mut Chance(!seed);
-    let mut case = Case { version: Version::Two, ..random(seed, most_nodes) };
+    let mut case = Case { version: Version::Two, ..drawn(seed, most_nodes) };
     // What reaches each node stands first.
     case.circuits.truncate(480);
     for row in &mut case.circuits {
@@ -71,7 +86,67 @@ pub fn random_of_version_2(seed: u64, most_nodes: u64) -> Case {
             _ => row.factor = own,
         }
     }
+    case
+}
+
+/// 02, CR 5: such a case of edition 2. Fifteen in sixteen have a demand that 14 lets pass, some of them at its ends.
+pub fn random_of_edition_2(seed: u64, most_nodes: u64) -> Case {
+    let chance = &mut Chance(seed ^ 0x5555_5555_5555_5555);
+    let mut case = drawn_of_version_2(seed, most_nodes);
+    // What reaches each node stands first.
+    case.circuits.truncate(320);
+    let mut case = case.in_edition_2().expect("version 2 and at most 320 circuits");
+    if chance.within(0, 15) > 0 {
+        fit_backgrounds(&mut case, chance);
+    }
     solved(&case).0
+}
+
+/// 02, CR 5: brings demand between what 14 asks for, with less of types 1 and 3 until there is room.
+fn fit_backgrounds(case: &mut Case, chance: &mut Chance) {
+    // Some demand to share, and some TEC that is variable in both backgrounds.
+    case.nodes[0].demand = case.nodes[0].demand.max(1);
+    (case.stations[0].plant, case.stations[0].tec) = (7, case.stations[0].tec.max(1_000));
+    fit_totals(case);
+    for _ in 0..32 {
+        let Ok(tables) = sound_tables(case) else { return };
+        let (low, high) = lawful_demand(&tables);
+        if low <= high {
+            let demand = match chance.within(0, 7) {
+                0 => low,
+                1 => high,
+                _ => low + chance.within(0, (high - low) as u64) as i128,
+            };
+            return share_demand(case, demand as u64);
+        }
+        case.stations.iter_mut().filter(|row| [1, 3].contains(&row.plant)).for_each(|row| row.tec /= 2);
+        fit_totals(case);
+    }
+}
+
+/// 02, CR 5: the least and the greatest demand, in kW, that 14 lets pass.
+fn lawful_demand(tables: &Tables) -> (i128, i128) {
+    let ends = [Background::YearRound, Background::Peak].map(|background| {
+        let fixed = total(&fixed_generation(tables, background)).0;
+        (fixed.max(1), fixed + total(&variable_tec(tables, background)).0)
+    });
+    (ends[0].0.max(ends[1].0), ends[0].1.min(ends[1].1))
+}
+
+/// So much demand over the nodes as they share it now, no node above its range.
+fn share_demand(case: &mut Case, demand: u64) {
+    let old: u64 = case.nodes.iter().map(|row| row.demand as u64).sum();
+    let most = ROW_KW.1 as u64;
+    let mut left = demand;
+    for row in &mut case.nodes {
+        row.demand = (row.demand as u64 * demand / old).min(most).min(left) as u32;
+        left -= row.demand as u64;
+    }
+    for row in &mut case.nodes {
+        let more = left.min(most - row.demand as u64);
+        row.demand += more as u32;
+        left -= more;
+    }
 }
 
 /// 02, CR 12: another case of a network by chance: its circuits, names, factors and reference, and demand, stations, zones
@@ -228,6 +303,9 @@ const EDGES_32: [u32; 32] = [
 /// 02, CR 3: numbers of its rules, for fields of 32 bits in files of version 2.
 const EDGES_VERSION_2: [u32; 6] = [319, 320, 321, 524, 525, 526];
 
+/// 02, CR 5: proposed numbers of its bands, for files of edition 2.
+const EDGES_EDITION_2: [i64; 4] = [800_000_000, 800_000_001, -800_000_001, 600_000_000];
+
 /// Numbers at the ends of 01's ranges for proposed numbers, and one beyond.
 const EDGES_64: [i64; 16] = [
     0,
@@ -254,8 +332,8 @@ pub fn spoiled(case: &Case, seed: u64) -> Case {
     let chance = &mut Chance(seed);
     let counts = case.counts();
     let mut sections = case.section_bytes();
-    let offsets = case.trailer().offsets.map(|offset| offset as usize);
-    let tables = offsets[4];
+    let offsets: Vec<usize> = case.trailer().offsets.iter().map(|offset| *offset as usize).collect();
+    let tables = offsets[TABLES];
     match chance.within(0, 3) {
         0 => {
             let place = 4 * chance.within(0, tables as u64 / 4 - 1) as usize;
@@ -280,11 +358,19 @@ pub fn spoiled(case: &Case, seed: u64) -> Case {
             let place = tables + 8 * chance.within(0, numbers - 1) as usize;
             let old = i64::from_le_bytes(sections[place..place + 8].try_into().unwrap());
             let near = old.saturating_add(chance.of(&[1, -1, 50_000_000, 50_000_001, 100_000_000, -100_000_001]));
-            let new = if chance.within(0, 1) == 0 { near } else { chance.of(&EDGES_64) };
+            let new = if chance.within(0, 1) == 0 { near } else { edge_64(case.edition, chance) };
             sections[place..place + 8].copy_from_slice(&new.to_le_bytes());
         }
     }
-    Case::read(&sections, case.version, counts).expect("the counts stay")
+    Case::read(&sections, case.version, case.edition, &counts).expect("the counts stay")
+}
+
+/// A proposed number at the end of a range or of a band.
+fn edge_64(edition: Edition, chance: &mut Chance) -> i64 {
+    match edition {
+        Edition::One => chance.of(&EDGES_64),
+        Edition::Two => chance.of(&[&EDGES_64[..], &EDGES_EDITION_2].concat()),
+    }
 }
 
 /// A number at the end of a range for fields of 32 bits.

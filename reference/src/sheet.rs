@@ -5,7 +5,7 @@ use crate::file::without_padding;
 
 /// 01 "The sheet": the lines `C`, `G`, `D`, `L`, `R`, each ended by a line feed, fields parted by one space.
 pub fn print(sheet: &Sheet) -> Vec<u8> {
-    let mut text = format!("C {}\n", sheet.c.0);
+    let mut text = format!("C {}\n", joined(sheet.c.iter().map(|c| c.0)));
     zone_lines(&mut text, 'G', &sheet.generation);
     zone_lines(&mut text, 'D', &sheet.demand);
     for line in &sheet.local {
@@ -16,16 +16,22 @@ pub fn print(sheet: &Sheet) -> Vec<u8> {
     text.into_bytes()
 }
 
-/// 01 "The sheet": one line a zone in rising order; "A zone with no kilowatts prints its letter, number and `-`".
+/// 01 "The sheet": one line a zone in rising order; "A zone with no kilowatts prints its letter, number and `-`". 02, CR 5:
+/// the three figures of each background, then residual and total.
 fn zone_lines(text: &mut String, letter: char, side: &Side) {
     for (place, zone) in side.zones.iter().enumerate() {
         let number = place + 1;
         *text += &match zone {
             None => format!("{letter} {number} -\n"),
-            Some(line) => format!(
-                "{letter} {number} {} {} {} {} {}\n",
-                line.metres.0, line.after_c.0, line.tariff.0, line.residual.0, line.total.0
-            ),
+            Some(line) => {
+                let figures = line.figures.iter().flat_map(|of| [of.metres.0, of.after_c.0, of.tariff.0]);
+                format!("{letter} {number} {}\n", joined(figures.chain([line.residual.0, line.total.0])))
+            }
         };
     }
+}
+
+/// 01 "The sheet": "fields are parted by one space".
+fn joined(numbers: impl Iterator<Item = i128>) -> String {
+    numbers.map(|number| number.to_string()).collect::<Vec<_>>().join(" ")
 }

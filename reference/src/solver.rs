@@ -1,47 +1,58 @@
-//! A solver for tests: whole-number solutions of the three systems with exact balance and small misses.
+//! A solver for tests: whole-number solutions of an edition's systems with exact balance and small misses.
 //!
 //! 01 leaves solving to the client. Here: potentials by elimination in floating point, corrected until the whole
 //! numbers are right (the error of each round is summed in whole numbers); flows of the circuits outside a spanning
 //! tree rounded one after another so that the tree carries as little of the rounding as may be; flows of the tree by
 //! balance alone. Where a system has a solution in whole numbers, that solution comes out.
 
-use crate::file::Case;
-use crate::solutions::{base_system, local_system, misses, signed_lengths, wider_system, System};
+use crate::charges::judge_generation;
+use crate::file::{Case, RUNS};
+use crate::solutions::{base_systems, length_systems, lengths, misses, System};
 use crate::tables::{sound_tables, Tables};
 
-/// 01 step 2: a proposal for each system, with the sums of its misses.
-#[derive(Clone, Debug, PartialEq, Eq)]
+/// 01 step 2: a proposal for each system, with the sums of its misses. A system that the edition doesn't have has an empty
+/// run.
+#[derive(Clone, Debug, Default, PartialEq, Eq)]
 pub struct Proposal {
-    pub runs: [Vec<i64>; 3],
-    pub misses: [i128; 3],
+    pub runs: [Vec<i64>; RUNS],
+    pub misses: [i128; RUNS],
 }
 
 /// Solutions for the tables of a case. Where its tables are refused any solutions do: zeros, and the reason.
 pub fn solved(case: &Case) -> (Case, Option<String>) {
-    let rows = case.nodes.len() + case.circuits.len();
     let proposal = sound_tables(case).map_err(|refusal| refusal.to_string()).and_then(|tables| propose(&tables));
     let (runs, trouble) = match proposal {
         Ok(proposal) => (proposal.runs, None),
-        Err(reason) => (std::array::from_fn(|_| vec![0; rows]), Some(reason)),
+        Err(reason) => (case.zeros(), Some(reason)),
     };
     (Case { runs, ..case.clone() }, trouble)
 }
 
-/// 01 steps 3 and 5: solutions of base, wider and local. A circuit in doubt is taken as idle.
+/// 01 steps 3 and 5, 02 CR 5: solutions of the base systems, of the wider ones and of local. A circuit in doubt about its
+/// background is taken for year round, one in doubt of its direction as idle. Tables refused by 14 have no solutions.
 pub fn propose(tables: &Tables) -> Result<Proposal, String> {
-    let nodes = tables.nodes.len();
+    judge_generation(tables).map_err(|refusal| refusal.to_string())?;
     let network = Network::of(tables);
-    let base = base_system(tables);
-    let base_run = network.solve(tables, &base)?;
-    let lengths = signed_lengths(tables, &base_run[nodes..]);
-    let (wider, local) = (wider_system(tables, &lengths), local_system(tables, &lengths));
-    let (wider_run, local_run) = (network.solve(tables, &wider)?, network.solve(tables, &local)?);
-    let sums = [(&base, &base_run), (&wider, &wider_run), (&local, &local_run)]
-        .map(|(system, run)| misses(tables, system, run));
-    Ok(Proposal { runs: [base_run, wider_run, local_run], misses: sums })
+    let mut proposal = Proposal::default();
+    proposal.add(tables, &network, base_systems(tables))?;
+    let lengths = lengths(tables, proposal.runs.each_ref().map(Vec::as_slice));
+    proposal.add(tables, &network, length_systems(tables, &lengths))?;
+    Ok(proposal)
 }
 
-/// What the three systems share: the eliminated matrix and a spanning tree.
+impl Proposal {
+    /// Solutions of further systems.
+    fn add(&mut self, tables: &Tables, network: &Network, systems: Vec<System>) -> Result<(), String> {
+        for system in systems {
+            let place = system.number as usize - 1;
+            self.runs[place] = network.solve(tables, &system)?;
+            self.misses[place] = misses(tables, &system, &self.runs[place]);
+        }
+        Ok(())
+    }
+}
+
+/// What the systems share: the eliminated matrix and a spanning tree.
 struct Network {
     /// Lower triangle of the Cholesky factor of the node matrix, the reference's row and column those of the unit.
     factor: Vec<Vec<f64>>,

@@ -1,7 +1,7 @@
 //! 01 "What stops a case", 2 to 7: settings, tables, reach and totals. Tables that pass are sound. 02, CR 1: 13 behind
 //! them.
 
-use crate::file::{well_formed, Case, CircuitRow, Name, NodeRow, Settings, StationRow};
+use crate::file::{well_formed, Case, CircuitRow, Edition, Name, NodeRow, Settings, StationRow};
 use crate::quantities::*;
 use crate::refusal::Refusal;
 
@@ -19,6 +19,17 @@ pub enum Plant {
     Peaking,
     Other,
 }
+
+/// 01 "The case file": the plant types in the order of their numbers.
+pub const PLANTS: [Plant; 7] = [
+    Plant::Intermittent,
+    Plant::NuclearAndCcs,
+    Plant::Interconnector,
+    Plant::Hydro,
+    Plant::PumpedStorage,
+    Plant::Peaking,
+    Plant::Other,
+];
 
 impl Plant {
     /// 02, CR 1: "Interconnectors don't pay".
@@ -77,6 +88,7 @@ impl Station {
 /// 01 "What stops a case": "Tables are sound when none of 1 to 7 holds".
 #[derive(Clone, Debug)]
 pub struct Tables {
+    pub edition: Edition,
     pub settings: Settings,
     /// The reference node's place in the node table, from 0.
     pub reference: usize,
@@ -108,8 +120,8 @@ pub fn sound_tables(case: &Case) -> Result<Tables, Refusal> {
         return Err(refused(7, 0));
     }
     let total_chargeable = Kw(stations.iter().map(|station| station.chargeable().0).sum());
-    let settings = case.settings.clone();
-    Ok(Tables { settings, reference, nodes, circuits, stations, total_demand, total_tec, total_chargeable })
+    let (edition, settings) = (case.edition, case.settings.clone());
+    Ok(Tables { edition, settings, reference, nodes, circuits, stations, total_demand, total_tec, total_chargeable })
 }
 
 /// 02, CR 1: "13, system 0 row 0, no chargeable TEC, after 7". Such tables are sound all the same: 01 has it that
@@ -245,16 +257,7 @@ fn station(row: &StationRow, nodes: &[NodeRow]) -> Option<Station> {
 
 /// 01 "The case file": "Plant types 1 to 7".
 fn plant(number: u32) -> Option<Plant> {
-    match number {
-        1 => Some(Plant::Intermittent),
-        2 => Some(Plant::NuclearAndCcs),
-        INTERCONNECTOR => Some(Plant::Interconnector),
-        4 => Some(Plant::Hydro),
-        5 => Some(Plant::PumpedStorage),
-        6 => Some(Plant::Peaking),
-        7 => Some(Plant::Other),
-        _ => None,
-    }
+    PLANTS.get((number as usize).checked_sub(1)?).copied()
 }
 
 /// 01 "What stops a case", 6: the place (from 0) of the lowest node that "can't be reached from the reference".

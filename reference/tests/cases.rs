@@ -3,11 +3,11 @@
 mod common;
 
 use common::*;
-use reference::file::Version;
+use reference::file::{Case, Edition, Version};
 use reference::tables::INTERCONNECTOR;
 use reference::{judge_case, program_output, solver, text};
 
-const NAMES: [&str; 14] = [
+const NAMES: [&str; 17] = [
     "KILN",
     "CUSC1421",
     "TUT1",
@@ -22,6 +22,9 @@ const NAMES: [&str; 14] = [
     "LINKS",
     "SUBSEA",
     "KILN_2",
+    "TUT3_E2",
+    "TUT3_NOPEAK",
+    "SEVEN",
 ];
 
 #[test]
@@ -30,8 +33,7 @@ fn each_text_gives_its_sheet() {
         let file = text::make(&folder_file(&format!("{name}.txt"))).unwrap();
         let sheet = String::from_utf8(folder_file(&format!("{name}.sheet"))).unwrap();
         assert_eq!(String::from_utf8(program_output(&file)).unwrap(), sheet, "{name}");
-        let runs = named_case(name).runs;
-        assert_eq!(judge_case(&file, [&runs[0], &runs[1], &runs[2]]), Ok(sheet.into_bytes()), "{name}");
+        assert_eq!(judge_case(&file, named_case(name).lent()), Ok(sheet.into_bytes()), "{name}");
     }
 }
 
@@ -226,11 +228,122 @@ R 50000 80000
     assert_eq!(rows, [(320, 3_500), (525, 2_250), (400, 1_800), (400, 0)]);
 }
 
+/// The text of this name is stored as a file too, for clients.
+fn is_stored_as_a_file(name: &str, length: usize) {
+    let file = named_case(name).bytes();
+    assert_eq!(file.len(), length);
+    assert_eq!(file, folder_file(&format!("{name}.case")));
+}
+
 #[test]
 fn subsea_is_stored_as_a_file() {
-    let file = named_case("SUBSEA").bytes();
-    assert_eq!(file.len(), 704);
-    assert_eq!(file, folder_file("SUBSEA.case"));
+    is_stored_as_a_file("SUBSEA", 704);
+}
+
+#[test]
+fn tut3_e2_is_stored_as_a_file() {
+    is_stored_as_a_file("TUT3_E2", 880);
+}
+
+#[test]
+fn tut3_e2_as_the_sources_have_it() {
+    is(
+        "TUT3_E2",
+        "\
+C -7819 5893
+G 1 0 -7819 -140742 0 5893 106074 2093593 2058925
+G 2 15000 7181 129258 -5000 893 16074 2093593 2238925
+G 3 -
+G 4 2500 -5319 -95742 -7500 -1607 -28926 2093593 1968925
+D 1 -
+D 2 -15000 -7181 -129258 5000 -893 -16074 12131998 11986666
+D 3 -2500 5319 95742 7500 1607 28926 12131998 12256666
+D 4 -
+L SUBA 0 0
+L SUBB 0 0
+L SUBD 30000 300000
+R 480000 200000
+",
+    );
+    let case = named_case("TUT3_E2");
+    assert_eq!((case.edition, case.version, case.bytes().len()), (Edition::Two, Version::Two, 880));
+    let flows = [0, 3].map(|place: usize| &case.runs[place][4..]);
+    assert_eq!(flows[0], [5_750_000_000, 36_250_000_000, 24_750_000_000, 139_000_000_000]);
+    assert_eq!(flows[1], [-8_333_500_000, 8_333_500_000, 25_000_500_000, 166_666_000_000]);
+}
+
+#[test]
+fn tut3_nopeak_by_hand() {
+    is(
+        "TUT3_NOPEAK",
+        "\
+C 0 12078
+G 1 0 0 0 0 12078 217404 2514996 2732400
+G 2 0 0 0 -10000 2078 37404 2514996 2552400
+G 3 -
+G 4 0 0 0 -15000 -2922 -52596 2514996 2462400
+D 1 -
+D 2 0 0 0 10000 -2078 -37404 12144070 12106666
+D 3 0 0 0 15000 2922 52596 12144070 12196666
+D 4 -
+L SUBA 0 0
+L SUBB 0 0
+L SUBD 30000 300000
+R 0 200000
+",
+    );
+    // TUT3_E2 without its peaking plant.
+    let mut closed = named_case("TUT3_E2");
+    closed.stations.remove(2);
+    assert_eq!(solver::solved(&closed).0, named_case("TUT3_NOPEAK"));
+}
+
+#[test]
+fn both_by_hand() {
+    is(
+        "SEVEN",
+        "\
+C -5741 -15600
+G 1 8000 2259 40662 64000 48400 871200 1496166 2408028
+G 2 3472 -2269 -40842 14755 -845 -15210 1496166 1440114
+G 3 12000 6259 112662 7000 -8600 -154800 1496166 1454028
+G 4 -
+D 1 -10667 -4926 -88668 -16000 -400 -7200 2553641 2457773
+D 2 0 5741 103338 0 15600 280800 2553641 2937779
+D 3 -
+L MOOR 0 0
+L PORT 0 0
+L LAKE 12000 120000
+L TOWN 0 0
+R 140000 140000
+",
+    );
+    let case = named_case("SEVEN");
+    assert_eq!(case.bytes().len(), 1_128);
+    let e6 = 1_000_000;
+    let base = [12_200_000, 8_000_000, 2_250_000, 3_500_000, 0, 42_000, 40_000, 45_000, 35_000, 45_000];
+    let peak_base = [3_125_000, 3_125_000, 3_375_000, 3_687_500, 0, 0, 15_625, -5_625, 36_875, 67_500];
+    assert_eq!(case.runs[0], base.map(|number| number * e6));
+    assert_eq!(case.runs[3], peak_base.map(|number| number * e6));
+}
+
+#[test]
+fn another_reference_leaves_what_follows_either_c() {
+    // Metres after C, tariffs, residuals and totals of TUT3_E2 from each node of its loop.
+    let after_c = |reference: u32| -> Vec<String> {
+        let mut case = named_case("TUT3_E2");
+        case.settings.reference = reference;
+        let sheet = printed(&solver::solved(&case).0);
+        let kept = |(place, _): &(usize, &str)| ![2, 5].contains(place);
+        let fields =
+            |line: &str| line.split(' ').enumerate().filter(kept).map(|(_, field)| field.to_string()).collect();
+        let lines: Vec<Vec<String>> = sheet.lines().filter(|line| line.starts_with(['G', 'D'])).map(fields).collect();
+        lines.iter().map(|line| line.join(" ")).collect()
+    };
+    assert!(after_c(1)[0].starts_with("G 1 -7819 -140742 5893 106074 "));
+    for reference in 2..=3 {
+        assert_eq!(after_c(reference), after_c(1), "{reference}");
+    }
 }
 
 #[test]
@@ -332,12 +445,22 @@ fn largest_of_version_2_is_accepted() {
     assert!(judged(&case).is_ok(), "{}", printed(&case));
 }
 
+/// The file of this name in the folder is this case, of so many bytes, and its sheet stands beside it.
+fn is_stored_with_its_sheet(name: &str, case: &Case, length: usize, sheet_length: usize) {
+    let file = case.bytes();
+    assert_eq!(file.len(), length);
+    assert_eq!(file, folder_file(&format!("{name}.case")));
+    let sheet = program_output(&file);
+    assert_eq!(sheet.len(), sheet_length);
+    assert_eq!(sheet, folder_file(&format!("{name}.sheet")));
+}
+
 #[test]
 fn longest_is_stored_with_its_sheet() {
-    let file = reference::longest::longest().bytes();
-    assert_eq!(file.len(), 63_616);
-    assert_eq!(file, folder_file("LONGEST.case"));
-    let sheet = program_output(&file);
-    assert_eq!(sheet.len(), 13_196);
-    assert_eq!(sheet, folder_file("LONGEST.sheet"));
+    is_stored_with_its_sheet("LONGEST", &reference::longest::longest(), 63_616, 13_196);
+}
+
+#[test]
+fn longest_of_edition_2_is_stored_with_its_sheet() {
+    is_stored_with_its_sheet("LONGEST_EDITION_2", &reference::longest::longest_of_edition_2(), 61_072, 15_145);
 }

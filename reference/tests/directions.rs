@@ -5,7 +5,7 @@ mod common;
 
 use common::*;
 use reference::beside::{beside, laid_out, read, Asked, Beside, Side};
-use reference::file::{whole_case, Case, Version};
+use reference::file::{whole_case, Case, Edition, Version};
 use reference::quantities::Metres;
 use reference::replay::{cases, Labelled, Told};
 use reference::solutions::Direction;
@@ -188,11 +188,11 @@ impl Extremes {
     }
 }
 
-/// Every accepted case of the list by its network, and there by its directions.
+/// Every accepted case of edition 1 in the list by its network, and there by its directions. 02, CR 12: "over edition 1".
 fn groups(list: &[Labelled]) -> HashMap<Network, BTreeMap<String, Extremes>> {
     let mut groups: HashMap<Network, BTreeMap<String, Extremes>> = HashMap::new();
     for case in list {
-        let Some(tables) = whole_case(&case.file) else { continue };
+        let Some(tables) = whole_case(&case.file).filter(|case| case.edition == Edition::One) else { continue };
         let side = Side::of(&tables);
         if side.refusal.is_none() {
             let group = groups.entry(network(&side)).or_default().entry(format!("{:?}", side.directions));

@@ -50,7 +50,7 @@ fn one_offset_of_an_empty_section() {
 #[test]
 fn one_counts() {
     let one = (1, 0, 0);
-    let grown = |case: &mut Case| case.runs.iter_mut().for_each(|run| run.push(0));
+    let grown = |case: &mut Case| case.own_runs_mut().iter_mut().for_each(|run| run.push(0));
     let kiln = kiln();
     refused(&kiln, grown, one);
     refused(&kiln, |case| case.runs[2].truncate(5), one);
@@ -213,7 +213,7 @@ fn names_of_all_letters_and_lengths() {
 fn three_lowest_row_of_any_fault() {
     let four = |case: &mut Case| {
         case.nodes.push(node("NODD", 0));
-        case.runs.iter_mut().for_each(|run| run.push(0));
+        case.own_runs_mut().iter_mut().for_each(|run| run.push(0));
     };
     // A repeated name before a malformed row.
     let repeated_first = |case: &mut Case| {
@@ -330,7 +330,7 @@ fn six_reach() {
     let lone = |case: &mut Case| {
         case.nodes.push(node("NODD", 0));
         case.nodes.push(node("NODE", 0));
-        case.runs.iter_mut().for_each(|run| run.extend([0, 0]));
+        case.own_runs_mut().iter_mut().for_each(|run| run.extend([0, 0]));
     };
     refused(&kiln, lone, (6, 0, 4));
     // Marked circuits and circuits without length reach as well.

@@ -4,7 +4,7 @@ mod common;
 
 use common::*;
 use reference::file::Case;
-use reference::random::{random, Chance};
+use reference::random::{random, random_of_edition_2, Chance};
 use reference::solver::{propose, solved};
 use reference::tables::{sound_tables, INTERCONNECTOR};
 use std::collections::BTreeMap;
@@ -17,25 +17,34 @@ fn answer(case: &Case) -> u32 {
 }
 
 /// How often each answer comes.
-fn answers(seeds: std::ops::Range<u64>, most_nodes: u64) -> BTreeMap<u32, u32> {
+fn answers(cases: impl Iterator<Item = Case>) -> BTreeMap<u32, u32> {
     let mut counts = BTreeMap::new();
-    for seed in seeds {
-        *counts.entry(answer(&random(seed, most_nodes))).or_insert(0) += 1;
+    for case in cases {
+        *counts.entry(answer(&case)).or_insert(0) += 1;
     }
     counts
 }
 
 #[test]
 fn small_networks() {
-    let counts = answers(0..400, 12);
+    let counts = answers((0..400).map(|seed| random(seed, 12)));
     assert!(counts[&0] > 200, "{counts:?}");
     assert!(counts.keys().all(|number| [0, 7, 8, 11, 13].contains(number)), "{counts:?}");
 }
 
 #[test]
 fn large_networks() {
-    let counts = answers(1_000..1_020, 256);
+    let counts = answers((1_000..1_020).map(|seed| random(seed, 256)));
     assert!(counts.keys().all(|number| [0, 7, 8, 11, 13].contains(number)), "{counts:?}");
+}
+
+#[test]
+fn networks_of_edition_2() {
+    let small = answers((0..200).map(|seed| random_of_edition_2(seed, 12)));
+    let large = answers((1_000..1_020).map(|seed| random_of_edition_2(seed, 256)));
+    assert!(small[&0] > 120, "{small:?}");
+    let known = |number: &u32| [0, 7, 8, 11, 13, 14, 15].contains(number);
+    assert!(small.keys().chain(large.keys()).all(known), "{small:?} {large:?}");
 }
 
 #[test]
@@ -45,8 +54,11 @@ fn misses_stay_far_below_their_limit() {
         let Ok(proposal) = propose(&tables) else { continue };
         assert!(proposal.misses.iter().all(|misses| *misses < 50_000_000), "{seed} {:?}", proposal.misses);
     }
-    let tables = sound_tables(&reference::largest::largest()).unwrap();
-    assert!(propose(&tables).unwrap().misses.iter().all(|misses| *misses < 1_000_000));
+    for case in [reference::largest::largest(), reference::largest::largest_of_edition_2()] {
+        let proposal = propose(&sound_tables(&case).unwrap()).unwrap();
+        assert_eq!(proposal.runs, case.runs);
+        assert!(proposal.misses.iter().all(|misses| *misses < 1_000_000));
+    }
 }
 
 #[test]
@@ -70,7 +82,7 @@ fn refused_tables_get_zeros_and_the_reason() {
     case.nodes[1].name = name("NODA");
     let (solved, trouble) = solved(&case);
     assert_eq!(trouble.as_deref(), Some("refused 3 0 2"));
-    assert_eq!(solved.runs, [vec![0; 6], vec![0; 6], vec![0; 6]]);
+    assert_eq!(solved.own_runs(), [vec![0; 6], vec![0; 6], vec![0; 6]]);
 }
 
 #[test]

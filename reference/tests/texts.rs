@@ -3,8 +3,8 @@
 mod common;
 
 use common::*;
-use reference::file::{Case, Version};
-use reference::random::{random, random_of_version_2, spoiled, Chance};
+use reference::file::{Case, Edition, Version};
+use reference::random::{random, random_of_edition_2, random_of_version_2, spoiled, Chance};
 use reference::text::{make, show};
 
 /// Showing and making again gives the same bytes.
@@ -21,24 +21,33 @@ fn lines(text: &str) -> Vec<&str> {
     text.lines().filter(|line| !line.is_empty() && !line.starts_with('#')).collect()
 }
 
+/// A case by chance, so many numbers for each kind: version 1, version 2, edition 2.
+fn by_chance(seed: u64, each: u64, most_nodes: u64) -> Case {
+    match seed / each {
+        0 => random(seed, most_nodes),
+        1 => random_of_version_2(seed, most_nodes),
+        _ => random_of_edition_2(seed, most_nodes),
+    }
+}
+
 #[test]
 fn whole_files_of_any_content_come_back() {
-    for seed in 0..80 {
-        let case = if seed < 40 { random(seed, 9) } else { random_of_version_2(seed, 9) };
-        let file = case.bytes();
+    for seed in 0..120 {
+        let case = by_chance(seed, 40, 9);
+        let (file, trailer) = (case.bytes(), case.edition.trailer_size());
         comes_back(&file);
         // Any bytes in the tables and solutions: still a whole file, whatever 2 to 11 say.
         let chance = &mut Chance(seed);
         let mut wild = file.clone();
-        for byte in &mut wild[..file.len() - 64] {
+        for byte in &mut wild[..file.len() - trailer] {
             *byte = chance.bits() as u8;
         }
-        wild[52..56].fill(0);
+        wild[52..56].copy_from_slice(&case.edition.zero().to_le_bytes());
         comes_back(&wild);
         assert!(!show(&wild).contains("not whole"));
         for _ in 0..20 {
             let mut odd = file.clone();
-            let place = chance.within(0, file.len() as u64 - 65) as usize;
+            let place = chance.within(0, (file.len() - trailer) as u64 - 1) as usize;
             odd[place] = chance.of(b" \"\\#\t\n\0\xff_aA");
             comes_back(&odd);
         }
@@ -47,8 +56,8 @@ fn whole_files_of_any_content_come_back() {
 
 #[test]
 fn spoiled_cases_come_back_and_are_judged() {
-    for seed in 0..40 {
-        let case = if seed < 20 { random(seed, 8) } else { random_of_version_2(seed, 8) };
+    for seed in 0..60 {
+        let case = by_chance(seed, 20, 8);
         for spoil in 0..40 {
             let spoiled = spoiled(&case, 100 * seed + spoil);
             comes_back(&spoiled.bytes());
@@ -292,4 +301,83 @@ fn solutions_of_any_count_stand_as_is() {
     assert!(show(&case.bytes()).ends_with("\nas_is\n"));
     let none = Case { settings: settings(), ..Case::default() };
     comes_back(&none.bytes());
+}
+
+/// SEVEN's text with these lines behind it.
+fn seven_text(more: &str) -> Vec<u8> {
+    [folder_file("SEVEN.txt"), more.as_bytes().to_vec()].concat()
+}
+
+#[test]
+fn the_edition_is_said_by_its_word() {
+    let seven = named_case("SEVEN");
+    assert_eq!((seven.edition, seven.settings.zero, seven.version), (Edition::Two, 2, Version::Two));
+    assert_eq!(make(&seven_text("version 2\n")), Ok(seven.bytes()));
+    let shown = show(&seven.bytes());
+    assert_eq!(lines(&shown)[..2], ["edition 2", "version 2"]);
+    assert!(lines(&shown).iter().all(|line| !line.starts_with("zero")));
+    for (word, first) in reference::text::SOLUTIONS.iter().zip(["122", "64", "0", "3125", "8"]) {
+        let line = shown.lines().find(|line| line.starts_with(&format!("{word} "))).unwrap();
+        assert!(line.starts_with(&format!("{word} {first}")), "{line}");
+    }
+    // Of edition 1 without the word, and with it.
+    assert_eq!(make(kiln_text(["", "", ""], "edition 1\n").as_bytes()), Ok(kiln().bytes()));
+    assert_eq!(lines(&show(&kiln().bytes()))[0], "generation_zones 1");
+}
+
+#[test]
+fn odd_files_of_either_edition_are_said() {
+    let seven = named_case("SEVEN");
+    let changed = |case: &Case, change: fn(&mut Case)| {
+        let mut case = case.clone();
+        change(&mut case);
+        case.bytes()
+    };
+    // A trailer of 80 bytes on edition 1, one of 64 on edition 2, and editions there are none of.
+    let long = changed(&seven, |case| case.settings.zero = 0);
+    assert_eq!(make(&seven_text("zero 0\n")), Ok(long.clone()));
+    let short = changed(&named_case("KILN_2"), |case| case.settings.zero = 2);
+    assert_eq!(make(kiln_text(["", "", ""], "version 2\nzero 2\n").as_bytes()), Ok(short.clone()));
+    let none = changed(&seven, |case| case.settings.zero = 1);
+    assert_eq!(make(&seven_text("zero 1\n")), Ok(none.clone()));
+    let empty = changed(&seven, |case| case.runs[3].clear());
+    let mut in_version_1 = named_case("TUT3_E2");
+    in_version_1.version = Version::One;
+    let text = [folder_file("TUT3_E2.txt"), b"version 1\n".to_vec()].concat();
+    assert_eq!(make(&text), Ok(in_version_1.bytes()));
+    for file in [long, short, none, empty, in_version_1.bytes()] {
+        comes_back(&file);
+        let text = show(&file);
+        assert!(text.starts_with("# not whole: refused 1 0 0\n"), "{text}");
+        assert!(!text.contains("\nbytes"), "{text}");
+    }
+    let tail = [seven.bytes(), vec![1, 2]].concat();
+    assert!(show(&tail).ends_with("\ntail 0102\n"));
+    comes_back(&tail);
+    for (start, end) in [(0, 0), (0, 127), (1, 1_128), (500, 1_128), (0, 1_127)] {
+        comes_back(&seven.bytes()[start..end]);
+    }
+    // Fields of the trailer, the peak sections' too.
+    let file = seven.bytes();
+    for place in file.len() - 80..file.len() {
+        let mut odd = file.clone();
+        odd[place] ^= 1;
+        comes_back(&odd);
+    }
+    let offset = make(&seven_text("offset peak_wider 7\ncount peak_base 3\n")).unwrap();
+    assert_eq!((offset[file.len() - 16], offset[file.len() - 20]), (7, 3));
+}
+
+#[test]
+fn faults_of_editions_name_their_lines() {
+    let said = |text: Vec<u8>| make(&text).unwrap_err().iter().map(|fault| fault.to_string()).collect::<Vec<_>>();
+    let kiln = |more: &str| kiln_text(["", "", ""], more).into_bytes();
+    assert_eq!(said(kiln("edition 3\n")), ["line 52: an edition is 1 or 2"]);
+    assert_eq!(said(kiln("peak_base 0\n")), ["line 52: edition 1 has no section peak_base"]);
+    assert_eq!(said(kiln("count peak_wider 0\n")), ["line 52: edition 1 has no section peak_wider"]);
+    assert_eq!(said(seven_text("edition 2\n"))[0].split_once(": ").unwrap().1, "edition a second time");
+    assert_eq!(
+        said(kiln("edition 2\n")),
+        ["peak_base", "peak_wider"].map(|word| format!("line 53: {word} has 0 rows, nodes and circuits are 6"))
+    );
 }

@@ -13,9 +13,12 @@ case version N < file > file  the same case in a file of version 1 or 2
 case beside FILE FILE > text  two cases, each a text or a file: what of request 12 holds, directions, distances
 case largest         > file   256 nodes, 512 circuits, 512 stations
 case largest_2       > file   the largest of version 2: 256 nodes, 480 circuits, 512 stations
+case largest_edition_2 > file   the largest of edition 2: 256 nodes, 320 circuits, 512 stations
 case longest         > file   the counts of the largest, and a sheet nearly as long as one can be
+case longest_edition_2 > file   the same of edition 2
 case random SEED [MOST_NODES] > file   a case by chance, solved
 case random_2 SEED [MOST_NODES] > file   the same in version 2, with factors
+case edition_2 SEED [MOST_NODES] > file   the same of edition 2
 case spoil SEED < file > file   a whole file with one thing changed by chance";
 
 fn main() -> ExitCode {
@@ -30,11 +33,15 @@ fn main() -> ExitCode {
         ["beside", ..] => Err("beside takes the names of two files".to_string()),
         ["largest"] => Ok(largest::largest().bytes()),
         ["largest_2"] => Ok(largest::largest_of_version_2().bytes()),
+        ["largest_edition_2"] => Ok(largest::largest_of_edition_2().bytes()),
+        ["longest_edition_2"] => Ok(longest::longest_of_edition_2().bytes()),
         ["longest"] => Ok(longest::longest().bytes()),
         ["random", seed] => by_chance(random::random, seed, "12"),
         ["random", seed, nodes] => by_chance(random::random, seed, nodes),
         ["random_2", seed] => by_chance(random::random_of_version_2, seed, "12"),
         ["random_2", seed, nodes] => by_chance(random::random_of_version_2, seed, nodes),
+        ["edition_2", seed] => by_chance(random::random_of_edition_2, seed, "12"),
+        ["edition_2", seed, nodes] => by_chance(random::random_of_edition_2, seed, nodes),
         ["spoil", seed] => standard::input().and_then(|file| spoil(&file, seed)),
         _ => Err(USE.to_string()),
     };
@@ -63,7 +70,7 @@ fn solve(input: &[u8]) -> Result<Vec<u8>, String> {
 
 /// A line of a text that gives a solution row.
 fn is_solution_row(line: &str) -> bool {
-    ["base", "wider", "local"].contains(&line.split_whitespace().next().unwrap_or(""))
+    text::SOLUTIONS.contains(&line.split_whitespace().next().unwrap_or(""))
 }
 
 /// A case solved; where its tables are refused, that is said and zeros are given.

@@ -41,7 +41,7 @@ fn two_ways(flow: i64, first: &CircuitRow, directed: bool) -> Case {
         case.runs[1 + first.mark as usize] = vec![0, -half, -half, half];
     }
     if first.first == name("LOAD") {
-        case.runs.iter_mut().for_each(|run| run[2] = -run[2]);
+        case.own_runs_mut().iter_mut().for_each(|run| run[2] = -run[2]);
     }
     case
 }

@@ -1,7 +1,7 @@
 //! Cases that others are made from by a change, and short ways to write rows.
 
 use super::{changed, solved};
-use crate::file::{padded, Case, CircuitRow, Name, NodeRow, Settings, StationRow, Version};
+use crate::file::{padded, Case, CircuitRow, Edition, Name, NodeRow, Settings, StationRow, Version, RUNS};
 use crate::text;
 
 /// A text of the folder of texts, by its name.
@@ -31,6 +31,9 @@ pub const LINK_TEXTS: [(&str, &str); 2] = [text_named!("TUT1_IC"), text_named!("
 /// The texts of the folder of version 2 (02, CR 3).
 pub const VERSION_TEXTS: [(&str, &str); 2] = [text_named!("SUBSEA"), text_named!("KILN_2")];
 
+/// The texts of the folder of edition 2 (02, CR 5).
+pub const EDITION_TEXTS: [(&str, &str); 3] = [text_named!("TUT3_E2"), text_named!("TUT3_NOPEAK"), text_named!("SEVEN")];
+
 /// The texts of the folder that stand beside TUT1 and TARN (02, CR 12). Their solutions aren't this solver's.
 pub const DIRECTION_TEXTS: [(&str, &str); 2] = [text_named!("TUT1_OTHER"), text_named!("TARN_METRE")];
 
@@ -39,7 +42,7 @@ const CHOSEN_TEXTS: [(&str, &str); 2] = [text_named!("DALE"), text_named!("TARN"
 
 /// The case of a text of the folder.
 pub fn named_case(name: &str) -> Case {
-    let lists = [&TEXTS[..], &LINK_TEXTS, &VERSION_TEXTS, &DIRECTION_TEXTS, &CHOSEN_TEXTS];
+    let lists = [&TEXTS[..], &LINK_TEXTS, &VERSION_TEXTS, &EDITION_TEXTS, &DIRECTION_TEXTS, &CHOSEN_TEXTS];
     let mut texts = lists.into_iter().flatten();
     let (_, text) = texts.find(|(known, _)| *known == name).expect("a text of the folder");
     text::parse(text.as_bytes()).expect("a text without faults").case
@@ -90,7 +93,7 @@ pub fn kiln_of_four() -> Case {
         case.nodes.push(node("NODD", 0));
         case.circuits.push(circuit("NODC", "NODD", 1, 0));
         case.stations.push(station("GEN_3", "NODD", 0));
-        for run in &mut case.runs {
+        for run in case.own_runs_mut() {
             run.insert(3, 0);
             run.push(0);
         }
@@ -106,6 +109,7 @@ pub fn all_kinds() -> Case {
     let marked = CircuitRow { mark: 1, ..circuit("FAR_EAST", "EAST", 30, 0) };
     solved(&Case {
         version: Version::One,
+        edition: Edition::One,
         settings: Settings {
             generation_zones: 4,
             demand_zones: 2,
@@ -147,15 +151,16 @@ pub fn line() -> Case {
 
 /// Two nodes: a station of so many kW at GENR, the reference, all demand at LOAD; solutions all zero.
 pub fn pair(kw: u32, circuits: Vec<CircuitRow>) -> Case {
-    let rows = 2 + circuits.len();
-    Case {
+    let case = Case {
         version: Version::One,
+        edition: Edition::One,
         settings: Settings { reference: 1, ..kiln().settings },
         nodes: vec![node("GENR", 0), node("LOAD", kw)],
         circuits,
         stations: vec![station("ST", "GENR", kw)],
-        runs: std::array::from_fn(|_| vec![0; rows]),
-    }
+        runs: Default::default(),
+    };
+    Case { runs: zeros(&case), ..case }
 }
 
 /// UP sends to HUB, the reference, and HUB to DOWN, with so much TEC and demand at UP and DOWN, each in zones of its own.
@@ -189,6 +194,7 @@ pub fn mirrored(case: &Case) -> Case {
     let station = |row: &NodeRow| StationRow { identifier: row.name, node: row.name, plant: 7, tec: row.demand };
     Case {
         version: case.version,
+        edition: case.edition,
         settings: Settings {
             generation_zones: case.settings.demand_zones,
             demand_zones: case.settings.generation_zones,
@@ -244,6 +250,6 @@ fn turn(row: &mut CircuitRow) {
 }
 
 /// Numbers of zero for as many rows as a case has.
-pub fn zeros(case: &Case) -> [Vec<i64>; 3] {
-    std::array::from_fn(|_| vec![0; case.nodes.len() + case.circuits.len()])
+pub fn zeros(case: &Case) -> [Vec<i64>; RUNS] {
+    case.zeros()
 }

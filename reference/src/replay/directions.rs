@@ -33,7 +33,7 @@ fn add_one_thing_changed(list: &mut List) {
     list.solved("TUT1 with 30,000 m from SUBA to SUBB", &tut1, |case| case.circuits[0].overhead = 30_000);
     list.accepted("TUT1 with SUBB and SUBC exchanged", &tut1, |case| {
         case.nodes.swap(1, 2);
-        case.runs.iter_mut().for_each(|run| run.swap(1, 2));
+        case.own_runs_mut().iter_mut().for_each(|run| run.swap(1, 2));
     });
     list.accepted("TUT1_OTHER in version 2", &in_version_2(&named_case("TUT1_OTHER")), |_| ());
 }
@@ -42,7 +42,7 @@ fn add_one_thing_changed(list: &mut List) {
 fn refer_to(case: &mut Case, place: usize) {
     case.settings.reference = place as u32 + 1;
     let nodes = case.nodes.len();
-    for run in &mut case.runs {
+    for run in case.own_runs_mut() {
         let zero = run[place];
         run[..nodes].iter_mut().for_each(|potential| *potential -= zero);
     }

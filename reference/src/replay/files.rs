@@ -1,7 +1,7 @@
 //! Whole files, and files that aren't: 01 "What stops a case", 1.
 
 use super::bases::{circuit, kiln, named_case, node, station, zeros, TEXTS};
-use super::{List, Told, LONGEST, ONE};
+use super::{frames, List, Told, LONGEST, ONE};
 use crate::file::{Case, Trailer, Version, SECTIONS, TRAILER};
 use crate::{largest, text};
 
@@ -50,10 +50,7 @@ fn add_lengths(list: &mut List) {
 
 /// KILN with another trailer.
 fn with_trailer(change: impl Fn(&mut Trailer)) -> Vec<u8> {
-    let case = kiln();
-    let mut trailer = case.trailer();
-    change(&mut trailer);
-    [case.section_bytes(), trailer.bytes()].concat()
+    frames::with_trailer(&kiln(), change)
 }
 
 /// Each of the 16 fields of KILN's trailer one lower and one higher.
@@ -88,14 +85,7 @@ fn add_wrapped_counts(list: &mut List) {
 
 /// KILN with bytes put before a section (7: before the trailer), the offsets and the length told as they are.
 fn with_gap(before: usize, bytes: u32) -> Vec<u8> {
-    let case = kiln();
-    let mut trailer = case.trailer();
-    let mut sections = case.section_bytes();
-    let place = trailer.offsets.get(before).map_or(sections.len(), |offset| *offset as usize);
-    sections.splice(place..place, vec![0; bytes as usize]);
-    trailer.offsets.iter_mut().skip(before).for_each(|offset| *offset += bytes);
-    trailer.length += bytes;
-    [sections, trailer.bytes()].concat()
+    frames::with_gap(&kiln(), before, bytes)
 }
 
 /// Sections that don't follow one another exactly, though every offset is true.
@@ -137,24 +127,20 @@ fn add_counts(list: &mut List) {
         list.refused(format!("{name} one row shorter"), &kiln, |case| case.runs[system].truncate(5), one);
         list.refused(format!("{name} empty"), &kiln, |case| case.runs[system].clear(), one);
     }
-    list.refused("solutions one row longer", &kiln, |case| case.runs.iter_mut().for_each(|run| run.push(0)), one);
+    list.refused(
+        "solutions one row longer",
+        &kiln,
+        |case| case.own_runs_mut().iter_mut().for_each(|run| run.push(0)),
+        one,
+    );
     let lent = |case: &mut Case| (case.runs[0].push(0), case.runs[1].truncate(5)).0;
     list.refused("base one row longer, wider one row shorter", &kiln, lent, one);
-    let settings = |count: u32| {
-        let records = vec![kiln.settings.bytes(); count as usize].concat();
-        let sections = [records, kiln.section_bytes()[64..].to_vec()].concat();
-        let mut trailer = kiln.trailer();
-        trailer.counts[0] = count;
-        trailer.offsets[1..].iter_mut().for_each(|offset| *offset = *offset - 64 + 64 * count);
-        trailer.length = (sections.len() + TRAILER) as u32;
-        [sections, trailer.bytes()].concat()
-    };
-    list.file("settings twice", settings(2), ONE);
-    list.file("no settings", settings(0), ONE);
+    list.file("settings twice", frames::with_settings(&kiln, 2), ONE);
+    list.file("no settings", frames::with_settings(&kiln, 0), ONE);
 }
 
 /// A case of so many rows, lawful each by itself, without demand or TEC and with solutions of zeros.
-fn of_counts(nodes: usize, circuits: usize, stations: usize) -> Case {
+pub(super) fn of_counts(nodes: usize, circuits: usize, stations: usize) -> Case {
     let mut case = Case { settings: named_case("ALONE").settings, ..Case::default() };
     case.nodes = (0..nodes).map(|number| node(&format!("N{number}"), 0)).collect();
     case.circuits = (0..circuits).map(|_| circuit("N0", "N1", 1, 0)).collect();

@@ -278,7 +278,7 @@ fn add_refused(list: &mut List) {
     list.refused("type 3 alone, no demand", &base, no_demand, (7, 0, 0));
     let zeros = |case: &mut Case| {
         make_all_links(case);
-        case.runs.iter_mut().for_each(|run| run.fill(0));
+        case.own_runs_mut().iter_mut().for_each(|run| run.fill(0));
     };
     list.refused("type 3 alone, solutions of zeros", &base, zeros, THIRTEEN);
     for text in ["TUT1", "CUSC1421", "LINKS"] {
@@ -402,7 +402,7 @@ fn add_reference_potentials(list: &mut List) {
 }
 
 /// ALONE with so much demand, stations of these plant types and TECs, so much revenue and p.
-fn alone_with(demand: u32, tec: &[(u32, u32)], revenue: u64, p: u32) -> Case {
+pub(super) fn alone_with(demand: u32, tec: &[(u32, u32)], revenue: u64, p: u32) -> Case {
     let mut case = named_case("ALONE");
     let node = case.nodes[0].name;
     let rows = tec.iter().enumerate();

@@ -6,13 +6,17 @@
 
 pub mod bases;
 
+mod backgrounds;
 mod bands;
 mod chance;
 mod circuits;
 mod directions;
+mod edition_2;
+mod editions;
 mod factors;
 mod figures;
 mod files;
+mod frames;
 mod halves;
 mod interconnectors;
 mod names;
@@ -20,8 +24,11 @@ mod network;
 mod nodes;
 mod orders;
 mod proposals;
+mod scaling;
 mod settings;
 mod stations;
+mod systems;
+mod tariffs;
 mod versions;
 mod walks;
 
@@ -81,6 +88,11 @@ pub fn cases() -> Vec<Labelled> {
         versions::add,
         walks::add,
         directions::add,
+        editions::add,
+        scaling::add,
+        backgrounds::add,
+        systems::add,
+        tariffs::add,
     ];
     let mut list = List::default();
     groups.iter().for_each(|add| add(&mut list));

@@ -45,7 +45,7 @@ fn add_islands(list: &mut List) {
     );
     let alone = |case: &mut Case| {
         case.nodes.push(node("MORE", 0));
-        case.runs.iter_mut().for_each(|run| run.push(0));
+        case.own_runs_mut().iter_mut().for_each(|run| run.push(0));
     };
     list.refused("ALONE with a second node and no circuits", &named_case("ALONE"), alone, (6, 0, 2));
 }

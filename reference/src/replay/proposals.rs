@@ -7,8 +7,8 @@ use crate::file::Case;
 /// The three systems by name, with their places among the runs.
 const SYSTEMS: [(usize, &str); 3] = [(0, "base"), (1, "wider"), (2, "local")];
 /// 01 "Quantities": the greatest magnitudes of potentials by system, and of flows.
-const POTENTIALS: [i64; 3] = [2_000_000_000_000_000_000, 10_000_000_000_000_000, 10_000_000_000_000_000];
-const FLOW: i64 = 100_000_000_000_000;
+pub(super) const POTENTIALS: [i64; 3] = [2_000_000_000_000_000_000, 10_000_000_000_000_000, 10_000_000_000_000_000];
+pub(super) const FLOW: i64 = 100_000_000_000_000;
 
 /// The three systems alike.
 pub fn add(list: &mut List) {
@@ -28,7 +28,7 @@ pub fn add(list: &mut List) {
 
 /// A chain from a station node of 100,000,000 kW past five of 20,000,000 kW demand each. Flows of 10^14, 8 x 10^13, ...,
 /// 2 x 10^13 mW by these x give potentials 2 x 10^18 apart at its ends.
-fn longest_chain(reference: u32) -> Case {
+pub(super) fn longest_chain(reference: u32) -> Case {
     let texts = ["S0", "S1", "S2", "S3", "S4", "S5"];
     let mut case = pair(0, Vec::new());
     case.settings.reference = reference;
@@ -274,8 +274,13 @@ fn add_mixed_up(list: &mut List) {
     list.refused("wider of zeros", &base, |case| case.runs[1].fill(0), (10, 2, 0));
     list.refused("local of zeros", &base, |case| case.runs[2].fill(0), (10, 3, 0));
     list.refused("wider turned round", &base, |case| case.runs[1].iter_mut().for_each(|n| *n = -*n), (10, 2, 0));
-    let all = |case: &mut Case| case.runs.iter_mut().for_each(|run| run.fill(i64::MIN));
+    let all = |case: &mut Case| case.own_runs_mut().iter_mut().for_each(|run| run.fill(i64::MIN));
     list.refused("all solutions the least of 64 bits", &kiln(), all, (8, 1, 1));
     list.refused("all solutions of zeros", &kiln(), |case| case.runs = zeros(case), (9, 1, 1));
-    list.refused("all solutions of -1", &kiln(), |case| case.runs.iter_mut().for_each(|run| run.fill(-1)), (8, 1, 3));
+    list.refused(
+        "all solutions of -1",
+        &kiln(),
+        |case| case.own_runs_mut().iter_mut().for_each(|run| run.fill(-1)),
+        (8, 1, 3),
+    );
 }

@@ -4,6 +4,7 @@ use super::bases::{
     circuit, in_version_2, kiln, kiln_2, kiln_with_a_spur, named_case, node, pair, station, zeros, VERSION_TEXTS,
 };
 use super::factors::{length, NEW_VOLTAGES};
+use super::frames::{with_gap, with_trailer};
 use super::orders::{said, FAULTS};
 use super::{changed, solved, List, Told, ONE};
 use crate::file::{Case, CircuitRow, Trailer, Version, SECTIONS, TRAILER};
@@ -63,7 +64,7 @@ fn add_orders_of_version_2(list: &mut List) {
 }
 
 /// So many circuits side by side, of various lengths, and in version 2 of various factors.
-fn many(circuits: u32, version: Version) -> Case {
+pub(super) fn many(circuits: u32, version: Version) -> Case {
     let row = |number: u32| CircuitRow { cable: number % 7, ..circuit("GENR", "LOAD", 1 + number % 3, number % 11) };
     let mut case = Case { version, ..pair(5_000 * circuits, (0..circuits).map(row).collect()) };
     if version == Version::Two {
@@ -92,13 +93,6 @@ fn add_largest(list: &mut List) {
     let largest = largest::largest_of_version_2();
     list.accepted("LARGEST_2", &largest, |_| ());
     list.refused("LARGEST_2, its last factor 999", &largest, |case| case.circuits[479].factor = 999, (4, 0, 480));
-}
-
-/// A case with another trailer.
-fn with_trailer(case: &Case, change: impl Fn(&mut Trailer)) -> Vec<u8> {
-    let mut trailer = case.trailer();
-    change(&mut trailer);
-    [case.section_bytes(), trailer.bytes()].concat()
 }
 
 /// Versions other than 1 and 2, over rows of both kinds and over none; the low byte alone would mislead.
@@ -198,13 +192,7 @@ fn add_chains(list: &mut List) {
     let places = SECTIONS.into_iter().chain(["the trailer"]).enumerate();
     for (before, name) in places {
         for bytes in [1, 4, 12] {
-            let mut trailer = base.trailer();
-            let mut sections = base.section_bytes();
-            let place = trailer.offsets.get(before).map_or(sections.len(), |offset| *offset as usize);
-            sections.splice(place..place, vec![0; bytes as usize]);
-            trailer.offsets.iter_mut().skip(before).for_each(|offset| *offset += bytes);
-            trailer.length += bytes;
-            let file = [sections, trailer.bytes()].concat();
+            let file = with_gap(&base, before, bytes);
             list.file(format!("version 2: {bytes} bytes before {name}, told"), file, ONE);
         }
     }

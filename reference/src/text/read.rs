@@ -2,7 +2,7 @@
 
 use super::words::{fitting, from_hex, name, split, Word};
 use super::{TextError, SETTINGS, SOLUTIONS};
-use crate::file::{Case, CircuitRow, NodeRow, StationRow, Version, SECTIONS};
+use crate::file::{Case, CircuitRow, Edition, NodeRow, StationRow, Version, SECTIONS_EDITION_2};
 
 /// What a text says beside the case itself, to make files that aren't whole.
 #[derive(Clone, Debug, Default, PartialEq, Eq)]
@@ -12,8 +12,9 @@ pub struct Damage {
     /// The version in the trailer, where it isn't that of the rows.
     pub version: Option<u32>,
     pub length: Option<u32>,
-    pub offsets: [Option<u32>; 7],
-    pub counts: [Option<u32>; 7],
+    /// Of the sections that the edition has.
+    pub offsets: [Option<u32>; 9],
+    pub counts: [Option<u32>; 9],
     /// Last bytes to leave out.
     pub cut: usize,
     /// Bytes behind the trailer.
@@ -43,9 +44,9 @@ pub fn make(text: &[u8]) -> Result<Vec<u8>, Vec<TextError>> {
 /// Solutions whose rows aren't nodes plus circuits, unless the text says `as_is`.
 fn solutions_that_do_not_fit(described: &Described) -> Vec<String> {
     let case = &described.case;
-    let rows = case.nodes.len() + case.circuits.len();
+    let rows = case.rows();
     let free = described.damage.as_is || described.damage.bytes.is_some();
-    let unfit = SOLUTIONS.iter().zip(&case.runs).filter(|(_, run)| !free && run.len() != rows);
+    let unfit = SOLUTIONS.iter().zip(case.own_runs()).filter(|(_, run)| !free && run.len() != rows);
     unfit.map(|(word, run)| format!("{word} has {} rows, nodes and circuits are {rows}", run.len())).collect()
 }
 
@@ -60,7 +61,9 @@ pub fn parse(text: &[u8]) -> Result<Described, Vec<TextError>> {
         faults.extend(read.err().map(|message| TextError { line: reader.number, message }));
     }
     if faults.is_empty() {
+        reader.settle_edition();
         faults.extend(reader.settle_version().err());
+        faults.extend(reader.without_a_section());
         faults.extend(reader.left_out().map(|message| TextError { line: reader.number, message }));
     }
     if faults.is_empty() {
@@ -80,6 +83,8 @@ struct Reader {
     factor: Option<usize>,
     /// The version whose circuit rows are asked for by their bytes.
     rows: Option<Version>,
+    /// The first line of each section that only edition 2 has, and the section.
+    peak: Vec<(usize, String)>,
     /// Words that may stand once, and stood.
     said: Vec<String>,
     /// Some line other than `bytes` was read.
@@ -99,6 +104,7 @@ impl Reader {
             "station" => self.station(fields),
             "revenue" => self.revenue(fields),
             "circuit_bytes" => self.circuit_bytes(fields),
+            "edition" => self.edition(fields),
             _ => self.other(kind, fields),
         }
     }
@@ -166,6 +172,15 @@ impl Reader {
         self.once("circuit_bytes".to_string())
     }
 
+    /// 02, CR 5: the edition, 1 or 2.
+    fn edition(&mut self, fields: &[Word]) -> Result<(), String> {
+        let [number] = exactly(fields, "one number")?;
+        let number: u32 = fitting(number)?;
+        let edition = [Edition::One, Edition::Two].into_iter().find(|edition| edition.number() == number);
+        self.described.case.edition = edition.ok_or("an edition is 1 or 2")?;
+        self.once("edition".to_string())
+    }
+
     /// A setting of 32 bits, a solution row, or a word of damage.
     fn other(&mut self, kind: &str, fields: &[Word]) -> Result<(), String> {
         if let Some((_, place)) = SETTINGS.iter().find(|(word, _)| *word == kind) {
@@ -176,6 +191,7 @@ impl Reader {
         if let Some(solution) = SOLUTIONS.iter().position(|word| *word == kind) {
             let [number] = exactly(fields, "one number")?;
             self.described.case.runs[solution].push(fitting(number)?);
+            self.section(kind);
             return Ok(());
         }
         self.damage(kind, fields)
@@ -201,7 +217,10 @@ impl Reader {
         }
         match (kind, fields) {
             ("tail" | "bytes", _) => Ok(()),
-            ("offset" | "count", [Word::Bare(section), _]) => self.once(format!("{kind} {section}")),
+            ("offset" | "count", [Word::Bare(section), _]) => {
+                self.section(section);
+                self.once(format!("{kind} {section}"))
+            }
             _ => self.once(kind.to_string()),
         }
     }
@@ -215,11 +234,36 @@ impl Reader {
         Ok(())
     }
 
-    /// 02, CR 3: the version by the bytes of rows or by the word `version`, else 2 where a circuit has a factor, else 1.
+    /// Remembers the line of a section that edition 1 doesn't have.
+    fn section(&mut self, section: &str) {
+        let known = |name: &str| Edition::One.sections().contains(&name);
+        if !known(section) && self.peak.iter().all(|(_, other)| other != section) {
+            self.peak.push((self.number, section.to_string()));
+        }
+    }
+
+    /// 02, CR 5: sections that a text speaks of and its edition doesn't have.
+    fn without_a_section(&self) -> Vec<TextError> {
+        let edition = self.described.case.edition;
+        let absent = self.peak.iter().filter(|(_, section)| !edition.sections().contains(&section.as_str()));
+        let message = |section| format!("edition {} has no section {section}", edition.number());
+        absent.map(|(line, section)| TextError { line: *line, message: message(section) }).collect()
+    }
+
+    /// 02, CR 5: "The settings' zero names the edition", but where the text says another number.
+    fn settle_edition(&mut self) {
+        if !self.said.iter().any(|word| word == "zero") {
+            self.described.case.settings.zero = self.described.case.edition.zero();
+        }
+    }
+
+    /// 02, CR 3: the version by the bytes of rows or by the word `version`, else 2 where a circuit has a factor, else 1. 02,
+    /// CR 5: edition 2 is "in version 2 files".
     fn settle_version(&mut self) -> Result<(), TextError> {
         let said = self.described.damage.version;
-        let by_factors = if self.factor.is_some() { Version::Two } else { Version::One };
-        let version = self.rows.or(said.and_then(Version::of)).unwrap_or(by_factors);
+        let two = self.factor.is_some() || self.described.case.edition == Edition::Two;
+        let unsaid = if two { Version::Two } else { Version::One };
+        let version = self.rows.or(said.and_then(Version::of)).unwrap_or(unsaid);
         self.described.case.version = version;
         self.described.damage.version = said.filter(|number| *number != version.number());
         match (version, self.factor) {
@@ -248,8 +292,8 @@ fn exactly<'a, const N: usize>(fields: &'a [Word], wanted: &str) -> Result<&'a [
 
 /// A section's place by its name.
 fn section_place(word: &Word) -> Result<usize, String> {
-    let place = SECTIONS.iter().position(|section| *word == Word::Bare(section.to_string()));
-    place.ok_or_else(|| "a section is settings, nodes, circuits, stations, base, wider or local".to_string())
+    let place = SECTIONS_EDITION_2.iter().position(|section| *word == Word::Bare(section.to_string()));
+    place.ok_or_else(|| format!("a section is one of {}", SECTIONS_EDITION_2.join(", ")))
 }
 
 impl Described {
@@ -260,7 +304,7 @@ impl Described {
             return bytes.clone();
         }
         let mut trailer = self.case.trailer();
-        for place in 0..7 {
+        for place in 0..trailer.offsets.len() {
             trailer.offsets[place] = damage.offsets[place].unwrap_or(trailer.offsets[place]);
             trailer.counts[place] = damage.counts[place].unwrap_or(trailer.counts[place]);
         }

@@ -15,38 +15,48 @@ pub fn show(file: &[u8]) -> String {
     }
 }
 
-/// Ways to read a file, the likeliest first: by the rows of the trailer's version, with a tail, by the other rows.
-fn ways(file: &[u8]) -> [Option<Described>; 5] {
-    let [rows, other] = match Trailer::read(file).and_then(|trailer| Version::of(trailer.version)) {
-        Some(Version::Two) => [Version::Two, Version::One],
-        Some(Version::One) | None => [Version::One, Version::Two],
+/// Ways to read a file, the likeliest first: by the sections of the edition that its settings name and by the rows of the
+/// trailer's version, with a tail, by the other rows; then by the other edition's sections.
+fn ways(file: &[u8]) -> Vec<Option<Described>> {
+    let editions = match named_edition(file) {
+        Some(Edition::Two) => [Edition::Two, Edition::One],
+        Some(Edition::One) | None => [Edition::One, Edition::Two],
     };
-    [by_counts(file, rows), by_offsets(file, rows), with_tail(file), by_counts(file, other), by_offsets(file, other)]
+    let of_edition = |edition: Edition| {
+        let [rows, other] = match Trailer::read_in(file, edition).and_then(|trailer| Version::of(trailer.version)) {
+            Some(Version::Two) => [Version::Two, Version::One],
+            Some(Version::One) | None => [Version::One, Version::Two],
+        };
+        let by = |version| [by_counts(file, version, edition), by_offsets(file, version, edition)];
+        [by(rows), by(other)].into_iter().flatten()
+    };
+    let mut ways: Vec<Option<Described>> = editions.into_iter().flat_map(of_edition).collect();
+    ways.insert(2, with_tail(file));
+    ways
 }
 
 /// The case by the trailer's counts, one section after another.
-fn by_counts(file: &[u8], version: Version) -> Option<Described> {
-    let trailer = Trailer::read(file)?;
-    let sections = &file[..file.len() - TRAILER];
-    let case = Case::read(sections, version, trailer.counts.map(|count| count as usize))?;
-    Some(with_damage(case, &trailer))
+fn by_counts(file: &[u8], version: Version, edition: Edition) -> Option<Described> {
+    let trailer = Trailer::read_in(file, edition)?;
+    let sections = &file[..file.len() - edition.trailer_size()];
+    let counts: Vec<usize> = trailer.counts.iter().map(|count| *count as usize).collect();
+    Case::read(sections, version, edition, &counts).map(|case| with_damage(case, &trailer))
 }
 
 /// The case by the trailer's offsets: a section ends where the next begins.
-fn by_offsets(file: &[u8], version: Version) -> Option<Described> {
-    let trailer = Trailer::read(file)?;
-    let end = file.len() - TRAILER;
+fn by_offsets(file: &[u8], version: Version, edition: Edition) -> Option<Described> {
+    let trailer = Trailer::read_in(file, edition)?;
+    let end = file.len() - edition.trailer_size();
     let ends = trailer.offsets.iter().skip(1).map(|offset| *offset as usize).chain([end]);
-    let mut counts = [0; 7];
-    for (place, (end, size)) in ends.zip(version.sizes()).enumerate() {
-        counts[place] = end.checked_sub(trailer.offsets[place] as usize)? / size;
-    }
-    Case::read(&file[..end], version, counts).map(|case| with_damage(case, &trailer))
+    let sections = trailer.offsets.iter().zip(ends).zip(edition.sizes(version));
+    let count = |((start, end), size): ((&u32, usize), usize)| Some(end.checked_sub(*start as usize)? / size);
+    let counts = sections.map(count).collect::<Option<Vec<usize>>>()?;
+    Case::read(&file[..end], version, edition, &counts).map(|case| with_damage(case, &trailer))
 }
 
 /// A whole file with further bytes behind it.
 fn with_tail(file: &[u8]) -> Option<Described> {
-    let ends = (2 * TRAILER..file.len()).filter(|end| u32_at(file, end - 4) as usize == *end);
+    let ends = (SHORTEST..file.len()).filter(|end| u32_at(file, end - 4) as usize == *end);
     let case = ends.map(|end| (end, whole_case(&file[..end]))).find(|(_, case)| case.is_some());
     let (end, case) = case?;
     Some(Described { case: case?, damage: Damage { tail: file[end..].to_vec(), ..Damage::default() } })
@@ -56,13 +66,15 @@ fn with_tail(file: &[u8]) -> Option<Described> {
 fn with_damage(case: Case, found: &Trailer) -> Described {
     let own = case.trailer();
     let other = |found: u32, own: u32| (found != own).then_some(found);
-    let rows = case.nodes.len() + case.circuits.len();
+    let others = |found: &[u32], own: &[u32]| {
+        std::array::from_fn(|place| found.get(place).zip(own.get(place)).and_then(|(found, own)| other(*found, *own)))
+    };
     let damage = Damage {
-        as_is: case.runs.iter().any(|run| run.len() != rows),
+        as_is: case.own_runs().iter().any(|run| run.len() != case.rows()),
         version: other(found.version, own.version),
         length: other(found.length, own.length),
-        offsets: std::array::from_fn(|place| other(found.offsets[place], own.offsets[place])),
-        counts: std::array::from_fn(|place| other(found.counts[place], own.counts[place])),
+        offsets: others(&found.offsets, &own.offsets),
+        counts: others(&found.counts, &own.counts),
         ..Damage::default()
     };
     Described { case, damage }
@@ -72,30 +84,35 @@ fn with_damage(case: Case, found: &Trailer) -> Described {
 fn shown(described: &Described) -> String {
     let case = &described.case;
     let mut text = version_lines(described);
-    text += &settings_lines(&case.settings);
+    text += &settings_lines(&case.settings, case.edition);
     text += &table_lines(case);
     text += &solution_lines(case);
     text + &damage_lines(&described.damage)
 }
 
-/// 02, CR 3: the version where it isn't 1, and the bytes of a circuit row where they aren't that version's.
+/// 02, CR 5: the edition where it isn't 1. 02, CR 3: the version where it isn't 1, and the bytes of a circuit row where they
+/// aren't that version's.
 fn version_lines(described: &Described) -> String {
-    let rows = described.case.version;
+    let Case { version: rows, edition, .. } = described.case;
     let number = described.damage.version.unwrap_or(rows.number());
-    match Version::of(number) {
+    let version = match Version::of(number) {
         Some(version) if version != rows => format!("version {number}\ncircuit_bytes {}\n", rows.circuit_size()),
-        Some(Version::One) => String::new(),
-        Some(Version::Two) | None => format!("version {number}\n"),
+        Some(Version::One) if edition == Edition::One => String::new(),
+        Some(_) | None => format!("version {number}\n"),
+    };
+    match edition {
+        Edition::One => version,
+        Edition::Two => format!("edition {}\n{version}", edition.number()),
     }
 }
 
-/// 01 "The case file", settings: one line each, `zero` only where it isn't 0.
-fn settings_lines(settings: &Settings) -> String {
+/// 01 "The case file", settings: one line each, `zero` only where it isn't the edition's.
+fn settings_lines(settings: &Settings, edition: Edition) -> String {
     let mut settings = settings.clone();
     let mut text = String::new();
     for (word, place) in SETTINGS {
         let number = *place(&mut settings);
-        if word != "zero" || number != 0 {
+        if word != "zero" || number != edition.zero() {
             text += &format!("{word} {number}\n");
         }
     }
@@ -131,7 +148,7 @@ pub fn solution_lines(case: &Case) -> String {
         case.circuits.iter().map(|row| format!("flow {} {}", shown_name(&row.first), shown_name(&row.second)));
     let rows: Vec<String> = nodes.chain(circuits).collect();
     let mut text = String::new();
-    for (word, run) in SOLUTIONS.iter().zip(&case.runs) {
+    for (word, run) in SOLUTIONS.iter().zip(case.own_runs()) {
         text += "\n";
         for (place, number) in run.iter().enumerate() {
             text += &format!("{word} {number} # {}\n", rows.get(place).map_or("no row", String::as_str));
@@ -149,7 +166,7 @@ fn damage_lines(damage: &Damage) -> String {
         }
     };
     say("length".to_string(), damage.length);
-    for (place, section) in SECTIONS.iter().enumerate() {
+    for (place, section) in SECTIONS_EDITION_2.iter().enumerate() {
         say(format!("offset {section}"), damage.offsets[place]);
         say(format!("count {section}"), damage.counts[place]);
     }
@@ -184,9 +201,10 @@ fn suggested_lines(file: &[u8]) -> String {
 }
 
 /// Settings from the first 64 bytes, then rows as long as they have the shape of a node, a circuit, a station, then
-/// numbers of 64 bits as long as the three solutions have rows.
+/// numbers of 64 bits as long as the solutions have rows.
 fn suggested_case(file: &[u8], version: Version) -> Case {
-    let mut case = Case { version, settings: Settings::read(file), ..Case::default() };
+    let edition = named_edition(file).unwrap_or_default();
+    let mut case = Case { version, edition, settings: Settings::read(file), ..Case::default() };
     let mut rest = &file[64..];
     case.nodes = rows_of_shape(&mut rest, 24, |row| !name_shaped(row, 12)).into_iter().map(NodeRow::read).collect();
     let circuit = |row: &[u8]| name_shaped(row, 12) && [132, 275, 320, 400, 525].contains(&u32_at(row, 24));
@@ -194,8 +212,8 @@ fn suggested_case(file: &[u8], version: Version) -> Case {
     case.circuits = circuits.into_iter().map(|row| CircuitRow::read(row, version)).collect();
     let station = |row: &[u8]| name_shaped(row, 12) && (1..=7).contains(&u32_at(row, 24));
     case.stations = rows_of_shape(&mut rest, 32, station).into_iter().map(StationRow::read).collect();
-    let rows = case.nodes.len() + case.circuits.len();
-    for run in &mut case.runs {
+    let rows = case.rows();
+    for run in case.own_runs_mut() {
         *run = rest.chunks_exact(8).take(rows).map(|number| i64_at(number, 0)).collect();
         rest = &rest[8 * run.len()..];
     }

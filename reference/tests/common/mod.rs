@@ -51,7 +51,7 @@ pub fn accepted(case: &Case, change: impl Fn(&mut Case)) -> String {
 
 /// The library's answer on a case's own runs.
 pub fn judged(case: &Case) -> Result<Vec<u8>, reference::Refusal> {
-    judge_case(&case.bytes(), [&case.runs[0], &case.runs[1], &case.runs[2]])
+    judge_case(&case.bytes(), case.lent())
 }
 
 /// Settings of KILN's kind.
