@@ -1,8 +1,9 @@
 /* Calls the library for another program, one request after another, each in memory where nothing beside what is lent can be touched.
  *
- * A request: seven u32 (where the blocks stand; what the buffers are filled from; the counts of file, base, wider, local and sheet),
- * the file's bytes, the three runs. What comes back: the result of wirepulley_judge and its numbers, the result of
- * wirepulley_write and its numbers, and the sheet's buffer whole. All little-endian.
+ * A request: nine u32 (where the blocks stand; what the buffers are filled from; the counts of file, base, wider, local, peak base, peak
+ * wider and sheet), the file's bytes, the five runs. What comes back: the result of wirepulley_judge_five and its numbers, the result of
+ * wirepulley_write_five and its numbers, and the sheet's buffer whole; then the same of wirepulley_judge and wirepulley_write, which are
+ * lent the first three runs. All little-endian.
  *
  * Each block ends where a page begins that may not be touched (where = 0), or starts where one ends (where = 1). What is only read is
  * lent through a view that may not be written, and what is empty by NULL (where = 1). A call that touches more ends this program by a
@@ -17,7 +18,7 @@
 #include "../clients/c/wirepulley.h"
 
 enum { PAGE = 4096 };
-enum { CASE, BASE, WIDER, LOCAL, SHEET, COUNTED, ANSWER = COUNTED, BLOCKS };
+enum { CASE, BASE, WIDER, LOCAL, PEAK_BASE, PEAK_WIDER, SHEET, COUNTED, ANSWER = COUNTED, BLOCKS };
 
 /* A block's memory: what the library is lent, and where this program writes to it and reads from it. */
 struct block {
@@ -26,8 +27,8 @@ struct block {
 };
 
 static struct block blocks[BLOCKS];
-static const size_t MOST[BLOCKS] = {262144, 65536, 65536, 65536, 65536, PAGE};
-static const size_t WIDTH[BLOCKS] = {1, 8, 8, 8, 1, 8};
+static const size_t MOST[BLOCKS] = {262144, 65536, 65536, 65536, 65536, 65536, 65536, PAGE};
+static const size_t WIDTH[BLOCKS] = {1, 8, 8, 8, 8, 8, 1, 8};
 
 static void fail(const char *what) {
     perror(what);
@@ -89,21 +90,27 @@ static int take_blocks(const uint32_t *count, uint32_t where) {
     return 1;
 }
 
-/* Both entries on what is lent. */
-static void call(const uint32_t *n, uint32_t where, uint32_t fill) {
+/* Tells what a call left behind. */
+static void give_answer(uint64_t result, uint32_t where) {
+    give(&result, sizeof result);
+    give(ours(ANSWER, where), blocks[ANSWER].size);
+}
+
+/* Both entries of one form, that of five runs or that of three, on what is lent. */
+static void call(const uint32_t *n, uint32_t where, uint32_t fill, int five) {
     const uint8_t *file = lent(CASE, where);
-    const int64_t *base = (int64_t *)lent(BASE, where), *wider = (int64_t *)lent(WIDER, where), *local = (int64_t *)lent(LOCAL, where);
+    const int64_t *run[PEAK_WIDER + 1];
+    for (unsigned k = BASE; k <= PEAK_WIDER; k++)
+        run[k] = (int64_t *)lent(k, where);
     uint64_t *answer = (uint64_t *)lent(ANSWER, where);
+#define THREE_RUNS file, n[CASE], run[BASE], n[BASE], run[WIDER], n[WIDER], run[LOCAL], n[LOCAL]
+#define FIVE_RUNS THREE_RUNS, run[PEAK_BASE], n[PEAK_BASE], run[PEAK_WIDER], n[PEAK_WIDER]
     fill_buffers(where, fill);
-    uint64_t result = wirepulley_judge(file, n[CASE], base, n[BASE], wider, n[WIDER], local, n[LOCAL], answer);
-    give(&result, sizeof result);
-    give(ours(ANSWER, where), blocks[ANSWER].size);
+    give_answer(five ? wirepulley_judge_five(FIVE_RUNS, answer) : wirepulley_judge(THREE_RUNS, answer), where);
     fill_buffers(where, fill);
-    result = wirepulley_write(file, n[CASE], base, n[BASE], wider, n[WIDER], local, n[LOCAL], lent(SHEET, where), n[SHEET], answer);
-    give(&result, sizeof result);
-    give(ours(ANSWER, where), blocks[ANSWER].size);
+    uint8_t *sheet = lent(SHEET, where);
+    give_answer(five ? wirepulley_write_five(FIVE_RUNS, sheet, n[SHEET], answer) : wirepulley_write(THREE_RUNS, sheet, n[SHEET], answer), where);
     give(ours(SHEET, where), blocks[SHEET].size);
-    fflush(stdout);
 }
 
 int main(void) {
@@ -115,7 +122,9 @@ int main(void) {
             fputs("caller: a request is too long or cut short\n", stderr);
             return 2;
         }
-        call(head + 2, head[0], head[1]);
+        call(head + 2, head[0], head[1], 1);
+        call(head + 2, head[0], head[1], 0);
+        fflush(stdout);
     }
     return 0;
 }

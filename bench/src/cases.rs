@@ -1,7 +1,7 @@
 //! Cases of chosen counts, accepted and refused, through the reference's maker and solver.
 
-use reference::file::{padded, Case, CircuitRow, NodeRow, StationRow};
-use reference::largest::{largest, largest_of_version_2};
+use reference::file::{padded, Case, CircuitRow, Edition, NodeRow, Settings, StationRow};
+use reference::largest::{largest, largest_of_edition_2, largest_of_version_2};
 use reference::solver::solved;
 use wirepulley::Solutions;
 
@@ -23,7 +23,7 @@ impl Input {
     }
 }
 
-/// Whether the two in Rust know a file's edition, which the settings' zero names (02, CR 5): 2 is the one that they don't.
+/// Whether the two frozen ones know a file's edition, which the settings' zero names (02, CR 5): 2 is the one that they don't.
 /// Any other number but 0 is refused as 1, by them too.
 pub fn known(file: &[u8]) -> bool {
     file.get(52..56) != Some(&2u32.to_le_bytes()[..])
@@ -37,6 +37,17 @@ pub fn greatest() -> Case {
 /// The largest case of version 2: 480 circuits, most of them with factors.
 pub fn greatest_of_version_2() -> Case {
     largest_of_version_2()
+}
+
+/// The largest case of edition 2: 320 circuits.
+pub fn greatest_of_edition_2() -> Case {
+    largest_of_edition_2()
+}
+
+/// The tables of that one in edition 1, solved for it.
+pub fn greatest_of_edition_2_in_edition_1() -> Case {
+    let case = largest_of_edition_2();
+    without_doubt(Case { edition: Edition::One, settings: Settings { zero: 0, ..case.settings }, ..case })
 }
 
 /// The name of a node: twelve letters that differ late.
@@ -59,7 +70,7 @@ pub fn sized(nodes: usize, circuits: usize, stations: usize) -> Case {
                 ..pattern.stations[k].clone()
             })
             .collect(),
-        settings: reference::file::Settings { reference: 1, ..pattern.settings },
+        settings: Settings { reference: 1, ..pattern.settings },
         ..pattern
     };
     without_doubt(case)
@@ -120,31 +131,58 @@ fn shuffle(rows: &mut [CircuitRow]) {
 
 /// The largest case with one thing wrong, for each stage, late in its table: a label, and what is lent.
 pub fn refused() -> Vec<(&'static str, Input)> {
-    let whole = Input::of(&largest());
-    let table = |label, change: fn(&mut Case)| {
-        let mut case = largest();
-        change(&mut case);
-        (label, Input::of(&case))
-    };
-    let number = |label, place: fn(&mut Solutions) -> &mut i64, value: i64| {
-        let mut input = whole.clone();
-        *place(&mut input.runs) += value;
-        (label, input)
-    };
+    let case = largest();
+    let whole = Input::of(&case);
+    let table = |change| with_table(&case, change);
+    let number = |place, by| with_number(&whole, place, by);
     let mut short = whole.clone();
     short.file.truncate(1000);
     vec![
         ("1, file cut", short),
-        ("2, a setting", table("", |case| case.settings.p = 1001).1),
-        ("3, first node", table("", |case| case.nodes[0].generation_zone = 0).1),
-        ("3, last node's name", table("", |case| case.nodes[255].name = case.nodes[0].name).1),
-        ("4, last circuit", table("", |case| case.circuits[511].first = padded(b"NOWHERE")).1),
-        ("5, last identifier", table("", |case| case.stations[511].identifier = case.stations[0].identifier).1),
-        ("7, totals", table("", |case| case.stations[511].tec = 20_000_000).1),
-        number("8, base, last", |runs| &mut runs.base[767], i64::MAX / 2),
-        number("9, base, last node", |runs| &mut runs.base[767], 1),
-        number("10, base", |runs| &mut runs.base[0], 1_000_000_000),
-        number("9, local, last node", |runs| &mut runs.local[767], 1),
-        number("10, local", |runs| &mut runs.local[0], 1_000_000_000),
+        ("2, a setting", table(|case| case.settings.p = 1001)),
+        ("3, first node", table(|case| case.nodes[0].generation_zone = 0)),
+        ("3, last node's name", table(|case| case.nodes[255].name = case.nodes[0].name)),
+        ("4, last circuit", table(|case| case.circuits[511].first = padded(b"NOWHERE"))),
+        ("5, last identifier", table(|case| case.stations[511].identifier = case.stations[0].identifier)),
+        ("7, totals", table(|case| case.stations[511].tec = 20_000_000)),
+        ("8, base, last", number(|runs| &mut runs.base[767], i64::MAX / 2)),
+        ("9, base, last node", number(|runs| &mut runs.base[767], 1)),
+        ("10, base", number(|runs| &mut runs.base[0], 1_000_000_000)),
+        ("9, local, last node", number(|runs| &mut runs.local[767], 1)),
+        ("10, local", number(|runs| &mut runs.local[0], 1_000_000_000)),
     ]
+}
+
+/// The same of edition 2, by what it adds.
+pub fn refused_of_edition_2() -> Vec<(&'static str, Input)> {
+    let case = largest_of_edition_2();
+    let whole = Input::of(&case);
+    let number = |place, by| with_number(&whole, place, by);
+    let mut without_peak = whole.clone();
+    without_peak.runs.peak_wider.clear();
+    let intermittent = |case: &mut Case| case.stations.iter_mut().for_each(|row| row.plant = 1);
+    vec![
+        ("1, no run for peak", without_peak),
+        ("14, all intermittent", with_table(&case, intermittent)),
+        ("8, peak base, last", number(|runs| &mut runs.peak_base[575], i64::MAX / 2)),
+        ("9, peak base, last node", number(|runs| &mut runs.peak_base[575], 1)),
+        ("10, peak base", number(|runs| &mut runs.peak_base[0], 1_000_000_000)),
+        ("9, peak wider, last node", number(|runs| &mut runs.peak_wider[575], 1)),
+        ("10, peak wider", number(|runs| &mut runs.peak_wider[0], 1_000_000_000)),
+        ("10, local", number(|runs| &mut runs.local[0], 1_000_000_000)),
+    ]
+}
+
+/// A case with its tables changed, and the runs as they were.
+fn with_table(case: &Case, change: fn(&mut Case)) -> Input {
+    let mut case = case.clone();
+    change(&mut case);
+    Input::of(&case)
+}
+
+/// What is lent with one number of its runs changed.
+fn with_number(whole: &Input, place: fn(&mut Solutions) -> &mut i64, by: i64) -> Input {
+    let mut input = whole.clone();
+    *place(&mut input.runs) += by;
+    input
 }

@@ -1,6 +1,7 @@
-//! The proved library, a Rust twin of it and a textbook Rust, timed in turn in one run. Started by `./do bench`.
+//! The proved library, two Rust twins of it and a textbook Rust, timed in turn in one run. Started by `./do bench`.
 //!
-//! The two in Rust are frozen: they know 01 with requests 1 to 4 of 02, and learn no later one.
+//! The first twin and the textbook are frozen: they know 01 with requests 1 to 4 of 02, and learn no later one. The second twin, of the form that the
+//! proved code has since request 5, knows both editions.
 
 mod answer;
 mod cases;
@@ -9,129 +10,181 @@ mod stack;
 mod textbook;
 mod timing;
 mod twin;
+mod twin_2;
 
 use answer::Answer;
 use cases::Input;
 use std::hint::black_box;
 use std::time::Duration;
 use timing::{interleaved, Times};
+use wirepulley::Solutions;
 
 #[global_allocator]
 static HEAP: heap::Counting = heap::Counting;
 
-type Entry = fn(&Input, &mut [u8]) -> Answer;
+/// Room for any sheet.
+const ROOM: usize = 16384;
 
-/// The proved library takes what its client lends it, the two in Rust the three runs that they know.
-const ENTRIES: [(&str, Entry); 3] = [
-    ("ours", |Input { file, runs }, out| runs.with(file).answer(out)),
-    ("twin", |Input { file, runs }, out| twin::write(file, &runs.base, &runs.wider, &runs.local, out)),
-    ("textbook", |Input { file, runs }, out| textbook::write(file, &runs.base, &runs.wider, &runs.local, out)),
+/// Cases of edition 2 by chance, each whole and spoiled.
+const CHANCES: u64 = 300;
+
+/// What is timed: its name, the files that it knows, and its call.
+struct Entry {
+    name: &'static str,
+    knows: fn(&[u8]) -> bool,
+    write: fn(&Input, &mut [u8]) -> Answer,
+}
+
+/// The proved library takes what its client lends it, the frozen ones the three runs that they know.
+const ENTRIES: [Entry; 4] = [
+    Entry { name: "ours", knows: |_| true, write: |Input { file, runs }, out| runs.with(file).answer(out) },
+    Entry {
+        name: "twin",
+        knows: cases::known,
+        write: |Input { file, runs }, out| twin::write(file, &runs.base, &runs.wider, &runs.local, out),
+    },
+    Entry {
+        name: "textbook",
+        knows: cases::known,
+        write: |Input { file, runs }, out| textbook::write(file, &runs.base, &runs.wider, &runs.local, out),
+    },
+    Entry {
+        name: "twin_2",
+        knows: |_| true,
+        write: |Input { file, runs: Solutions { base, wider, local, peak_base, peak_wider } }, out| {
+            twin_2::write(file, twin_2::Runs { base, wider, local, peak_base, peak_wider }, out)
+        },
+    },
 ];
 
-/// One call, into a buffer that holds any sheet.
-fn call(entry: Entry, input: &Input, out: &mut [u8]) -> Answer {
-    entry(black_box(input), out)
-}
-
-/// All three answer alike and leave the same bytes; what they answer.
-fn agreed(input: &Input, room: usize) -> (Answer, Vec<u8>) {
-    assert!(cases::known(&input.file), "a case that the two in Rust do not know");
-    let answered = ENTRIES.map(|(_, entry)| {
-        let mut out = vec![b'.'; room];
-        let answer = call(entry, input, &mut out);
-        (answer, out)
-    });
-    let [ours, twin, textbook] = answered;
-    assert_eq!(ours.0, twin.0);
-    assert_eq!(ours.0, textbook.0);
-    assert!(ours.1 == twin.1 && ours.1 == textbook.1, "the buffers differ");
-    ours
-}
-
-/// The stored cases of the replay, whole and damaged: on those that the two in Rust know, all three answer as the reference does. How many these are,
-/// and how many the others.
-fn agree_on_stored_cases() -> (usize, usize) {
-    let files = reference::replay::cases().into_iter().map(|case| case.file);
-    let (known, others): (Vec<_>, Vec<_>) = files.partition(|file| cases::known(file));
-    for file in &known {
-        let (answer, out) = agreed(&Input::read(file.clone()), 16384);
-        let printed = match answer.number {
-            0 => out[..answer.length as usize].to_vec(),
-            _ => format!("refused {} {} {}\n", answer.number, answer.system, answer.row).into_bytes(),
-        };
-        assert_eq!(printed, reference::program_output(file));
+impl Entry {
+    /// One call, into a buffer that holds any sheet.
+    fn call(&self, input: &Input, out: &mut [u8]) -> Answer {
+        (self.write)(black_box(input), out)
     }
-    (known.len(), others.len())
 }
 
-/// Times of all three on a case. The buffer is not cleared between calls; file and runs stay as they are.
-fn timed(input: &Input, long: Duration) -> Vec<Times> {
-    let mut outs = vec![vec![0; 16384]; 3];
-    let mut calls: Vec<_> = ENTRIES
+/// Those that know a file.
+fn knowing(file: &[u8]) -> Vec<&'static Entry> {
+    ENTRIES.iter().filter(|entry| (entry.knows)(file)).collect()
+}
+
+/// All that know a case answer alike and leave the same bytes; what they answer.
+fn agreed(input: &Input) -> (Answer, Vec<u8>) {
+    let mut answered = knowing(&input.file).into_iter().map(|entry| {
+        let mut out = vec![b'.'; ROOM];
+        (entry.name, entry.call(input, &mut out), out)
+    });
+    let (_, answer, out) = answered.next().expect("ours knows every file");
+    for (name, other, bytes) in answered {
+        assert_eq!(answer, other, "ours and {name}");
+        assert!(out == bytes, "the buffers of ours and {name} differ");
+    }
+    (answer, out)
+}
+
+/// All that know a file answer it, with its own runs, as the reference does.
+fn agree_with_the_reference(file: &[u8]) {
+    let (answer, out) = agreed(&Input::read(file.to_vec()));
+    let printed = match answer.number {
+        0 => out[..answer.length as usize].to_vec(),
+        _ => format!("refused {} {} {}\n", answer.number, answer.system, answer.row).into_bytes(),
+    };
+    assert_eq!(printed, reference::program_output(file));
+}
+
+/// The stored cases of the replay, whole and damaged: who was compared on how many, and why others are left out.
+fn agree_on_stored_cases() {
+    let files: Vec<Vec<u8>> = reference::replay::cases().into_iter().map(|case| case.file).collect();
+    files.iter().for_each(|file| agree_with_the_reference(file));
+    println!("agreed with the reference on stored cases, of {}:", files.len());
+    for entry in &ENTRIES {
+        let known = files.iter().filter(|file| (entry.knows)(file)).count();
+        print!("{:<10} {known:>5}", entry.name);
+        match files.len() - known {
+            0 => println!(),
+            others => println!("; left out: {others}, those of edition 2 (settings' zero 2), which it does not know"),
+        }
+    }
+}
+
+/// Cases of edition 2 by chance, whole and spoiled.
+fn agree_by_chance() {
+    for seed in 1..=CHANCES {
+        let case = reference::random::random_of_edition_2(seed, 40);
+        agree_with_the_reference(&case.bytes());
+        agree_with_the_reference(&reference::random::spoiled(&case, seed).bytes());
+    }
+    println!("and ours and twin_2 on {CHANCES} cases of edition 2 by chance, each whole and spoiled");
+}
+
+/// Times of those that know a case, in their order. The buffer is not cleared between calls; file and runs stay as they are.
+fn timed(input: &Input, long: Duration) -> Vec<(&'static str, Times)> {
+    let entries = knowing(&input.file);
+    let mut outs = vec![vec![0; ROOM]; entries.len()];
+    let mut calls: Vec<_> = entries
         .iter()
         .zip(&mut outs)
-        .map(|((_, entry), out)| {
+        .map(|(entry, out)| {
             move || {
-                black_box(call(*entry, input, out));
+                black_box(entry.call(input, out));
             }
         })
         .collect();
     let mut calls: Vec<&mut dyn FnMut()> = calls.iter_mut().map(|call| call as &mut dyn FnMut()).collect();
-    interleaved(&mut calls, long)
+    let times = interleaved(&mut calls, long);
+    entries.iter().map(|entry| entry.name).zip(times).collect()
 }
 
-/// A line of the growth and refusal tables: the least times and the ratios.
+/// A line of the growth and refusal tables: the least times, and the ratios of ours to the others; `-` for those that do not know the case.
 fn line(label: &str, input: &Input) {
-    let (answer, _) = agreed(input, 16384);
-    let [ours, twin, textbook] = timed(input, Duration::from_millis(300))[..] else { unreachable!() };
-    println!(
-        "{label:<28} {:>3} {:>9.1} {:>9.1} {:>9.1} {:>9.2} {:>9.2}",
-        answer.number,
-        ours.least,
-        twin.least,
-        textbook.least,
-        ours.least / twin.least,
-        ours.least / textbook.least
-    );
+    let (answer, _) = agreed(input);
+    let times = timed(input, Duration::from_millis(300));
+    let least = |name: &str| times.iter().find(|(other, _)| *other == name).map(|(_, times)| times.least);
+    let shown = |number: Option<f64>, digits: usize| number.map_or("-".into(), |number| format!("{number:.digits$}"));
+    print!("{label:<28} {:>3}", answer.number);
+    ENTRIES.iter().for_each(|entry| print!(" {:>9}", shown(least(entry.name), 1)));
+    let ours = times[0].1.least;
+    ENTRIES[1..].iter().for_each(|entry| print!(" {:>10}", shown(least(entry.name).map(|other| ours / other), 2)));
+    println!();
 }
 
 fn heading(what: &str) {
-    println!(
-        "\n{what:<28} {:>3} {:>9} {:>9} {:>9} {:>9} {:>9}",
-        "no.", "ours", "twin", "textbook", "/ twin", "/ textb."
-    );
+    print!("\n{what:<28} no.");
+    ENTRIES.iter().for_each(|entry| print!(" {:>9}", entry.name));
+    ENTRIES[1..].iter().for_each(|entry| print!(" {:>10}", format!("/ {}", entry.name)));
+    println!();
 }
 
-/// The largest case, at length.
-fn largest(input: &Input, seconds: u64) {
-    let (answer, _) = agreed(input, 16384);
-    println!(
-        "largest case: 256 nodes, 512 circuits, 512 stations, 32 + 32 zones; sheet of {} bytes; microseconds a call\n",
-        answer.length
-    );
+/// A largest case, at length.
+fn largest(label: &str, input: &Input, seconds: u64) {
+    let (answer, _) = agreed(input);
+    println!("\n{label}; sheet of {} bytes; microseconds a call\n", answer.length);
     let times = timed(input, Duration::from_secs(seconds));
     println!("{:<10} {:>9} {:>9} {:>12} {:>12}", "", "least", "middle", "least/ours", "middle/ours");
-    for ((name, _), t) in ENTRIES.iter().zip(&times) {
-        let (a, b) = (t.least / times[0].least, t.middle / times[0].middle);
+    let ours = times[0].1;
+    for (name, t) in &times {
+        let (a, b) = (t.least / ours.least, t.middle / ours.middle);
         println!("{name:<10} {:>9.1} {:>9.1} {a:>12.2} {b:>12.2}", t.least, t.middle);
     }
-    let (twin, textbook) = (times[0].middle / times[1].middle, times[0].middle / times[2].middle);
-    println!(
-        "\nours / twin {twin:.2} (goal: at most 1), ours / textbook {textbook:.2} (goal: at most 0.5), by the middle"
-    );
+    println!();
+    for (name, t) in &times[1..] {
+        let goal = if *name == "textbook" { 0.5 } else { 1.0 };
+        println!("ours / {name} {:.2} (goal: at most {goal}), by the middle", ours.middle / t.middle);
+    }
 }
 
 fn memory(input: &Input) {
-    println!("\nmemory of one call on the largest case");
-    for (name, entry) in ENTRIES {
-        let mut out = vec![0; 16384];
+    println!("\nmemory of one call on this case");
+    for entry in knowing(&input.file) {
+        let mut out = vec![0; ROOM];
         let asked = heap::asked(|| {
-            black_box(call(entry, input, &mut out));
+            black_box(entry.call(input, &mut out));
         });
         let stack = stack::used(|| {
-            black_box(call(entry, input, &mut out));
+            black_box(entry.call(input, &mut out));
         });
-        println!("{name:<10} {:>7.1} KiB of stack, {asked} allocations", stack as f64 / 1024.0);
+        println!("{:<10} {:>7.1} KiB of stack, {asked} allocations", entry.name, stack as f64 / 1024.0);
     }
 }
 
@@ -154,27 +207,40 @@ fn growth() {
     }
     heading("version 2, with factors");
     line("256 nodes, 480 c., 512 st.", &Input::of(&cases::greatest_of_version_2()));
+    heading("256 nodes, 320 c., 512 st.");
+    line("edition 2", &Input::of(&cases::greatest_of_edition_2()));
+    line("the same tables, edition 1", &Input::of(&cases::greatest_of_edition_2_in_edition_1()));
+}
+
+/// Ours alone, a thousand calls for each second, for a profiler.
+fn profiled(input: &Input, seconds: u64) {
+    let mut out = vec![0; ROOM];
+    (0..seconds * 1000).for_each(|_| {
+        black_box(ENTRIES[0].call(input, &mut out));
+    });
 }
 
 fn main() {
     let seconds = std::env::args().nth(1).and_then(|word| word.parse().ok()).unwrap_or(10);
-    let input = Input::of(&cases::greatest());
-    // With a second word: ours alone, a thousand calls for each second, for a profiler.
-    if std::env::args().nth(2).is_some() {
-        let mut out = vec![0; 16384];
-        (0..seconds * 1000).for_each(|_| {
-            black_box(call(ENTRIES[0].1, &input, &mut out));
-        });
-        return;
+    let first = Input::of(&cases::greatest());
+    let second = Input::of(&cases::greatest_of_edition_2());
+    // A second word is the edition whose largest case is for a profiler.
+    if let Some(edition) = std::env::args().nth(2) {
+        return profiled(if edition == "2" { &second } else { &first }, seconds);
     }
-    let (known, others) = agree_on_stored_cases();
-    println!("all three agree with the reference on {known} of {} stored cases", known + others);
-    println!("left out: {others}, those of edition 2 (settings' zero 2), which twin and textbook do not know\n");
-    largest(&input, seconds);
-    memory(&input);
+    agree_on_stored_cases();
+    agree_by_chance();
+    largest("largest case: 256 nodes, 512 circuits, 512 stations, 32 + 32 zones", &first, seconds);
+    memory(&first);
+    largest("largest case of edition 2: 256 nodes, 320 circuits, 512 stations, 32 + 32 zones", &second, seconds);
+    memory(&second);
     growth();
     heading("refused: stage");
     for (label, input) in cases::refused() {
+        line(label, &input);
+    }
+    heading("refused, edition 2: stage");
+    for (label, input) in cases::refused_of_edition_2() {
         line(label, &input);
     }
 }

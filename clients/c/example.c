@@ -1,4 +1,4 @@
-/* Prints the sheet of a case file, or why there is none.
+/* Prints the sheet of a case file of either edition, or why there is none.
  *
  *   cc -o example example.c ../../target/staticlib/libwirepulley.a
  *   ./example my.case
@@ -28,18 +28,17 @@ static size_t read_file(const char *name, uint8_t *bytes, size_t most) {
 
 int main(int argc, char **argv) {
     static uint8_t file[LONGEST_FILE + 1], sheet[WIREPULLEY_LONGEST_SHEET];
-    static struct run base, wider, local;
+    static struct run runs[RUNS];
     uint64_t answer[WIREPULLEY_ANSWER];
     if (argc != 2 || strcmp(argv[1], "--help") == 0) {
         fprintf(argc == 2 ? stdout : stderr, "usage: example FILE\nPrints the tariff sheet of a case file, or why there is none. - is standard input.\n");
         return argc == 2 ? 0 : 2;
     }
     size_t length = read_file(argv[1], file, sizeof file);
-    copy_run(file, length, 0, &base);
-    copy_run(file, length, 1, &wider);
-    copy_run(file, length, 2, &local);
-    uint64_t number = wirepulley_write(file, length, base.numbers, base.count, wider.numbers, wider.count, local.numbers, local.count,
-                                       sheet, sizeof sheet, answer);
+    copy_runs(file, length, runs);
+    uint64_t number = wirepulley_write_five(file, length, runs[BASE].numbers, runs[BASE].count, runs[WIDER].numbers, runs[WIDER].count,
+                                            runs[LOCAL].numbers, runs[LOCAL].count, runs[PEAK_BASE].numbers, runs[PEAK_BASE].count,
+                                            runs[PEAK_WIDER].numbers, runs[PEAK_WIDER].count, sheet, sizeof sheet, answer);
     if (number == 0)
         fwrite(sheet, 1, answer[3], stdout);
     else

@@ -1,7 +1,9 @@
 //! Links libwirepulley.a: from the folder WIREPULLEY_LIB_DIR, else from target/staticlib of the repository that this folder stands in.
+//! And takes over the numbers that the C header promises, so that they stand in one place.
 
 use std::env;
-use std::path::PathBuf;
+use std::fs;
+use std::path::{Path, PathBuf};
 
 fn main() {
     println!("cargo:rerun-if-env-changed=WIREPULLEY_LIB_DIR");
@@ -23,6 +25,20 @@ fn main() {
     }
     println!("cargo:rustc-link-search=native={}", folder.display());
     println!("cargo:rustc-link-lib=static=wirepulley");
+    take_numbers(&here.join("../c/wirepulley.h"));
+}
+
+/// Writes each number of the header to a file of its name, which the crate includes.
+fn take_numbers(header: &Path) {
+    println!("cargo:rerun-if-changed={}", header.display());
+    let text = fs::read_to_string(header).unwrap_or_else(|error| fail(&format!("{}: {error}", header.display())));
+    let folder = PathBuf::from(env::var_os("OUT_DIR").expect("cargo names a folder for what is made"));
+    for name in ["WIREPULLEY_LONGEST_SHEET", "WIREPULLEY_STACK"] {
+        let defined =
+            text.lines().find_map(|line| line.strip_prefix("#define ")?.strip_prefix(name)?.strip_prefix(' '));
+        let number = defined.unwrap_or_else(|| fail(&format!("{}: no {name}", header.display())));
+        fs::write(folder.join(name), number).unwrap_or_else(|error| fail(&format!("{name}: {error}")));
+    }
 }
 
 fn fail(reason: &str) -> ! {

@@ -1,9 +1,10 @@
-/* Fuzz target of wirepulley_write and wirepulley_judge, for libFuzzer.
+/* Fuzz target of the library's four entries, for libFuzzer.
  *
  * An input is eight bytes that choose buffers and run lengths, then a case file. Every lent block is a heap block of exactly its
- * length. Both entries' answers and the whole buffer are held to the reference. The mutator mends the trailer half of the time, of version
- * 1 or 2, turns a mended file into one of the other version now and then, and puts solutions of the changed tables into the file a
- * quarter of the time. */
+ * length. The answers of all entries and the whole buffers are held to the reference, those that are lent three runs to what it says
+ * with peak's two empty. The mutator mends the trailer half of the time, of version 1 or 2 and of the edition that the settings name,
+ * turns a mended file into one of the other version or the other edition now and then, and puts solutions of the changed tables into
+ * the file a quarter of the time. */
 #include <stdint.h>
 #include <stdio.h>
 #include <stdlib.h>
@@ -11,13 +12,13 @@
 
 #include "../../clients/c/wirepulley.h"
 
-enum { CONTROL = 8, TRAILER = 64, SETTINGS = 64, LONGEST_RUN = 1024 };
+enum { CONTROL = 8, TRAILER = 64, TRAILER_EDITION_2 = 80, SETTINGS = 64, ZERO = 52, TABLES = 4, RUNS = 5, LONGEST_RUN = 1024 };
 
 void reference_write(const uint8_t *file, size_t file_len, const int64_t *const *runs, const size_t *run_lens, uint8_t *sheet,
                      size_t sheet_len, uint64_t *answer);
 void reference_judge(const uint8_t *file, size_t file_len, const int64_t *const *runs, const size_t *run_lens, uint64_t *answer);
 void reference_solve(uint8_t *file, size_t file_len);
-size_t reference_rewrite(uint8_t *file, size_t file_len, size_t most);
+size_t reference_rewrite(uint8_t *file, size_t file_len, size_t most, int edition);
 size_t LLVMFuzzerMutate(uint8_t *data, size_t size, size_t max_size);
 
 static uint32_t u32_at(const uint8_t *bytes) { return bytes[0] | bytes[1] << 8 | bytes[2] << 16 | (uint32_t)bytes[3] << 24; }
@@ -35,11 +36,18 @@ static void *block(size_t size) {
     return made;
 }
 
-/* Solution 0, 1 or 2 from where the trailer says that it stands; none where it cannot. Its length is changed as asked. */
+/* Whether a file names edition 2; the size of its trailer, and how many solutions it has. */
+static int is_edition_2(const uint8_t *file, size_t length) { return length >= SETTINGS && u32_at(file + ZERO) == 2; }
+static size_t trailer_size(int two) { return two ? TRAILER_EDITION_2 : TRAILER; }
+static unsigned runs_of(int two) { return two ? RUNS : 3; }
+
+/* Solution 0 to 4 from where the trailer says that it stands; none where it cannot, or the edition has none. Its length is changed as
+ * asked. */
 static int64_t *run_of(const uint8_t *file, size_t length, unsigned solution, unsigned change, size_t *count) {
+    int two = is_edition_2(file, length);
     uint64_t offset = 0, rows = 0;
-    if (length >= TRAILER) {
-        const uint8_t *entry = file + length - TRAILER + 8 * (4 + solution);
+    if (length >= trailer_size(two) && solution < runs_of(two)) {
+        const uint8_t *entry = file + length - trailer_size(two) + 8 * (TABLES + solution);
         offset = u32_at(entry), rows = u32_at(entry + 4);
         if (rows > LONGEST_RUN || offset + 8 * rows > length)
             offset = rows = 0;
@@ -65,37 +73,64 @@ static void hold(const char *what, uint64_t result, const uint64_t *answer, cons
         differ(what, answer, expected);
 }
 
+/* What is lent to a call, and what the reference says has to come of it: answers of the entry that writes and of the one that judges. */
+struct call {
+    uint8_t *file, *sheet, *expected_sheet;
+    size_t length, sheet_len, counts[RUNS];
+    int64_t *runs[RUNS];
+    uint64_t *answer, written[WIREPULLEY_ANSWER], judged[WIREPULLEY_ANSWER];
+};
+
+/* Asks the reference, with runs of these lengths. */
+static void expect(struct call *call, const size_t *counts) {
+    const int64_t *const *runs = (const int64_t *const *)call->runs;
+    memset(call->expected_sheet, 0x5a, call->sheet_len);
+    reference_write(call->file, call->length, runs, counts, call->expected_sheet, call->sheet_len, call->written);
+    memcpy(call->judged, call->written, sizeof call->judged);
+    /* The judgement is the same answer; where the buffer is too short, it is the answer with room enough. */
+    if (call->written[0] == 12)
+        reference_judge(call->file, call->length, runs, counts, call->judged);
+}
+
+/* Holds both entries of one form, that of five runs or that of three, to what is expected. */
+static void hold_form(struct call *call, int five) {
+    int64_t *const *runs = call->runs;
+    const size_t *n = call->counts;
+    uint64_t *answer = call->answer, number;
+#define THREE_RUNS call->file, call->length, runs[0], n[0], runs[1], n[1], runs[2], n[2]
+#define FIVE_RUNS THREE_RUNS, runs[3], n[3], runs[4], n[4]
+#define SHEET call->sheet, call->sheet_len
+    memset(call->sheet, 0x5a, call->sheet_len);
+    memset(answer, 0x5a, 8 * WIREPULLEY_ANSWER);
+    number = five ? wirepulley_write_five(FIVE_RUNS, SHEET, answer) : wirepulley_write(THREE_RUNS, SHEET, answer);
+    hold(five ? "the answer" : "the answer, three runs", number, answer, call->written);
+    if (memcmp(call->sheet, call->expected_sheet, call->sheet_len) != 0)
+        differ(five ? "the buffer" : "the buffer, three runs", call->written, call->written);
+    memset(answer, 0x5a, 8 * WIREPULLEY_ANSWER);
+    number = five ? wirepulley_judge_five(FIVE_RUNS, answer) : wirepulley_judge(THREE_RUNS, answer);
+    hold(five ? "the judgement" : "the judgement, three runs", number, answer, call->judged);
+}
+
 int LLVMFuzzerTestOneInput(const uint8_t *data, size_t size) {
     if (size < CONTROL)
         return -1;
-    size_t length = size - CONTROL, sheet_len = data[0] | (data[1] & 15) << 8, counts[3];
+    struct call call = {.length = size - CONTROL, .sheet_len = data[0] | (data[1] & 15) << 8};
     if (data[1] & 128)
-        sheet_len = WIREPULLEY_LONGEST_SHEET;
-    uint8_t *file = block(length), *sheet = block(sheet_len), *expected_sheet = block(sheet_len);
-    memcpy(file, data + CONTROL, length);
-    int64_t *runs[3];
-    for (unsigned k = 0; k < 3; k++)
-        runs[k] = run_of(file, length, k, data[3 + k] > 240 ? data[3 + k] & 3 : 0, &counts[k]);
-    uint64_t *answer = block(8 * WIREPULLEY_ANSWER), expected[WIREPULLEY_ANSWER];
-    memset(sheet, 0x5a, sheet_len);
-    memset(expected_sheet, 0x5a, sheet_len);
-    memset(answer, 0x5a, 8 * WIREPULLEY_ANSWER);
-    reference_write(file, length, (const int64_t *const *)runs, counts, expected_sheet, sheet_len, expected);
-
-    uint64_t number = wirepulley_write(file, length, runs[0], counts[0], runs[1], counts[1], runs[2], counts[2], sheet, sheet_len, answer);
-    hold("the answer", number, answer, expected);
-    if (memcmp(sheet, expected_sheet, sheet_len) != 0)
-        differ("the buffer", expected, expected);
-
-    /* The judgement is the same answer; where the buffer is too short, it is the answer with room enough. */
-    if (expected[0] == 12)
-        reference_judge(file, length, (const int64_t *const *)runs, counts, expected);
-    memset(answer, 0x5a, 8 * WIREPULLEY_ANSWER);
-    number = wirepulley_judge(file, length, runs[0], counts[0], runs[1], counts[1], runs[2], counts[2], answer);
-    hold("the judgement", number, answer, expected);
-    free(file), free(sheet), free(expected_sheet), free(answer);
-    for (unsigned k = 0; k < 3; k++)
-        free(runs[k]);
+        call.sheet_len = WIREPULLEY_LONGEST_SHEET;
+    call.file = block(call.length), call.sheet = block(call.sheet_len), call.expected_sheet = block(call.sheet_len);
+    call.answer = block(8 * WIREPULLEY_ANSWER);
+    memcpy(call.file, data + CONTROL, call.length);
+    for (unsigned k = 0; k < RUNS; k++)
+        call.runs[k] = run_of(call.file, call.length, k, data[3 + k] > 240 ? data[3 + k] & 3 : 0, &call.counts[k]);
+    expect(&call, call.counts);
+    hold_form(&call, 1);
+    /* Three runs are five of which peak's are empty. */
+    if (call.counts[3] + call.counts[4] > 0)
+        expect(&call, (size_t[RUNS]){call.counts[0], call.counts[1], call.counts[2], 0, 0});
+    hold_form(&call, 0);
+    free(call.file), free(call.sheet), free(call.expected_sheet), free(call.answer);
+    for (unsigned k = 0; k < RUNS; k++)
+        free(call.runs[k]);
     return 0;
 }
 
@@ -105,43 +140,46 @@ static size_t count_at(const uint8_t *trailer, unsigned section, size_t least, s
     return count < least || count > most ? least + count % 7 : count;
 }
 
-/* Makes a whole file of a file: rows as its trailer counts them, of version 2 where it says so and else of version 1, zeros for what is
- * missing, a trailer that fits. Gives its length. */
+/* Makes a whole file of a file: rows as its trailer counts them, of edition 2 where the settings say so and else of edition 1, there of
+ * version 2 where the trailer says so and else of version 1, zeros for what is missing, a trailer that fits. Gives its length. */
 static size_t mend(uint8_t *file, size_t length, size_t most) {
-    uint8_t old[TRAILER] = {0};
-    if (length >= TRAILER)
-        memcpy(old, file + length - TRAILER, TRAILER);
-    int two = u32_at(old + 56) == 2;
-    const size_t sizes[7] = {64, 24, two ? 48 : 44, 32, 8, 8, 8};
-    size_t counts[7] = {1, count_at(old, 1, 1, 256), count_at(old, 2, 0, two ? 480 : 512), count_at(old, 3, 0, 512)}, end = 0;
-    counts[4] = counts[5] = counts[6] = counts[1] + counts[2];
-    for (int k = 0; k < 7; k++)
+    int edition_2 = is_edition_2(file, length);
+    size_t size = trailer_size(edition_2), sections = TABLES + runs_of(edition_2), end = 0, offset = 0;
+    uint8_t old[TRAILER_EDITION_2] = {0};
+    if (length >= size)
+        memcpy(old, file + length - size, size);
+    int two = edition_2 || u32_at(old + size - 8) == 2;
+    const size_t sizes[TABLES + RUNS] = {64, 24, two ? 48 : 44, 32, 8, 8, 8, 8, 8};
+    size_t most_circuits = edition_2 ? 320 : two ? 480 : 512;
+    size_t counts[TABLES + RUNS] = {1, count_at(old, 1, 1, 256), count_at(old, 2, 0, most_circuits), count_at(old, 3, 0, 512)};
+    for (size_t k = 0; k < sections; k++) {
+        counts[k] = k < TABLES ? counts[k] : counts[1] + counts[2];
         end += counts[k] * sizes[k];
-    if (end + TRAILER > most)
+    }
+    if (end + size > most)
         return length;
-    size_t kept = length < TRAILER ? length : length - TRAILER;
+    size_t kept = length < size ? length : length - size;
     if (kept < end)
         memset(file + kept, 0, end - kept);
     uint8_t *trailer = file + end;
-    size_t offset = 0;
-    for (int k = 0; k < 7; k++) {
+    for (size_t k = 0; k < sections; k++) {
         put_u32(trailer + 8 * k, offset);
         put_u32(trailer + 8 * k + 4, counts[k]);
         offset += counts[k] * sizes[k];
     }
-    put_u32(trailer + 56, two ? 2 : 1);
-    put_u32(trailer + 60, end + TRAILER);
-    put_u32(file + 52, 0);
-    return end + TRAILER;
+    put_u32(trailer + size - 8, two ? 2 : 1);
+    put_u32(trailer + size - 4, end + size);
+    put_u32(file + ZERO, edition_2 ? 2 : 0);
+    return end + size;
 }
 
 size_t LLVMFuzzerCustomMutator(uint8_t *data, size_t size, size_t max_size, unsigned seed) {
     size = LLVMFuzzerMutate(data, size, max_size);
-    if (size < CONTROL + SETTINGS || max_size < CONTROL + SETTINGS + TRAILER || seed % 2 == 0)
+    if (size < CONTROL + SETTINGS || max_size < CONTROL + SETTINGS + TRAILER_EDITION_2 || seed % 2 == 0)
         return size;
     size_t length = mend(data + CONTROL, size - CONTROL, max_size - CONTROL);
-    if (seed % 32 < 4)
-        length = reference_rewrite(data + CONTROL, length, max_size - CONTROL);
+    if (seed % 32 < 8)
+        length = reference_rewrite(data + CONTROL, length, max_size - CONTROL, seed % 32 < 4);
     if (seed % 4 == 1)
         reference_solve(data + CONTROL, length);
     return CONTROL + length;

@@ -1,15 +1,19 @@
 //! Every cause of every number of 01, "What stops a case", and of 02 as a change of a case that is accepted.
 
+mod editions;
 mod files;
 mod proposals;
-pub use proposals::step_past;
+pub use proposals::{misses_pass, step_past};
 mod rows;
 mod settings;
 mod tables;
 
 use crate::input::Input;
-use reference::file::Case;
+use reference::file::{Case, Edition, RUNS};
 use reference::random::Chance;
+
+/// The solutions, in the order of their systems' numbers.
+const SOLUTIONS: [&str; RUNS] = ["base", "wider", "local", "peak base", "peak wider"];
 
 /// Number, system, row.
 pub type Told = (u64, u64, u64);
@@ -34,27 +38,79 @@ pub struct Fault {
     pub cause: String,
     pub number: u64,
     pub system: u64,
+    /// The edition of the cases that it can be planted in; none where it is all one.
+    pub only: Option<Edition>,
     pub plant: Plant,
 }
 
 impl Fault {
-    /// The place in the order: "1 to 7", 13 "after 7" (02, CR 1); "8, 9, 10 for system 1; 11; 8, 9, 10 for system 2, then 3; 12".
+    /// The place in the order: "1 to 7", 13 "after 7" (02, CR 1), 14 "after 13" (CR 5); "8, 9, 10 for system 1; 11; 8, 9, 10 for
+    /// system 2, then 3; 12", and in edition 2 "8 to 10 for systems 1 and 4; 15 ..; 11 ..; 8 to 10 for 2, 5 and 3".
     pub fn order(&self) -> u64 {
+        // Behind the base systems 15 and 11 take two places.
+        let start = |system: u64| match system {
+            1 => 10,
+            4 => 13,
+            2 => 18,
+            5 => 21,
+            _ => 24,
+        };
         match (self.number, self.system) {
             (13, _) => 8,
-            (8..=10, system) => self.number + 1 + 4 * (system - 1),
-            (11, _) => 12,
-            (12, _) => 21,
+            (14, _) => 9,
+            (8..=10, system) => start(system) + self.number - 8,
+            (15, _) => 16,
+            (11, _) => 17,
+            (12, _) => 27,
             (number, _) => number,
         }
+    }
+
+    /// Number and system.
+    pub fn key(&self) -> (u64, u64) {
+        (self.number, self.system)
+    }
+
+    /// Whether it is planted by moving a flow.
+    pub fn moves_flow(&self) -> bool {
+        self.cause.contains(proposals::MOVED)
+    }
+
+    /// Whether it can be planted in cases of an edition.
+    pub fn is_of(&self, edition: Edition) -> bool {
+        self.only.is_none_or(|only| only == edition)
     }
 }
 
 /// A list in the making.
 #[derive(Default)]
-pub struct Faults(pub Vec<Fault>);
+pub struct Faults {
+    list: Vec<Fault>,
+    /// The edition of what is added now.
+    only: Option<Edition>,
+}
 
 impl Faults {
+    /// What `add` adds is of one edition.
+    fn only(&mut self, edition: Edition, add: impl FnOnce(&mut Faults)) {
+        self.only = Some(edition);
+        add(self);
+        self.only = None;
+    }
+
+    /// Adds for each solution, by its place and its name; peak's are of edition 2.
+    fn each_solution(&mut self, add: impl Fn(&mut Faults, usize, &'static str)) {
+        for (place, name) in SOLUTIONS.into_iter().enumerate() {
+            self.only = (place >= Edition::One.runs()).then_some(Edition::Two);
+            add(self, place, name);
+        }
+        self.only = None;
+    }
+
+    fn push(&mut self, number: u64, system: u64, cause: String, plant: Plant) {
+        self.list.push(Fault { cause, number, system, only: self.only, plant });
+    }
+
     fn case(
         &mut self,
         number: u64,
@@ -62,7 +118,7 @@ impl Faults {
         cause: impl Into<String>,
         plant: impl Fn(&mut Case, &mut Chance) -> Option<u64> + 'static,
     ) {
-        self.0.push(Fault { cause: cause.into(), number, system, plant: Plant::Case(Box::new(plant)) });
+        self.push(number, system, cause.into(), Plant::Case(Box::new(plant)));
     }
 
     fn input(
@@ -71,7 +127,7 @@ impl Faults {
         cause: impl Into<String>,
         plant: impl Fn(&mut Input, &mut Chance) -> Option<u64> + 'static,
     ) {
-        self.0.push(Fault { cause: cause.into(), number, system: 0, plant: Plant::Input(Box::new(plant)) });
+        self.push(number, 0, cause.into(), Plant::Input(Box::new(plant)));
     }
 }
 
@@ -79,11 +135,12 @@ impl Faults {
 pub fn all() -> Vec<Fault> {
     let mut list = Faults::default();
     files::add(&mut list);
+    editions::add(&mut list);
     settings::add(&mut list);
     rows::add(&mut list);
     tables::add(&mut list);
     proposals::add(&mut list);
-    list.0
+    list.list
 }
 
 /// A place of a list, from 0.
@@ -92,8 +149,8 @@ fn any(chance: &mut Chance, count: usize) -> Option<usize> {
 }
 
 /// Plants faults in a case, those that come later in 01's order first, so that an earlier one has the last word: the input, and what
-/// 01 answers to it. Nothing where a fault has no place.
-pub fn planted(draft: &Draft, faults: &mut [&Fault], chance: &mut Chance) -> Option<(Input, Told)> {
+/// 01 answers to each of them, first to the one that it answers to all. Nothing where a fault has no place.
+pub fn planted(draft: &Draft, faults: &mut [&Fault], chance: &mut Chance) -> Option<(Input, Vec<Told>)> {
     faults.sort_by_key(|fault| std::cmp::Reverse(fault.order()));
     let mut case = draft.case.clone();
     let mut told = Vec::new();
@@ -111,6 +168,6 @@ pub fn planted(draft: &Draft, faults: &mut [&Fault], chance: &mut Chance) -> Opt
             say(fault, plant(&mut input, chance))?;
         }
     }
-    let first = told.iter().min_by_key(|(order, (_, _, row))| (*order, *row))?;
-    Some((input, first.1))
+    told.sort_by_key(|(order, (_, _, row))| (*order, *row));
+    Some((input, told.into_iter().map(|(_, told)| told).collect()))
 }

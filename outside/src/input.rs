@@ -1,18 +1,24 @@
-//! One call of the entry: what is lent, and what has to come of it.
+//! One input: what is lent, and what has to come of it.
 
-use reference::file::Case;
+use reference::file::{named_edition, whole_case, Case, Edition, RUNS};
 use reference::{judge_case, judge_into, text, Answer};
 use std::fmt::Write;
 
 /// Number, system, row and sheet length of an answer.
 pub type Numbers = [u64; 4];
 
-/// What is lent to one call.
+/// 01: "Its own buffer holds any sheet these ranges allow": the longest is of edition 2.
+pub const LONGEST_SHEET: usize = 16_362;
+
+/// How many runs the forms without peak's are lent.
+const THREE: usize = 3;
+
+/// What is lent to the library.
 #[derive(Clone)]
 pub struct Input {
     pub file: Vec<u8>,
-    /// Base, wider, local: judged in place of those in the file.
-    pub runs: [Vec<i64>; 3],
+    /// Base, wider, local, peak base, peak wider: judged in place of those in the file.
+    pub runs: [Vec<i64>; RUNS],
     pub sheet_len: usize,
     /// 0: each lent block ends at memory that may not be touched; 1: it starts there.
     pub place: u32,
@@ -20,13 +26,20 @@ pub struct Input {
     pub fill: u32,
 }
 
-/// What a call leaves behind.
+/// What the two entries of one form leave behind.
 #[derive(Clone, PartialEq, Eq)]
-pub struct Outcome {
+pub struct Left {
     /// Of the entry that judges and writes no sheet, and of the one that writes: the result, and the lent answer afterwards.
     pub judged: (u64, Numbers),
     pub written: (u64, Numbers),
     pub sheet: Vec<u8>,
+}
+
+/// What all entries leave behind: those that are lent five runs, and those that are lent the first three of them.
+#[derive(Clone, PartialEq, Eq)]
+pub struct Outcome {
+    pub five: Left,
+    pub three: Left,
 }
 
 impl Input {
@@ -35,14 +48,24 @@ impl Input {
         Input::new(case.bytes(), case.runs.clone())
     }
 
-    /// A file and three runs, room for any sheet.
-    pub fn new(file: Vec<u8>, runs: [Vec<i64>; 3]) -> Input {
-        Input { file, runs, sheet_len: 14_240, place: 0, fill: 0 }
+    /// A file and its runs, room for any sheet.
+    pub fn new(file: Vec<u8>, runs: [Vec<i64>; RUNS]) -> Input {
+        Input { file, runs, sheet_len: LONGEST_SHEET, place: 0, fill: 0 }
     }
 
     /// The lent runs.
-    fn lent(&self) -> [&[i64]; 3] {
-        [&self.runs[0], &self.runs[1], &self.runs[2]]
+    fn lent(&self) -> [&[i64]; RUNS] {
+        self.runs.each_ref().map(Vec::as_slice)
+    }
+
+    /// 02, CR 5: no run of peak is lent.
+    fn is_without_peak(&self) -> bool {
+        self.runs[THREE..].iter().all(Vec::is_empty)
+    }
+
+    /// The edition that the file names.
+    pub fn edition(&self) -> Option<Edition> {
+        named_edition(&self.file)
     }
 
     /// The sheet's buffer before the call.
@@ -50,18 +73,26 @@ impl Input {
         (0..self.sheet_len).map(|i| (self.fill as usize + i) as u8).collect()
     }
 
-    /// What the reference says has to come of the call, and its answer.
-    pub fn expected(&self) -> (Outcome, Numbers) {
+    /// What the reference says has to come of the calls. Three runs are five of which peak's are empty.
+    pub fn expected(&self) -> Outcome {
+        let five = self.left(self.lent());
+        let three =
+            if self.is_without_peak() { five.clone() } else { self.left([0, 1, 2].map(|run| self.lent()[run])) };
+        Outcome { five, three }
+    }
+
+    /// What has to come of both entries of a form with these runs.
+    fn left<const N: usize>(&self, runs: [&[i64]; N]) -> Left {
         let mut sheet = self.sheet_before();
-        let written = numbers(judge_into(&self.file, self.lent(), &mut sheet));
+        let written = numbers(judge_into(&self.file, runs, &mut sheet));
         // Judged with no buffer: the same answer, and what it is with room enough where the buffer is too short.
-        let judged = if written[0] == 12 { numbers(self.with_room()) } else { written };
-        (Outcome { judged: (judged[0], judged), written: (written[0], written), sheet }, written)
+        let judged = if written[0] == 12 { numbers(self.with_room(runs)) } else { written };
+        Left { judged: (judged[0], judged), written: (written[0], written), sheet }
     }
 
     /// What the reference answers with room enough for the sheet.
-    fn with_room(&self) -> Answer {
-        match judge_case(&self.file, self.lent()) {
+    fn with_room<const N: usize>(&self, runs: [&[i64]; N]) -> Answer {
+        match judge_case(&self.file, runs) {
             Ok(sheet) => Answer::Accepted(sheet.len()),
             Err(refusal) => Answer::Refused(refusal),
         }
@@ -70,13 +101,31 @@ impl Input {
     /// The input as a text: the case maker's words, and what they don't tell as comments.
     pub fn text(&self) -> String {
         let mut said = format!("# buffer of {} bytes, place {}, fill {}\n", self.sheet_len, self.place, self.fill);
-        let own = reference::file::whole_case(&self.file).map(|case| case.runs);
-        for (name, run) in
-            ["base", "wider", "local"].iter().zip(&self.runs).filter(|_| own.as_ref() != Some(&self.runs))
-        {
+        let own = whole_case(&self.file).map(|case| case.runs);
+        for (name, run) in text::SOLUTIONS.iter().zip(&self.runs).filter(|_| own.as_ref() != Some(&self.runs)) {
             let _ = writeln!(said, "# lent {name} ({} numbers): {run:?}", run.len());
         }
         said + &text::show(&self.file)
+    }
+}
+
+impl Outcome {
+    /// The answer of the entry that is lent five runs and writes.
+    pub fn answer(&self) -> Numbers {
+        self.five.written.1
+    }
+
+    /// The outcome in a few lines.
+    pub fn said(&self) -> String {
+        format!("lent five runs: {}lent three runs: {}", self.five.said(), self.three.said())
+    }
+}
+
+impl Left {
+    fn said(&self) -> String {
+        let length = (self.written.1[3] as usize).min(self.sheet.len());
+        let sheet = String::from_utf8_lossy(&self.sheet[..length]).into_owned();
+        format!("write {:?}, judge {:?}, buffer of {} bytes\n{sheet}", self.written, self.judged, self.sheet.len())
     }
 }
 

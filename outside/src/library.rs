@@ -1,6 +1,6 @@
 //! The library, called through the program `caller` that links it.
 
-use crate::input::{Input, Numbers, Outcome};
+use crate::input::{Input, Left, Numbers, Outcome};
 use std::io::{BufReader, BufWriter, Read, Result, Write};
 use std::process::{Child, ChildStdin, ChildStdout, Command, Stdio};
 
@@ -26,9 +26,9 @@ impl Library {
         Ok(Library { command: command.to_vec(), child, to, from })
     }
 
-    /// One call. An error is the end of the caller, by a signal where the library touched what it was not lent.
+    /// Every entry once. An error is the end of the caller, by a signal where the library touched what it was not lent.
     pub fn call(&mut self, input: &Input) -> Result<Outcome> {
-        let counts = [input.file.len(), input.runs[0].len(), input.runs[1].len(), input.runs[2].len(), input.sheet_len];
+        let counts = [input.file.len()].into_iter().chain(input.runs.iter().map(Vec::len)).chain([input.sheet_len]);
         for number in [input.place, input.fill].into_iter().chain(counts.map(|count| count as u32)) {
             self.to.write_all(&number.to_le_bytes())?;
         }
@@ -37,11 +37,16 @@ impl Library {
             self.to.write_all(&number.to_le_bytes())?;
         }
         self.to.flush()?;
+        Ok(Outcome { five: self.left(input.sheet_len)?, three: self.left(input.sheet_len)? })
+    }
+
+    /// What both entries of a form left behind.
+    fn left(&mut self, sheet_len: usize) -> Result<Left> {
         let judged = (self.number()?, self.numbers()?);
         let written = (self.number()?, self.numbers()?);
-        let mut sheet = vec![0; input.sheet_len];
+        let mut sheet = vec![0; sheet_len];
         self.from.read_exact(&mut sheet)?;
-        Ok(Outcome { judged, written, sheet })
+        Ok(Left { judged, written, sheet })
     }
 
     fn number(&mut self) -> Result<u64> {

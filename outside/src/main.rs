@@ -1,12 +1,17 @@
 //! Holds the proved library and program to the independent reference, on inputs by chance. `--help` tells how.
 
+mod backgrounds;
+mod bands;
 mod compare;
+mod edition_2;
 mod faults;
 mod halves;
 mod input;
 mod library;
 mod networks;
 mod program;
+mod seeds;
+mod spurs;
 mod tally;
 
 use compare::{Compare, Plan};
@@ -14,8 +19,8 @@ use std::process::exit;
 
 const USAGE: &str = "usage: outside short|long [--seed N] --run WORDS --caller PROGRAM [--tariff PROGRAM --replay PROGRAM]
 Holds the library (through PROGRAM caller) and the programs to the reference. WORDS, which may be empty, run an x86-64 program.
-  short    some 10,000 inputs     long    more than 200,000 inputs
-outside seeds FOLDER writes the cases of the replay's list up to 8,184 bytes as inputs of the fuzz target.
+  short    some 30,000 inputs     long    more than 200,000 inputs
+outside seeds FOLDER writes inputs of the fuzz target: the replay's list, and networks of edition 2 without faults and with one.
 Exit status: 0 no difference and no answer or cause too rare; 1 otherwise; 2 it could not be tried.";
 
 fn main() {
@@ -23,7 +28,7 @@ fn main() {
     let plan = match words.next().as_deref() {
         Some("short") => Plan::SHORT,
         Some("long") => Plan::LONG,
-        Some("seeds") => return seeds(&words.next().unwrap_or_else(|| fail(USAGE))),
+        Some("seeds") => return write_seeds(&words.next().unwrap_or_else(|| fail(USAGE))),
         Some("--help") => return println!("{USAGE}"),
         _ => fail(USAGE),
     };
@@ -50,13 +55,8 @@ fn main() {
     exit(if passed { 0 } else { 1 });
 }
 
-/// Inputs of the fuzz target: eight bytes that lend a buffer for any sheet, four numbers and the file's own runs; then a file.
-fn seeds(folder: &str) {
-    for (number, case) in reference::replay::cases().iter().enumerate().filter(|(_, case)| case.file.len() <= 8_184) {
-        let input = [&[0, 128, 4, 0, 0, 0, 0, 0], &case.file[..]].concat();
-        let written = std::fs::write(format!("{folder}/{number:04}"), input);
-        written.unwrap_or_else(|error| fail(&format!("cannot write to {folder}: {error}")));
-    }
+fn write_seeds(folder: &str) {
+    seeds::write(folder).unwrap_or_else(|error| fail(&format!("cannot write to {folder}: {error}")));
 }
 
 fn fail(reason: &str) -> ! {

@@ -1,7 +1,10 @@
 //! Networks by chance, of every size and shape, solved: what the other inputs are made from.
 
+use crate::backgrounds::fit_demand;
+use crate::bands::{has_length, Flows};
 use crate::halves::negative_halves;
-use reference::file::{padded, Case, CircuitRow, Name, NodeRow, Settings, StationRow, Version};
+use crate::spurs::add_spurs;
+use reference::file::{padded, Case, CircuitRow, Edition, Name, NodeRow, Settings, StationRow, Version};
 use reference::judge_case;
 use reference::random::Chance;
 use reference::solver::solved;
@@ -20,24 +23,63 @@ pub const SHAPES: [Shape; 6] = [
     ("mesh", mesh),
 ];
 
-/// What the figures are like.
-pub const TASTES: [&str; 9] = [
+/// What the figures are like; the last five are of edition 2 alone, where there are twice as many places for halves.
+const TASTES: [&str; 14] = [
     "ordinary",
     "at the ends of ranges",
     "idle circuits",
     "marked circuits",
-    "TEC equal to demand",
-    "least totals",
-    "greatest totals",
-    "one chargeable kilowatt",
+    TEC_EQUAL,
+    LEAST,
+    GREATEST,
+    ONE_KILOWATT,
+    HALVES,
+    NOTHING_REMAINS,
+    FIXED_ALONE,
+    AS_MUCH_AS_RUNS,
+    IN_DOUBT,
     HALVES,
 ];
 
+pub const TEC_EQUAL: &str = "TEC equal to demand";
+pub const LEAST: &str = "least totals";
+pub const GREATEST: &str = "greatest totals";
+/// 02, CR 1.
+pub const ONE_KILOWATT: &str = "one chargeable kilowatt";
 /// 02, CR 2: figures whose divisions leave halves.
-const HALVES: &str = "halves";
+pub const HALVES: &str = "halves";
+/// 02, CR 5: year round the fixed types meet demand and the variable ones run at 0.
+pub const NOTHING_REMAINS: &str = "nothing remains year round";
+/// 02, CR 5: the same, and year round no type is variable.
+pub const FIXED_ALONE: &str = "fixed types alone";
+/// 02, CR 5: in one background the variable types run at their whole TEC.
+pub const AS_MUCH_AS_RUNS: &str = "as much demand as may run";
+/// 02, CR 5: several circuits that are in doubt, were it not for their length.
+pub const IN_DOUBT: &str = "circuits in doubt";
 
-/// 02, CR 2: the places of `negative_halves` that are rare: local metres, averages, C and generation's tariffs.
-const RARE_HALVES: [usize; 5] = [1, 2, 3, 4, 5];
+/// The tastes of an edition.
+pub fn tastes(edition: Edition) -> &'static [&'static str] {
+    match edition {
+        Edition::One => &TASTES[..9],
+        Edition::Two => &TASTES,
+    }
+}
+
+/// What a network's file is of.
+pub type Form = (Version, Edition);
+
+pub const VERSION_1: Form = (Version::One, Edition::One);
+pub const VERSION_2: Form = (Version::Two, Edition::One);
+pub const EDITION_2: Form = (Version::Two, Edition::Two);
+
+/// The most circuits of a file: 01's, 02's in CR 3 and in CR 5.
+pub fn most_circuits((version, edition): Form) -> usize {
+    match (version, edition) {
+        (Version::One, _) => 512,
+        (Version::Two, Edition::One) => 480,
+        (Version::Two, Edition::Two) => 320,
+    }
+}
 
 /// 02, CR 1: the plant types that pay.
 pub const PAYING: [u32; 6] = [1, 2, 4, 5, 6, 7];
@@ -76,6 +118,9 @@ fn mesh(chance: &mut Chance, nodes: usize) -> Vec<(usize, usize)> {
 struct Figures<'a> {
     chance: &'a mut Chance,
     taste: &'static str,
+    edition: Edition,
+    /// The plant types, each as often as it stands here.
+    plants: &'static [u32],
     /// 02, CR 3: circuits may have factors of their own.
     factors: bool,
 }
@@ -99,7 +144,7 @@ impl Figures<'_> {
             local_factor: self.within(1_000, 5_000),
             factors: std::array::from_fn(|place| if place == 0 { 1_000 } else { self.within(1_000, 30_000) }),
             reference: self.chance.within(1, nodes as u64) as u32,
-            zero: 0,
+            zero: self.edition.zero(),
             revenue: self.chance.of(&[0, 1, 999_999, 100_000_000, 2_939_300_000, 10_000_000_000]),
         };
         match self.taste == HALVES {
@@ -189,13 +234,22 @@ impl Figures<'_> {
             _ if self.taste == "at the ends of ranges" => self.chance.of(&[0, 1, 20_000_000]),
             _ => self.chance.spread(1, 5_000_000),
         };
-        StationRow {
-            identifier: padded(format!("ST_{number}").as_bytes()),
-            node,
-            // One in three, so that nodes and zones of type 3 alone are no rarity.
-            plant: if self.chance.within(0, 2) == 0 { INTERCONNECTOR } else { self.chance.of(&PAYING) },
-            tec,
-        }
+        let plant = self.chance.of(self.plants);
+        StationRow { identifier: padded(format!("ST_{number}").as_bytes()), node, plant, tec }
+    }
+}
+
+/// The plant types of a network.
+fn plants(chance: &mut Chance, edition: Edition, taste: &str) -> &'static [u32] {
+    match (edition, taste) {
+        // One in three, so that nodes and zones of type 3 alone are no rarity.
+        (Edition::One, _) => &[3, 3, 3, 1, 2, 4, 5, 6, 7],
+        // No other types run at their whole TEC in both backgrounds.
+        (Edition::Two, TEC_EQUAL | LEAST | GREATEST) => &[4, 7],
+        (Edition::Two, FIXED_ALONE) => &[1, 2, 3, 5, 6],
+        // Less may run year round, or at peak.
+        (Edition::Two, AS_MUCH_AS_RUNS) => chance.of(&[&[2, 4, 5, 6, 7][..], &[2, 4, 5, 6, 7], &[1, 2, 3, 4, 7]]),
+        (Edition::Two, _) => &[1, 1, 2, 3, 3, 4, 4, 5, 6, 7, 7],
     }
 }
 
@@ -205,41 +259,50 @@ fn name(number: usize) -> Name {
 }
 
 /// A network of a shape and a taste with so many nodes, circuits in any order, solved.
-pub fn network(chance: &mut Chance, shape: Shape, taste: &'static str, nodes: usize, version: Version) -> Case {
+pub fn network(chance: &mut Chance, shape: Shape, taste: &'static str, nodes: usize, form: Form) -> Case {
     if taste == HALVES && nodes <= 60 {
-        network_of_halves(chance, shape, nodes, version)
+        network_of_halves(chance, shape, nodes, form)
     } else {
-        drawn(chance, shape, taste, nodes, version)
+        drawn(chance, shape, taste, nodes, form)
     }
 }
 
-/// 02, CR 2: of four hundred networks the one with negative halves in the most places, before all in two of the rare ones.
-fn network_of_halves(chance: &mut Chance, shape: Shape, nodes: usize, version: Version) -> Case {
-    let wanted = [chance.of(&RARE_HALVES), chance.of(&RARE_HALVES)];
+/// 02, CR 2: of four hundred networks a background the one with negative halves in the most places, before all in some of the rare
+/// ones.
+fn network_of_halves(chance: &mut Chance, shape: Shape, nodes: usize, form: Form) -> Case {
+    let backgrounds = form.1.backgrounds().len();
+    let first = drawn(chance, shape, HALVES, nodes.max(6), form);
+    let halves = negative_halves(&first);
+    let often = |place: usize| std::iter::repeat_n(place, halves[place].weight_in(form.1));
+    let rare: Vec<usize> = (0..halves.len()).flat_map(often).collect();
+    let wanted: Vec<usize> = (0..2 * backgrounds).map(|_| chance.of(&rare)).collect();
     let met = |case: &Case| {
         let halves = negative_halves(case);
-        let count = |places: &[usize]| places.iter().filter(|place| halves[**place].1).count();
-        (count(&wanted), count(&RARE_HALVES) + halves.iter().filter(|(_, met)| *met).count())
+        let count = |places: &[usize]| places.iter().filter(|place| halves[**place].met).count();
+        (count(&wanted), count(&rare) + halves.iter().filter(|half| half.met).count())
     };
-    let networks = (0..400).map(|_| drawn(chance, shape, HALVES, nodes.max(6), version));
-    networks.max_by_key(met).expect("four hundred networks")
+    let others = (1..400 * backgrounds).map(|_| drawn(chance, shape, HALVES, nodes.max(6), form));
+    others.chain([first]).max_by_key(met).expect("one network and more")
 }
 
 /// One network by chance. In version 2 three in four have circuits with factors.
-fn drawn(chance: &mut Chance, (_, shape): Shape, taste: &'static str, nodes: usize, version: Version) -> Case {
+fn drawn(chance: &mut Chance, (_, shape): Shape, taste: &'static str, nodes: usize, form: Form) -> Case {
+    let (version, edition) = form;
     let mut ends = shape(chance, nodes);
     // what reaches each node stands first
-    ends.truncate(version.circuits().1 as usize);
+    ends.truncate(most_circuits(form));
     for place in (1..ends.len()).rev() {
         ends.swap(place, chance.within(0, place as u64) as usize);
     }
     let fewest = if taste == HALVES { nodes as u64 } else { 1 };
     let stations = if nodes == 256 { 512 } else { chance.within(fewest, 2 * nodes as u64) as usize };
     let factors = version == Version::Two && chance.within(0, 3) > 0;
-    let mut figures = Figures { chance, taste, factors };
+    let plants = plants(chance, edition, taste);
+    let mut figures = Figures { chance, taste, edition, plants, factors };
     let settings = figures.settings(nodes);
     let mut case = Case {
         version,
+        edition,
         nodes: (0..nodes).map(|number| figures.node(name(number), &settings)).collect(),
         circuits: ends.into_iter().map(|(first, second)| figures.circuit(name(first), name(second))).collect(),
         stations: Vec::new(),
@@ -251,18 +314,20 @@ fn drawn(chance: &mut Chance, (_, shape): Shape, taste: &'static str, nodes: usi
         case.stations.push(figures.station(number, node));
     }
     set_totals(chance, &mut case, taste);
-    add_spur(chance, &mut case);
+    add_spurs(chance, &mut case, taste);
+    if edition == Edition::Two {
+        fit_demand(chance, &mut case, taste);
+    }
     mended(chance, solved(&case).0)
 }
 
-/// Mostly, mends what stops a case that is solved: a direction in doubt by no length, numbers out of range by less x or less length.
+/// Mostly, mends what stops a case that is solved: what is in doubt by no length, numbers out of range by less x or less length.
 fn mended(chance: &mut Chance, mut case: Case) -> Case {
     let kept = chance.within(0, 7) == 0;
     for _ in 0..6 {
-        let runs = [&case.runs[0][..], &case.runs[1], &case.runs[2]];
-        match judge_case(&case.bytes(), runs).err().map(|refusal| (refusal.number, refusal.system)) {
-            Some((11, _)) if !kept => take_doubt_away(&mut case),
-            Some((8, 1)) if !kept => case.circuits.iter_mut().for_each(|row| row.x = (row.x / 10).max(1)),
+        match judge_case(&case.bytes(), case.lent()).err().map(|refusal| (refusal.number, refusal.system)) {
+            Some((11 | 15, _)) if !kept => take_doubt_away(&mut case),
+            Some((8, 1 | 4)) if !kept => case.circuits.iter_mut().for_each(|row| row.x = (row.x / 10).max(1)),
             Some((8, _)) if !kept => {
                 case.circuits.iter_mut().for_each(|row| (row.overhead, row.cable) = (row.overhead / 10, row.cable / 10))
             }
@@ -273,17 +338,16 @@ fn mended(chance: &mut Chance, mut case: Case) -> Case {
     case
 }
 
-/// No length for a circuit whose base flow is in the band of doubt.
+/// No length for a circuit whose background or direction is in doubt.
 fn take_doubt_away(case: &mut Case) {
-    let nodes = case.nodes.len();
-    for (row, flow) in case.circuits.iter_mut().zip(&case.runs[0][nodes..]) {
-        if (200_000_001..=400_000_000).contains(&flow.unsigned_abs()) {
-            (row.overhead, row.cable) = (0, 0);
+    for place in 0..case.circuits.len() {
+        if has_length(&case.circuits[place]) && Flows::of(case, place).doubt().is_some() {
+            (case.circuits[place].overhead, case.circuits[place].cable) = (0, 0);
         }
     }
 }
 
-fn total_tec(case: &Case) -> u64 {
+pub fn total_tec(case: &Case) -> u64 {
     case.stations.iter().map(|row| row.tec as u64).sum()
 }
 
@@ -297,7 +361,7 @@ fn set_totals(chance: &mut Chance, case: &mut Case, taste: &str) {
     while total_tec(case) > 100_000_000 {
         case.stations.iter_mut().for_each(|row| row.tec /= 2);
     }
-    if taste == "one chargeable kilowatt" {
+    if taste == ONE_KILOWATT {
         leave_one_kilowatt(chance, case);
     }
     if total_demand(case) == 0 {
@@ -313,7 +377,7 @@ fn set_totals(chance: &mut Chance, case: &mut Case, taste: &str) {
     if total_demand(case) == 0 {
         case.nodes[0].demand = 1;
     }
-    if taste == "TEC equal to demand" {
+    if taste == TEC_EQUAL {
         spread_tec(case, total_demand(case));
     }
     let pays = |row: &StationRow| row.tec > 0 && row.plant != INTERCONNECTOR;
@@ -330,11 +394,11 @@ fn set_kilowatts(chance: &mut Chance, case: &mut Case, taste: &str) {
             let kept = chance.within(0, case.nodes.len() as u64 - 1) as usize;
             case.nodes.iter_mut().enumerate().filter(|(place, _)| *place != kept).for_each(|(_, row)| row.demand = 0);
         }
-        "least totals" => {
+        LEAST => {
             case.nodes.iter_mut().for_each(|row| row.demand = 0);
             case.stations.iter_mut().for_each(|row| row.tec = 0);
         }
-        "greatest totals" if case.stations.len() >= 5 => {
+        GREATEST if case.stations.len() >= 5 => {
             case.stations
                 .iter_mut()
                 .enumerate()
@@ -351,23 +415,39 @@ fn set_kilowatts(chance: &mut Chance, case: &mut Case, taste: &str) {
     }
 }
 
-/// 02, CR 2: few and equal kilowatts, so that averages are over few, with TEC equal to demand.
+/// 02, CR 2: few and equal kilowatts, so that averages are over few, with TEC equal to demand. In edition 2 what a station has that
+/// does not run at its whole TEC in both backgrounds, the first one has too.
 fn set_alike(chance: &mut Chance, case: &mut Case) {
     case.nodes.iter_mut().for_each(|row| row.demand = 0);
     case.stations.iter_mut().for_each(|row| row.tec = 0);
+    let two = case.edition == Edition::Two;
+    if two {
+        case.stations[0].plant = 7;
+    }
     for _ in 0..chance.of(&[2, 4, 8]) {
         let node = chance.within(0, case.nodes.len() as u64 - 1) as usize;
         case.nodes[node].demand += 100_000;
         let station = chance.within(0, case.stations.len() as u64 - 1) as usize;
         case.stations[station].tec += 100_000;
+        if two && ![4, 7].contains(&case.stations[station].plant) {
+            case.stations[0].tec += 100_000;
+        }
     }
 }
 
-/// 02, CR 1: 1 kW of a type that pays, all else of type 3.
+/// 02, CR 1: 1 kW of a type that pays, all else of type 3. In edition 2 that type runs at peak, and all else is 1 kW, since more of
+/// type 3 would be more than demand.
 fn leave_one_kilowatt(chance: &mut Chance, case: &mut Case) {
     case.stations.iter_mut().for_each(|row| row.plant = INTERCONNECTOR);
     let place = chance.within(0, case.stations.len() as u64 - 1) as usize;
-    (case.stations[place].plant, case.stations[place].tec) = (chance.of(&PAYING), 1);
+    let mut paying = &PAYING[..];
+    if case.edition == Edition::Two {
+        case.stations.iter_mut().for_each(|row| row.tec = 0);
+        let other = (place + 1) % case.stations.len();
+        case.stations[other].tec = 1;
+        paying = &PAYING[1..];
+    }
+    (case.stations[place].plant, case.stations[place].tec) = (chance.of(paying), 1);
 }
 
 /// Gives the stations so much TEC in all, the first ones first. False where they cannot hold it.
@@ -378,33 +458,4 @@ pub fn spread_tec(case: &mut Case, total: u64) -> bool {
         left -= row.tec as u64;
     }
     left == 0
-}
-
-/// On half of the cases a node of 200 to 401 kW behind a circuit of its own: idle at 200 and directed at 401; between them the
-/// circuit has no length, and with one its direction would be in doubt.
-fn add_spur(chance: &mut Chance, case: &mut Case) {
-    let demand = chance.of(&[200, 401, 201, 400, chance.0 % 200 + 201]) as u32;
-    let room = case.nodes.len() < 255
-        && case.circuits.len() < case.version.circuits().1 as usize
-        && total_tec(case) >= total_demand(case) + demand as u64;
-    if !room || chance.within(0, 1) == 0 {
-        return;
-    }
-    let at = case.nodes[chance.within(0, case.nodes.len() as u64 - 1) as usize].name;
-    let spur = padded(b"SPUR");
-    let (first, second) = if chance.within(0, 1) == 0 { (at, spur) } else { (spur, at) };
-    let overhead = if demand == 200 || demand == 401 { 1_000 } else { 0 };
-    let circuit = CircuitRow {
-        first,
-        second,
-        voltage: 400,
-        x: chance.spread(1, 10_000),
-        overhead,
-        cable: 0,
-        mark: chance.within(0, 1) as u32,
-        factor: 0,
-    };
-    let place = chance.within(0, case.circuits.len() as u64) as usize;
-    case.circuits.insert(place, circuit);
-    case.nodes.push(NodeRow { name: spur, generation_zone: 1, demand_zone: 1, demand });
 }

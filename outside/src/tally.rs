@@ -1,7 +1,10 @@
 //! How often each answer and each cause was met.
 
+use crate::bands::{flow_is_idle, has_length, Flows};
+use crate::edition_2::of_edition_2;
+use crate::faults::Told;
 use crate::halves::negative_halves;
-use reference::file::{Case, CircuitRow, Name, StationRow, Version};
+use reference::file::{Case, CircuitRow, Edition, Name, StationRow, Version};
 use reference::tables::INTERCONNECTOR;
 use std::collections::{BTreeMap, BTreeSet};
 
@@ -9,13 +12,47 @@ use std::collections::{BTreeMap, BTreeSet};
 #[derive(Default)]
 pub struct Tally {
     pub inputs: u64,
-    /// By number, 1 to 13; 0 is accepted.
-    pub answers: [u64; 14],
+    /// By number, 1 to 15; 0 is accepted.
+    answers: [u64; 16],
+    /// 02, CR 5: of files that name edition 2, by number and system.
+    of_edition_2: BTreeMap<(u64, u64), u64>,
     pub causes: BTreeMap<String, u64>,
     pub orders: BTreeMap<String, u64>,
 }
 
+/// 02, CR 5: every number and system that edition 2 is answered with.
+fn answers_of_edition_2() -> impl Iterator<Item = (u64, u64)> {
+    let alone = [0, 1, 2, 3, 4, 5, 6, 7, 12, 13, 14, 15].map(|number| (number, 0));
+    let of_systems = [8, 9, 10].into_iter().flat_map(|number| (1..=5).map(move |system| (number, system)));
+    alone.into_iter().chain(of_systems).chain([(11, 1), (11, 4)])
+}
+
+/// An answer in words.
+fn answer_said(number: u64, system: u64) -> String {
+    match number {
+        0 => "accepted".to_string(),
+        _ => format!("refused {}", said(number, system)),
+    }
+}
+
+/// A number, and its system where it has one.
+pub fn said(number: u64, system: u64) -> String {
+    match system {
+        0 => number.to_string(),
+        _ => format!("{number} of system {system}"),
+    }
+}
+
 impl Tally {
+    /// Counts an input's answer, and that of a file that names edition 2 beside.
+    pub fn answered(&mut self, edition: Option<Edition>, (number, system, _): Told) {
+        self.inputs += 1;
+        self.answers[number as usize] += 1;
+        if edition == Some(Edition::Two) {
+            *self.of_edition_2.entry((number, system)).or_default() += 1;
+        }
+    }
+
     /// A cause that has to be met, though it may not be yet.
     pub fn expect(&mut self, cause: &str) {
         self.causes.entry(cause.to_string()).or_default();
@@ -37,29 +74,39 @@ impl Tally {
     /// Every end of a range has to be met, and every feature.
     pub fn expect_accepted(&mut self) {
         features(&reference::replay::bases::kiln(), b"").iter().for_each(|(name, _)| self.expect(name));
+        self.of_edition_2 = answers_of_edition_2().map(|answer| (answer, 0)).collect();
     }
 
     /// Every count on a line, and the names of those that are too low.
     pub fn report(&self, least_answer: u64, least_cause: u64) -> Vec<String> {
         println!("inputs: {}", self.inputs);
-        println!("answers (each at least {least_answer}):");
-        let mut rare = Vec::new();
-        for (number, count) in self.answers.iter().enumerate() {
-            let name = if number == 0 { "accepted".to_string() } else { format!("refused {number}") };
-            println!("  {count:>8}  {name}");
-            if *count < least_answer {
-                rare.push(name);
-            }
-        }
-        println!("causes (each at least {least_cause}):");
-        for (cause, count) in &self.causes {
-            println!("  {count:>8}  {cause}");
-        }
-        rare.extend(self.causes.iter().filter(|(_, count)| **count < least_cause).map(|(cause, _)| cause.clone()));
+        let answers = self.answers.iter().zip(0..).map(|(count, number)| (answer_said(number, 0), *count));
+        let mut rare = too_rare("answers", answers, least_answer);
+        let of_edition_2 =
+            self.of_edition_2.iter().map(|((number, system), count)| (answer_said(*number, *system), *count));
+        let inputs: u64 = self.of_edition_2.values().sum();
+        let title = format!("answers to the {inputs} inputs that name edition 2");
+        rare.extend(
+            too_rare(&title, of_edition_2, least_cause).into_iter().map(|answer| format!("edition 2, {answer}")),
+        );
+        rare.extend(too_rare("causes", self.causes.iter().map(|(cause, count)| (cause.clone(), *count)), least_cause));
         let pairs: u64 = self.orders.values().sum();
         println!("orders: {pairs} inputs with two faults, {} different pairs of number and system; the first was answered each time", self.orders.len());
         rare
     }
+}
+
+/// Prints counts under a title, each on a line, and gives the names of those that are too low.
+fn too_rare(title: &str, counts: impl Iterator<Item = (String, u64)>, least: u64) -> Vec<String> {
+    println!("{title} (each at least {least}):");
+    let mut rare = Vec::new();
+    for (name, count) in counts {
+        println!("  {count:>8}  {name}");
+        if count < least {
+            rare.push(name);
+        }
+    }
+    rare
 }
 
 /// What a case may have, by name, and whether it has it.
@@ -70,25 +117,35 @@ fn features(case: &Case, sheet: &[u8]) -> Vec<(String, bool)> {
             list.push((format!("accepted with the {word} {quantity}, {end}"), numbers.contains(&end)));
         }
     }
-    let flows = case.runs[0].iter().skip(case.nodes.len());
-    let circuits: Vec<_> = case.circuits.iter().zip(flows).filter(|(row, _)| row.overhead + row.cable > 0).collect();
-    let idle = |flow: i64| flow.abs() <= 200_000_000;
+    let circuits = deciding_flows(case);
+    let idle = flow_is_idle;
     let mut add = |name: &str, met| list.push((format!("accepted with {name}"), met));
     add("a 275 kV circuit", circuits.iter().any(|(row, _)| row.voltage == 275));
     add("a 400 kV circuit", circuits.iter().any(|(row, _)| row.voltage == 400));
-    add("an idle circuit", circuits.iter().any(|(_, flow)| idle(**flow)));
+    add("an idle circuit", circuits.iter().any(|(_, flow)| idle(*flow)));
     add("an idle circuit of 200,000,000 mW", circuits.iter().any(|(_, flow)| flow.abs() == 200_000_000));
-    add("a circuit backward", circuits.iter().any(|(_, flow)| !idle(**flow) && **flow < 0));
-    add("a marked circuit that is not idle", circuits.iter().any(|(row, flow)| !idle(**flow) && row.mark == 1));
+    add("a circuit backward", circuits.iter().any(|(_, flow)| !idle(*flow) && *flow < 0));
+    add("a marked circuit that is not idle", circuits.iter().any(|(row, flow)| !idle(*flow) && row.mark == 1));
     add("a zone without kilowatts", sheet.windows(3).any(|bytes| bytes == b" -\n"));
     add(
         "TEC equal to demand",
         case.stations.iter().map(|row| row.tec as u64).sum::<u64>()
             == case.nodes.iter().map(|row| row.demand as u64).sum(),
     );
-    let requests = interconnectors(case).into_iter().chain(negative_halves(case)).chain(factors(case));
+    let requests = interconnectors(case).into_iter().chain(factors(case)).chain(of_edition_2(case));
     list.extend(requests.map(|(name, met)| (format!("accepted with {name}"), met)));
+    list.extend(negative_halves(case).into_iter().map(|half| (format!("accepted with {}", half.name), half.met)));
     list
+}
+
+/// 01 step 4, 02 CR 5: the circuits with a length, and of each the flow that decides on its direction.
+fn deciding_flows(case: &Case) -> Vec<(&CircuitRow, i64)> {
+    let places = (0..case.circuits.len()).filter(|place| has_length(&case.circuits[*place]));
+    let decided = places.filter_map(|place| {
+        let flows = Flows::of(case, place);
+        flows.deciding().map(|system| (&case.circuits[place], flows.flow(system)))
+    });
+    decided.collect()
 }
 
 /// 02, CR 1: what a case may have of type 3, by name, and whether it has it.

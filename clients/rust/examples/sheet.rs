@@ -1,4 +1,4 @@
-//! Prints the sheet of a case file, or why there is none. Exit status: 0 a sheet, 1 a refusal, 2 no answer.
+//! Prints the sheet of a case file of either edition, or why there is none. Exit status: 0 a sheet, 1 a refusal, 2 no answer.
 
 use std::io::Write;
 use std::process::ExitCode;

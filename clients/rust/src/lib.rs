@@ -16,10 +16,21 @@
 //! Interconnectors (plant type 3) do not: their TEC counts in scaling and in zonal averages, and not in C, generation's income and
 //! its residual. What the sheet charges on chargeable TEC and on demand, plus its two remainders, is the allowed revenue.
 //!
+//! # Editions
+//!
+//! Edition 1 has one background and three solutions: base, wider and local. Edition 2 has two backgrounds, year round and peak: its base
+//! and wider solutions are year round's, and peak has two of its own. The settings in the file name the edition, and [`Solutions::of_file`]
+//! goes by it; solutions of your own are put together by [`Solutions::of_edition_1`] and [`Solutions::of_edition_2`].
+//!
+//! The sheet of edition 2 has peak's C before year round's in its `C` line, and in `G` and `D` lines peak's metres, metres after C and
+//! tariff before year round's; a total is both tariffs and the residual. Intermittent stations (plant type 1) do not pay peak's tariff,
+//! so they pay the total less that.
+//!
 //! # Versions
 //!
 //! A file is of version 1 or 2. In version 2 a circuit may have a factor of its own, in thousandths, for a subsea or HVDC circuit; at
-//! 320 and 525 kV it needs one. A case of up to 480 circuits without factors has the same answer in either version.
+//! 320 and 525 kV it needs one. A case of edition 1 of up to 480 circuits without factors has the same answer in either version. Edition 2
+//! is in version 2 alone, with at most 320 circuits.
 //!
 //! # Stack
 //!
@@ -31,14 +42,15 @@ mod solutions;
 pub use refusal::{Refusal, System};
 pub use solutions::Solutions;
 
-/// No sheet is longer: a buffer of this many bytes is never refused as too short.
-pub const LONGEST_SHEET: usize = 14_240;
+/// No sheet is longer: a buffer of this many bytes is never refused as too short. For edition 1 alone 14,240 are enough.
+pub const LONGEST_SHEET: usize = include!(concat!(env!("OUT_DIR"), "/WIREPULLEY_LONGEST_SHEET"));
 
 /// No call takes more bytes of stack, whatever it is given.
-pub const STACK: usize = 160_000;
+pub const STACK: usize = include!(concat!(env!("OUT_DIR"), "/WIREPULLEY_STACK"));
 
+// The forms of five runs, which take either edition.
 extern "C" {
-    fn wirepulley_write(
+    fn wirepulley_write_five(
         file: *const u8,
         file_len: usize,
         base: *const i64,
@@ -47,11 +59,15 @@ extern "C" {
         wider_len: usize,
         local: *const i64,
         local_len: usize,
+        peak_base: *const i64,
+        peak_base_len: usize,
+        peak_wider: *const i64,
+        peak_wider_len: usize,
         sheet: *mut u8,
         sheet_len: usize,
         answer: *mut [u64; 4],
     ) -> u64;
-    fn wirepulley_judge(
+    fn wirepulley_judge_five(
         file: *const u8,
         file_len: usize,
         base: *const i64,
@@ -60,6 +76,10 @@ extern "C" {
         wider_len: usize,
         local: *const i64,
         local_len: usize,
+        peak_base: *const i64,
+        peak_base_len: usize,
+        peak_wider: *const i64,
+        peak_wider_len: usize,
         answer: *mut [u64; 4],
     ) -> u64;
 }
@@ -67,9 +87,9 @@ extern "C" {
 /// What the library answers, as document 01 numbers it.
 #[derive(Clone, Copy, Debug, PartialEq, Eq)]
 pub struct Answer {
-    /// 0 where the case is accepted, else a refusal's: 1 to 13, or more from a newer library.
+    /// 0 where the case is accepted, else a refusal's: 1 to 15, or more from a newer library.
     pub number: u64,
-    /// 1 base, 2 wider, 3 local; 0 where the answer is about none of them.
+    /// 1 base, 2 wider, 3 local, 4 peak base, 5 peak wider; 0 where the answer is about none of them.
     pub system: u64,
     /// Counted from 1; 0 where the answer is about no row.
     pub row: u64,
@@ -92,14 +112,18 @@ impl Answer {
     }
 }
 
-/// A case in memory: the bytes of its file, and the three solutions that are judged in place of those in the file.
-/// A solution is a potential for each node, then a flow for each circuit, in table order.
+/// A case in memory: the bytes of its file, and the solutions that are judged in place of those in the file.
+/// A solution is a potential for each node, then a flow for each circuit, in table order. In edition 2 base and wider are year round's.
 #[derive(Clone, Copy, Debug)]
 pub struct Case<'a> {
     pub file: &'a [u8],
     pub base: &'a [i64],
     pub wider: &'a [i64],
     pub local: &'a [i64],
+    /// Empty in edition 1, which has no peak.
+    pub peak_base: &'a [i64],
+    /// Empty in edition 1, which has no peak.
+    pub peak_wider: &'a [i64],
 }
 
 impl Case<'_> {
@@ -111,11 +135,11 @@ impl Case<'_> {
 
     /// The same with the answer as numbers.
     pub fn answer(&self, sheet: &mut [u8]) -> Answer {
-        let Case { file, base, wider, local } = self;
+        let Case { file, base, wider, local, peak_base, peak_wider } = self;
         let mut answer = [0; 4];
         // SAFETY: each pointer and count are those of a slice that outlives the call, and the answer has four numbers. The two that are written to are lent alone.
         unsafe {
-            wirepulley_write(
+            wirepulley_write_five(
                 file.as_ptr(),
                 file.len(),
                 base.as_ptr(),
@@ -124,6 +148,10 @@ impl Case<'_> {
                 wider.len(),
                 local.as_ptr(),
                 local.len(),
+                peak_base.as_ptr(),
+                peak_base.len(),
+                peak_wider.as_ptr(),
+                peak_wider.len(),
                 sheet.as_mut_ptr(),
                 sheet.len(),
                 &mut answer,
@@ -139,11 +167,11 @@ impl Case<'_> {
 
     /// The same with the answer as numbers: those of `answer` with room enough for the sheet.
     pub fn judgement(&self) -> Answer {
-        let Case { file, base, wider, local } = self;
+        let Case { file, base, wider, local, peak_base, peak_wider } = self;
         let mut answer = [0; 4];
         // SAFETY: each pointer and count are those of a slice that outlives the call, and the answer has four numbers. It is lent alone.
         unsafe {
-            wirepulley_judge(
+            wirepulley_judge_five(
                 file.as_ptr(),
                 file.len(),
                 base.as_ptr(),
@@ -152,6 +180,10 @@ impl Case<'_> {
                 wider.len(),
                 local.as_ptr(),
                 local.len(),
+                peak_base.as_ptr(),
+                peak_base.len(),
+                peak_wider.as_ptr(),
+                peak_wider.len(),
                 &mut answer,
             )
         };

@@ -1,8 +1,10 @@
-//! Calls of the real library.
+//! Calls of the real library; those of edition 2 stand in `editions.rs`.
 
+mod files;
+
+use files::{in_version_2, put_u32, KILN};
 use wirepulley::{Answer, Case, Refusal, Solutions, System, LONGEST_SHEET, STACK};
 
-const KILN: &[u8] = include_bytes!("../../../crates/tariff/stdin");
 const SHEET: &[u8] = include_bytes!("../../../cases/KILN.sheet");
 
 #[test]
@@ -79,7 +81,7 @@ fn the_lent_runs_are_judged() {
 fn empty_slices_are_judged() {
     let solutions = Solutions::of_file(KILN);
     let case = solutions.with(KILN);
-    let nothing = Case { file: &[], base: &[], wider: &[], local: &[] };
+    let nothing = Case { file: &[], base: &[], wider: &[], local: &[], peak_base: &[], peak_wider: &[] };
     let lacking = [
         Case { file: &[], ..case },
         Case { base: &[], ..case },
@@ -173,8 +175,7 @@ fn a_case_of_version_2_is_accepted() {
 fn subsea_with(factors: &[(usize, u32)]) -> Vec<u8> {
     let mut file = SUBSEA.to_vec();
     for (row, factor) in factors {
-        let place = 160 + 48 * (row - 1) + 44;
-        file[place..place + 4].copy_from_slice(&factor.to_le_bytes());
+        put_u32(&mut file, 160 + 48 * (row - 1) + 44, *factor);
     }
     file
 }
@@ -202,22 +203,6 @@ fn other_versions_are_refused() {
     }
 }
 
-/// A file of version 1 with three circuits of 44 bytes, from 136 on, as one of version 2: a zero behind each row.
-fn in_version_2(file: &[u8]) -> Vec<u8> {
-    let rows = file[136..268].chunks(44).flat_map(|row| [row, &[0; 4]].concat());
-    let mut made: Vec<u8> = file[..136].iter().copied().chain(rows).chain(file[268..].iter().copied()).collect();
-    let trailer = made.len() - 64;
-    for section in 3..7 {
-        let place = trailer + 8 * section;
-        let offset = u32::from_le_bytes(made[place..place + 4].try_into().unwrap());
-        made[place..place + 4].copy_from_slice(&(offset + 12).to_le_bytes());
-    }
-    made[trailer + 56] = 2;
-    let length = made.len() as u32;
-    made[trailer + 60..].copy_from_slice(&length.to_le_bytes());
-    made
-}
-
 #[test]
 fn one_case_in_either_version_has_one_sheet() {
     let file = in_version_2(KILN);
@@ -228,24 +213,37 @@ fn one_case_in_either_version_has_one_sheet() {
     assert_eq!(&sheet[..SHEET.len()], SHEET);
 }
 
-/// A file of this many zeros before a trailer that says of each section: offset, count.
-fn claiming(zeros: usize, offset: u32, count: u32) -> Vec<u8> {
+/// A file of this many zeros, and then a trailer of so many entries that each say: offset, count.
+fn claiming(zeros: usize, entries: usize, offset: u32, count: u32) -> Vec<u8> {
     let entry = [offset.to_le_bytes(), count.to_le_bytes()].concat();
-    [vec![0; zeros], entry.repeat(8)].concat()
+    [vec![0; zeros], entry.repeat(entries)].concat()
+}
+
+/// The solutions that are taken out of a file which claims this are as long as it can hold them, those of peak in edition 2 alone.
+fn takes_what_stands(file: &[u8], edition: u32, offset: u32, count: u32) {
+    // a whole file has at least 128 bytes, and no solution more than 256 nodes and 512 circuits
+    let stands = file.len() >= 128 && u64::from(offset) + 8 * u64::from(count) <= file.len() as u64 && count <= 768;
+    let taken = if stands { count as usize } else { 0 };
+    let of_peak = if edition == 2 { taken } else { 0 };
+    let Solutions { base, wider, local, peak_base, peak_wider } = Solutions::of_file(file);
+    let lengths = [base, wider, local, peak_base, peak_wider].map(|solution| solution.len());
+    assert_eq!(lengths, [taken, taken, taken, of_peak, of_peak], "{} {edition} {offset} {count}", file.len());
+    assert_eq!(Solutions::of_file(file).with(file).judge(), Err(Refusal::File));
 }
 
 #[test]
 fn a_trailer_may_claim_anything() {
     let ends = [0, 1, 7, 8, 63, 64, 767, 768, 769, 1 << 29, 1 << 31, u32::MAX - 1, u32::MAX];
-    for zeros in [0, 1, 8, 6_144, 6_152] {
-        for offset in ends {
-            for count in ends {
-                let file = claiming(zeros, offset, count);
-                let solutions = Solutions::of_file(&file);
-                let stands = u64::from(offset) + 8 * u64::from(count) <= file.len() as u64 && count <= 768;
-                assert_eq!(solutions.wider.len(), if stands { count as usize } else { 0 }, "{zeros} {offset} {count}");
-                assert_eq!(solutions.with(&file).judge(), Err(Refusal::File));
-            }
+    for (offset, count) in ends.iter().flat_map(|offset| ends.map(|count| (*offset, count))) {
+        for zeros in [0, 1, 8, 63, 64, 6_144, 6_152] {
+            takes_what_stands(&claiming(zeros, 8, offset, count), 0, offset, count);
+        }
+        for (zeros, edition) in
+            [64, 6_144, 6_152].iter().flat_map(|zeros| [0, 1, 2, 3].map(|edition| (*zeros, edition)))
+        {
+            let mut file = claiming(zeros, 10, offset, count);
+            put_u32(&mut file, 52, edition);
+            takes_what_stands(&file, edition, offset, count);
         }
     }
     for length in 0..=130 {
@@ -262,6 +260,7 @@ fn sort_of(refusal: Refusal) -> &'static str {
         Refusal::Number { .. } | Refusal::Balance { .. } | Refusal::Misses { .. } | Refusal::Direction { .. } => {
             "known"
         }
+        Refusal::Unscalable | Refusal::BackgroundInDoubt { .. } => "known",
         Refusal::Unknown { .. } => "unknown",
         _ => "to come",
     }
@@ -270,5 +269,5 @@ fn sort_of(refusal: Refusal) -> &'static str {
 #[test]
 fn a_match_has_an_arm_for_reasons_to_come() {
     assert_eq!(sort_of(Refusal::File), "known");
-    assert_eq!(sort_of(Refusal::Unknown { number: 14, system: 0, row: 0 }), "unknown");
+    assert_eq!(sort_of(Refusal::Unknown { number: 16, system: 0, row: 0 }), "unknown");
 }

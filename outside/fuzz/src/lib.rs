@@ -1,11 +1,11 @@
 //! The reference as C calls it: the entry with a lent buffer, and the solver for the mutator.
 
-use reference::file::{whole_case, Version};
+use reference::file::{whole_case, Case, Edition, Version, RUNS};
 use reference::solver::solved;
 use reference::{judge_case, judge_into, Answer};
 use std::slice::{from_raw_parts, from_raw_parts_mut};
 
-/// What `wirepulley_write` has to answer and to leave in the buffer.
+/// What `wirepulley_write_five` has to answer and to leave in the buffer, and `wirepulley_write` where peak's runs are empty.
 ///
 /// # Safety
 /// Each pointer leads to as many elements as its count says, four for `answer`.
@@ -23,7 +23,8 @@ pub unsafe extern "C" fn reference_write(
     tell(judge_into(from_raw_parts(file, file_len), lent(runs, run_lens), buffer), answer);
 }
 
-/// What `wirepulley_judge` has to answer: the answer with room enough for the sheet.
+/// What `wirepulley_judge_five` has to answer, and `wirepulley_judge` where peak's runs are empty: the answer with room enough for the
+/// sheet.
 ///
 /// # Safety
 /// Each pointer leads to as many elements as its count says, four for `answer`.
@@ -42,9 +43,9 @@ pub unsafe extern "C" fn reference_judge(
     tell(judged, answer);
 }
 
-/// The three lent runs.
-unsafe fn lent<'a>(runs: *const *const i64, run_lens: *const usize) -> [&'a [i64]; 3] {
-    [0, 1, 2].map(|system| from_raw_parts(*runs.add(system), *run_lens.add(system)))
+/// The five lent runs.
+unsafe fn lent<'a>(runs: *const *const i64, run_lens: *const usize) -> [&'a [i64]; RUNS] {
+    std::array::from_fn(|place| from_raw_parts(*runs.add(place), *run_lens.add(place)))
 }
 
 /// An answer's four numbers.
@@ -56,21 +57,43 @@ unsafe fn tell(told: Answer, answer: *mut u64) {
     from_raw_parts_mut(answer, 4).copy_from_slice(&numbers);
 }
 
-/// Rewrites a whole file as one of the other version, where that has a place for it and `most` bytes are enough. Gives its length.
+/// Rewrites a whole file as one of the other version, or of the other edition where `edition` is not 0, where that has a place for it
+/// and `most` bytes are enough. Gives its length.
 ///
 /// # Safety
 /// The pointer leads to `most` bytes, of which the file is the first ones.
 #[no_mangle]
-pub unsafe extern "C" fn reference_rewrite(file: *mut u8, file_len: usize, most: usize) -> usize {
-    let case = whole_case(from_raw_parts(file, file_len));
-    let other = |version| if version == Version::One { Version::Two } else { Version::One };
-    let rewritten = case.and_then(|case| case.in_version(other(case.version)).ok()).map(|case| case.bytes());
+pub unsafe extern "C" fn reference_rewrite(file: *mut u8, file_len: usize, most: usize, edition: i32) -> usize {
+    let other = if edition != 0 { in_other_edition } else { in_other_version };
+    let rewritten = whole_case(from_raw_parts(file, file_len)).and_then(|case| other(&case)).map(|case| case.bytes());
     match rewritten.filter(|bytes| bytes.len() <= most) {
         Some(bytes) => {
             from_raw_parts_mut(file, bytes.len()).copy_from_slice(&bytes);
             bytes.len()
         }
         None => file_len,
+    }
+}
+
+fn in_other_version(case: &Case) -> Option<Case> {
+    let other = if case.version == Version::One { Version::Two } else { Version::One };
+    case.in_version(other).ok()
+}
+
+/// Solutions of edition 1 stand in for those of edition 2 until they are solved, and the other way round.
+fn in_other_edition(case: &Case) -> Option<Case> {
+    match case.edition {
+        Edition::One => {
+            let [base, wider, local, ..] = case.runs.clone();
+            let runs = [base.clone(), wider.clone(), local, base, wider];
+            case.in_edition_2().ok().map(|case| Case { runs, ..case })
+        }
+        Edition::Two => {
+            let mut case = Case { edition: Edition::One, ..case.clone() };
+            case.settings.zero = Edition::One.zero();
+            case.runs[Edition::One.runs()..].iter_mut().for_each(Vec::clear);
+            Some(case)
+        }
     }
 }
 

@@ -1,9 +1,11 @@
-//! 01, 1: "length, trailer, version, counts, chain or the settings' zero wrong", and runs of another length; 12, at the other end. 02,
-//! CR 3: versions 1 and 2, and the count of circuits that 2 holds.
+//! 01, 1: "length, trailer, version, counts or chain wrong", and runs of another length; 12, at the other end. 02, CR 3: versions 1 and
+//! 2, and the count of circuits that 2 holds.
 
 use super::{any, Faults};
 use crate::input::Input;
-use reference::file::{padded, Case, CircuitRow, NodeRow, StationRow, Trailer, Version, SECTIONS, TRAILER};
+use reference::file::{
+    named_edition, padded, Case, CircuitRow, Edition, NodeRow, StationRow, Trailer, Version, SECTIONS_EDITION_2,
+};
 use reference::random::Chance;
 
 pub fn add(list: &mut Faults) {
@@ -12,12 +14,8 @@ pub fn add(list: &mut Faults) {
     add_trailer(list);
     add_chains(list);
     add_counts(list);
-    add_solutions(list);
-    list.case(1, 0, "the settings' zero not 0", |case, chance| {
-        case.settings.zero = chance.of(&[1, 256, 1 << 31]);
-        Some(0)
-    });
-    add_runs(list);
+    list.each_solution(add_solution);
+    list.each_solution(add_run);
     list.input(12, "a buffer one byte short", |input, _| {
         input.sheet_len = input.sheet_len.checked_sub(1)?;
         Some(0)
@@ -55,13 +53,26 @@ fn add_lengths(list: &mut Faults) {
 }
 
 /// Changes the trailer of a file that has one.
-fn trailer(input: &mut Input, change: impl FnOnce(&mut Trailer)) -> Option<u64> {
+pub fn trailer(input: &mut Input, change: impl FnOnce(&mut Trailer)) -> Option<u64> {
     let mut trailer = Trailer::read(&input.file)?;
     let old = trailer.clone();
     change(&mut trailer);
-    let start = input.file.len() - TRAILER;
+    let start = input.file.len() - old.bytes().len();
     input.file.splice(start.., trailer.bytes());
     (trailer != old).then_some(0)
+}
+
+/// Changes an offset or a count of the trailer, where it has that one.
+fn entry(
+    input: &mut Input,
+    of: impl FnOnce(&mut Trailer) -> Option<&mut u32>,
+    change: impl FnOnce(u32) -> u32,
+) -> Option<u64> {
+    trailer(input, |trailer| {
+        if let Some(number) = of(trailer) {
+            *number = change(*number);
+        }
+    })
 }
 
 /// Another number, near or far.
@@ -74,22 +85,24 @@ fn add_versions(list: &mut Faults) {
         let versions = [0, 3, 256, 256 + 1, 256 + 2, 2 * 256, 1 << 24, 2 << 24, u32::MAX];
         trailer(input, |trailer| trailer.version = chance.of(&versions))
     });
-    // Without circuits a file is one of the other version.
+    // Without circuits a file of edition 1 is one of the other version.
     for (cause, told) in [("the other version", false), ("the other version with its offsets", true)] {
         list.input(1, cause, move |input, _| {
-            let case = case_of(input).filter(|case| !case.circuits.is_empty())?;
+            let case = case_of(input).filter(|case| !case.circuits.is_empty() || case.edition == Edition::Two)?;
             let other = if case.version == Version::One { Version::Two } else { Version::One };
             let offsets = Case { version: other, circuits: without_factors(&case), ..case }.trailer().offsets;
             trailer(input, |trailer| {
                 trailer.version = other.number();
-                trailer.offsets = if told { offsets } else { trailer.offsets };
+                if told {
+                    trailer.offsets = offsets;
+                }
             })
         });
     }
 }
 
 /// Circuits that either version has a place for.
-fn without_factors(case: &Case) -> Vec<CircuitRow> {
+pub fn without_factors(case: &Case) -> Vec<CircuitRow> {
     case.circuits.iter().map(|row| CircuitRow { factor: 0, ..row.clone() }).collect()
 }
 
@@ -97,57 +110,63 @@ fn add_trailer(list: &mut Faults) {
     list.input(1, "the trailer's length", |input, chance| {
         trailer(input, |trailer| trailer.length = other(chance, trailer.length))
     });
-    for (section, (name, size)) in SECTIONS.into_iter().zip(Version::One.sizes()).enumerate() {
+    for (section, name) in SECTIONS_EDITION_2.into_iter().enumerate() {
+        list.only = (section >= Edition::One.sections().len()).then_some(Edition::Two);
         list.input(1, format!("the offset of {name}"), move |input, chance| {
-            trailer(input, |trailer| trailer.offsets[section] = other(chance, trailer.offsets[section]))
+            entry(input, |trailer| trailer.offsets.get_mut(section), |old| other(chance, old))
         });
         list.input(1, format!("the count of {name}"), move |input, chance| {
-            trailer(input, |trailer| trailer.counts[section] = other(chance, trailer.counts[section]))
+            entry(input, |trailer| trailer.counts.get_mut(section), |old| other(chance, old))
         });
         // As many rows more as give the same place in 32 bits: 2^32 bytes, or 2^30 rows of 44 or 48 bytes.
+        let size = Edition::Two.sizes(Version::One)[section];
         let wrapped = (1u64 << 32) / (size as u64 & size.wrapping_neg() as u64);
         list.input(1, format!("a count of {name} that wraps 32 bits"), move |input, _| {
-            trailer(input, |trailer| trailer.counts[section] = trailer.counts[section].wrapping_add(wrapped as u32))
+            entry(input, |trailer| trailer.counts.get_mut(section), |old| old.wrapping_add(wrapped as u32))
         });
     }
+    list.only = None;
 }
 
 /// The sections of a case by their bytes, in an order, each behind so many bytes, with a trailer that tells where they stand.
-fn laid_out(case: &Case, order: [usize; 7], gaps: [usize; 8]) -> Vec<u8> {
-    let (bytes, old) = (case.section_bytes(), case.trailer());
+fn laid_out(case: &Case, order: &[usize], gaps: &[usize]) -> Vec<u8> {
+    let (bytes, old, sizes) = (case.section_bytes(), case.trailer(), case.edition.sizes(case.version));
     let mut file = Vec::new();
     let mut trailer = old.clone();
-    for (place, section) in order.into_iter().enumerate() {
-        file.resize(file.len() + gaps[place], 0);
-        trailer.offsets[section] = file.len() as u32;
-        let start = old.offsets[section] as usize;
-        file.extend(&bytes[start..start + old.counts[section] as usize * case.version.sizes()[section]]);
+    for (section, gap) in order.iter().zip(gaps) {
+        file.resize(file.len() + gap, 0);
+        trailer.offsets[*section] = file.len() as u32;
+        let start = old.offsets[*section] as usize;
+        file.extend(&bytes[start..start + old.counts[*section] as usize * sizes[*section]]);
     }
-    file.resize(file.len() + gaps[7], 0);
-    trailer.length = (file.len() + TRAILER) as u32;
+    file.resize(file.len() + gaps[order.len()], 0);
+    trailer.length = (file.len() + case.edition.trailer_size()) as u32;
     file.extend(trailer.bytes());
     file
 }
 
 /// The case of a whole file.
-fn case_of(input: &Input) -> Option<Case> {
+pub fn case_of(input: &Input) -> Option<Case> {
     let trailer = Trailer::read(&input.file)?;
-    Case::read(&input.file, Version::of(trailer.version)?, trailer.counts.map(|count| count as usize))
+    let counts: Vec<usize> = trailer.counts.iter().map(|count| *count as usize).collect();
+    Case::read(&input.file, Version::of(trailer.version)?, named_edition(&input.file)?, &counts)
 }
 
 fn add_chains(list: &mut Faults) {
     list.input(1, "a gap between sections, trailer mended", |input, chance| {
-        let mut gaps = [0; 8];
-        gaps[chance.within(0, 7) as usize] = chance.of(&[1, 4, 8, 24]);
-        input.file = laid_out(&case_of(input)?, [0, 1, 2, 3, 4, 5, 6], gaps);
+        let case = case_of(input)?;
+        let order: Vec<usize> = (0..case.counts().len()).collect();
+        let mut gaps = vec![0; order.len() + 1];
+        gaps[any(chance, order.len() + 1)?] = chance.of(&[1, 4, 8, 24]);
+        input.file = laid_out(&case, &order, &gaps);
         Some(0)
     });
     list.input(1, "sections exchanged, trailer mended", |input, chance| {
         let case = case_of(input)?;
-        let place = chance.within(1, 5) as usize;
-        let mut order = [0, 1, 2, 3, 4, 5, 6];
+        let mut order: Vec<usize> = (0..case.counts().len()).collect();
+        let place = chance.within(1, order.len() as u64 - 2) as usize;
         order.swap(place, place + 1);
-        let changed = laid_out(&case, order, [0; 8]);
+        let changed = laid_out(&case, &order, &vec![0; order.len() + 1]);
         // an empty table stands in both places
         (!case.circuits.is_empty() || place > 2).then(|| input.file = changed)?;
         Some(0)
@@ -158,7 +177,7 @@ fn add_chains(list: &mut Faults) {
 fn add_counts(list: &mut Faults) {
     list.case(1, 0, "no nodes", |case, _| {
         case.nodes.clear();
-        case.runs.iter_mut().for_each(|run| run.truncate(case.circuits.len()));
+        fit_runs(case);
         Some(0)
     });
     list.case(1, 0, "257 nodes", |case, _| {
@@ -169,13 +188,15 @@ fn add_counts(list: &mut Faults) {
             demand: 0,
         });
         case.nodes = std::mem::take(&mut case.nodes).into_iter().chain(more).collect();
-        case.runs.iter_mut().for_each(|run| run.resize(257 + case.circuits.len(), 0));
+        fit_runs(case);
         Some(0)
     });
     list.case(1, 0, "513 circuits", |case, _| grow_circuits(case, 513));
-    list.case(1, 0, "481 to 512 circuits in version 2", |case, chance| {
-        let count = chance.of(&[481, 481, 482, 511, 512]);
-        (case.version == Version::Two).then(|| grow_circuits(case, count))?
+    list.only(Edition::One, |list| {
+        list.case(1, 0, "481 to 512 circuits in version 2", |case, chance| {
+            let count = chance.of(&[481, 481, 482, 511, 512]);
+            (case.version == Version::Two).then(|| grow_circuits(case, count))?
+        });
     });
     list.case(1, 0, "513 stations", |case, _| {
         let node = case.nodes.first()?.name;
@@ -190,38 +211,41 @@ fn add_counts(list: &mut Faults) {
     });
 }
 
-/// Solutions of one row more in the file.
-fn add_solutions(list: &mut Faults) {
-    for (system, name) in ["base", "wider", "local"].into_iter().enumerate() {
-        list.input(1, format!("one row more of {name} in the file, trailer mended"), move |input, _| {
-            let mut case = case_of(input)?;
-            case.runs[system].push(0);
-            input.file = case.bytes();
-            Some(0)
-        });
-    }
+/// A solution of one row more in the file.
+fn add_solution(list: &mut Faults, place: usize, name: &str) {
+    list.input(1, format!("one row more of {name} in the file, trailer mended"), move |input, _| {
+        let mut case = case_of(input)?;
+        case.runs[place].push(0);
+        input.file = case.bytes();
+        Some(0)
+    });
 }
 
 /// Circuits without length to so many, all of them in order.
-fn grow_circuits(case: &mut Case, count: usize) -> Option<u64> {
+pub fn grow_circuits(case: &mut Case, count: usize) -> Option<u64> {
     let (first, second) = (case.nodes.first()?.name, case.nodes.get(1)?.name);
     let row = CircuitRow { first, second, voltage: 400, x: 1, overhead: 0, cable: 0, mark: 0, factor: 0 };
     case.circuits.resize(count, row);
-    case.runs.iter_mut().for_each(|run| run.resize(case.nodes.len() + count, 0));
+    fit_runs(case);
     Some(0)
 }
 
-fn add_runs(list: &mut Faults) {
-    for (system, name) in ["base", "wider", "local"].into_iter().enumerate() {
-        list.input(1, format!("{name} lent one number short"), move |input, _| input.runs[system].pop().map(|_| 0));
-        list.input(1, format!("{name} lent one number long"), move |input, _| {
-            input.runs[system].push(0);
-            Some(0)
-        });
-        list.input(1, format!("{name} lent with any other length"), move |input, chance| {
-            let old = input.runs[system].len();
-            input.runs[system].resize(chance.within(0, 1_000) as usize, 0);
-            (input.runs[system].len() != old).then_some(0)
-        });
-    }
+/// Solutions of as many rows as the tables have.
+fn fit_runs(case: &mut Case) {
+    let rows = case.rows();
+    case.own_runs_mut().iter_mut().for_each(|run| run.resize(rows, 0));
+}
+
+/// A run of another length.
+fn add_run(list: &mut Faults, place: usize, name: &str) {
+    list.input(1, format!("{name} lent one number short"), move |input, _| input.runs[place].pop().map(|_| 0));
+    list.input(1, format!("{name} lent one number long"), move |input, _| {
+        input.runs[place].push(0);
+        Some(0)
+    });
+    list.input(1, format!("{name} lent with any other length"), move |input, chance| {
+        let old = input.runs[place].len();
+        input.runs[place].resize(chance.within(0, 1_000) as usize, 0);
+        (input.runs[place].len() != old).then_some(0)
+    });
 }

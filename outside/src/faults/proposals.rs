@@ -1,39 +1,74 @@
-//! 01, 8 to 11: what is proposed for each system, and the directions.
+//! 01, 8 to 11: what is proposed for each system, and the directions. 02, CR 5: peak's systems too, and 15.
 
 use super::{any, Faults};
-use reference::file::Case;
+use crate::bands::{at_edge, has_length, Doubt, Flows, BASE, PEAK_BASE, REFUSED};
+use reference::file::{Case, Edition, RUNS};
 use reference::random::Chance;
-use reference::solutions::{base_system, local_system, misses, signed_lengths, wider_system, System};
+use reference::solutions::{base_systems, length_systems, lengths, misses, System};
 use reference::tables::{sound_tables, Tables};
 
-const NAMES: [&str; 3] = ["base", "wider", "local"];
-/// 01, Quantities: the greatest magnitudes.
-const POTENTIAL: [i64; 3] = [2_000_000_000_000_000_000, 10_000_000_000_000_000, 10_000_000_000_000_000];
+/// 01, Quantities: the greatest magnitudes, by system.
+const POTENTIAL: [i64; RUNS] = [BASE_POTENTIAL, OTHER_POTENTIAL, OTHER_POTENTIAL, BASE_POTENTIAL, OTHER_POTENTIAL];
+const BASE_POTENTIAL: i64 = 2_000_000_000_000_000_000;
+const OTHER_POTENTIAL: i64 = 10_000_000_000_000_000;
 const FLOW: i64 = 100_000_000_000_000;
 const MISSES: i128 = 100_000_000;
 
+/// How a fault of `REFUSED` is named: it may undo another of 11 or 15, since it moves a flow.
+pub const MOVED: &str = "moved to";
+
 pub fn add(list: &mut Faults) {
-    for (system, name) in NAMES.into_iter().enumerate() {
-        add_numbers(list, system, name);
-        add_balance(list, system, name);
-        list.case(10, system as u64 + 1, format!("{name}: misses one step past 100,000,000"), move |case, chance| {
-            let (place, step) = step_past(case, system, chance)?;
-            case.runs[system][place] += step;
-            Some(0)
-        });
-        list.case(10, system as u64 + 1, format!("{name}: a potential far off"), move |case, chance| {
-            let place = any(chance, case.nodes.len()).filter(|place| *place != reference(case))?;
-            let far = chance.of(&[300_000_000, -300_000_000, POTENTIAL[system] / 2]);
-            let moved = case.runs[system][place]
-                .checked_add(far)
-                .filter(|number| number.unsigned_abs() <= POTENTIAL[system].unsigned_abs())?;
-            case.runs[system][place] = moved;
-            (sum_of_misses(case, system)? > MISSES).then_some(0)
+    list.each_solution(add_numbers);
+    list.each_solution(add_balance);
+    list.each_solution(add_misses);
+    for (word, backward) in [("forward", false), ("backward", true)] {
+        let mut add = |edition, doubt, cause| {
+            list.only(edition, |list| add_doubt(list, doubt, format!("{cause}, {word}"), backward));
+        };
+        add(Edition::One, (11, BASE), "a direction in doubt");
+        add(Edition::Two, (11, BASE), "edition 2: a marked circuit's direction in doubt");
+        add(Edition::Two, (11, PEAK_BASE), "edition 2: a direction in doubt at peak");
+        add(Edition::Two, (15, 0), "edition 2: a background in doubt");
+    }
+    list.only(Edition::One, |list| add_edges(list, Edition::One));
+    list.only(Edition::Two, |list| add_edges(list, Edition::Two));
+}
+
+/// 11, 15: flows anywhere in a band.
+fn add_doubt(list: &mut Faults, doubt: Doubt, cause: String, backward: bool) {
+    list.case(doubt.0, doubt.1, cause, move |case, chance| in_doubt(case, chance, doubt, backward));
+}
+
+/// 11, 15: flows at the ends of a band.
+fn add_edges(list: &mut Faults, edition: Edition) {
+    // Edition 1 has no peak.
+    let known = |doubt: Doubt| edition == Edition::Two || doubt.1 == BASE;
+    for (cause, edge, doubt) in REFUSED.into_iter().filter(|(_, _, doubt)| known(*doubt)) {
+        let cause = format!("edition {}: {MOVED} {cause}", edition.number());
+        list.case(doubt.0, doubt.1, cause, move |case, chance| {
+            let (moved, place) = at_edge(case, edge, Some(doubt), chance)?;
+            *case = moved;
+            Some(place as u64 + 1)
         });
     }
-    for (cause, backward) in [("a direction in doubt, forward", false), ("a direction in doubt, backward", true)] {
-        list.case(11, 1, cause, move |case, chance| in_doubt(case, chance, backward));
-    }
+}
+
+/// 10: misses past their limit.
+fn add_misses(list: &mut Faults, system: usize, name: &str) {
+    list.case(10, system as u64 + 1, format!("{name}: misses one step past 100,000,000"), move |case, chance| {
+        let (place, step) = step_past(case, system, chance)?;
+        case.runs[system][place] += step;
+        Some(0)
+    });
+    list.case(10, system as u64 + 1, format!("{name}: a potential far off"), move |case, chance| {
+        let place = any(chance, case.nodes.len()).filter(|place| *place != reference(case))?;
+        let far = chance.of(&[300_000_000, -300_000_000, POTENTIAL[system] / 2]);
+        let moved = case.runs[system][place]
+            .checked_add(far)
+            .filter(|number| number.unsigned_abs() <= POTENTIAL[system].unsigned_abs())?;
+        case.runs[system][place] = moved;
+        (!misses_pass(case, system)).then_some(0)
+    });
 }
 
 /// 8: numbers out of range, and the reference's potential.
@@ -91,21 +126,18 @@ fn reference(case: &Case) -> usize {
     case.settings.reference as usize - 1
 }
 
-/// The sound tables of a case and one of its systems.
-fn system_of(case: &Case, system: usize) -> Option<(Tables, System)> {
+/// The sound tables of a case and one of its systems, by its place from 0.
+fn system_of(case: &Case, place: usize) -> Option<(Tables, System)> {
     let tables = sound_tables(case).ok()?;
-    let lengths = signed_lengths(&tables, &case.runs[0][case.nodes.len()..]);
-    let of = match system {
-        0 => base_system(&tables),
-        1 => wider_system(&tables, &lengths),
-        _ => local_system(&tables, &lengths),
-    };
+    let behind = length_systems(&tables, &lengths(&tables, case.lent()));
+    let mut systems = base_systems(&tables).into_iter().chain(behind);
+    let of = systems.find(|system| system.number as usize == place + 1)?;
     Some((tables, of))
 }
 
-fn sum_of_misses(case: &Case, system: usize) -> Option<i128> {
-    let (tables, of) = system_of(case, system)?;
-    Some(misses(&tables, &of, &case.runs[system]))
+/// Whether the tables are sound and the sum of the misses is within its limit.
+pub fn misses_pass(case: &Case, system: usize) -> bool {
+    system_of(case, system).is_some_and(|(tables, of)| misses(&tables, &of, &case.runs[system]) <= MISSES)
 }
 
 /// A node and the least change of its potential, up or down, that brings the sum of the misses past its limit. One less is accepted.
@@ -130,18 +162,22 @@ pub fn step_past(case: &Case, system: usize, chance: &mut Chance) -> Option<(usi
     Some((place, sign * high))
 }
 
-/// 11: a length for a circuit without one whose base flow is in the band of doubt. A direction in doubt before it goes first.
-fn in_doubt(case: &mut Case, chance: &mut Chance, backward: bool) -> Option<u64> {
-    let nodes = case.nodes.len();
-    let flow = |place: usize| case.runs[0][nodes + place];
-    let band = |place: usize| {
-        (200_000_001..=400_000_000).contains(&flow(place).unsigned_abs()) && (flow(place) < 0) == backward
+/// 11, 15: a length for a circuit without one whose flows are in the band. In edition 2 the mark is what the doubt asks for.
+fn in_doubt(case: &mut Case, chance: &mut Chance, doubt: Doubt, backward: bool) -> Option<u64> {
+    let marked = |place: usize| match case.edition {
+        Edition::One => case.circuits[place].mark == 1,
+        Edition::Two => doubt == (11, BASE),
     };
-    let place = (0..case.circuits.len()).find(|place| band(*place))?;
+    let flows = |place: usize| Flows { marked: marked(place), ..Flows::of(case, place) };
+    let flow = |place: usize| flows(place).flow(if doubt.1 == PEAK_BASE { PEAK_BASE } else { BASE });
+    let band = |place: &usize| {
+        !has_length(&case.circuits[*place]) && flows(*place).doubt() == Some(doubt) && (flow(*place) < 0) == backward
+    };
+    let places: Vec<usize> = (0..case.circuits.len()).filter(band).collect();
+    let place = places[any(chance, places.len())?];
+    let mark = marked(place) as u32;
     let row = &mut case.circuits[place];
-    if row.overhead > 0 || row.cable > 0 {
-        return None;
-    }
+    row.mark = mark;
     *(if chance.within(0, 1) == 0 { &mut row.overhead } else { &mut row.cable }) = chance.of(&[1, 500_000]);
     Some(place as u64 + 1)
 }

@@ -1,14 +1,16 @@
-//! 01, 6 and 7: nodes out of reach, totals. 02, CR 1, 13: no chargeable TEC.
+//! 01, 6 and 7: nodes out of reach, totals. 02, CR 1, 13: no chargeable TEC. 02, CR 5, 14: generation that does not meet demand.
 
 use super::{any, Faults};
-use crate::networks::{spread_tec, total_demand, PAYING};
-use reference::file::{padded, Case, Name, StationRow};
+use crate::backgrounds::{set_demand, Running, PEAK, YEAR_ROUND};
+use crate::networks::{spread_tec, total_demand, total_tec, PAYING};
+use reference::file::{padded, Case, Edition, Name, StationRow};
 use reference::tables::INTERCONNECTOR;
 
 pub fn add(list: &mut Faults) {
     add_reach(list);
     add_totals(list);
     add_chargeable(list);
+    list.only(Edition::Two, add_generation);
 }
 
 fn add_reach(list: &mut Faults) {
@@ -25,7 +27,7 @@ fn add_reach(list: &mut Faults) {
     list.case(6, 0, "no circuits at all", |case, _| {
         let nodes = case.nodes.len();
         case.circuits.clear();
-        case.runs.iter_mut().for_each(|run| run.truncate(nodes));
+        case.own_runs_mut().iter_mut().for_each(|run| run.truncate(nodes));
         Some(first_other(case)? as u64 + 1)
     });
 }
@@ -82,6 +84,45 @@ fn add_chargeable(list: &mut Faults) {
         make_all_links(case);
         spread_tec(case, 100_000_000).then_some(0)
     });
+}
+
+/// 14: demand out of what one background lets pass, while the other and 7 do.
+fn add_generation(list: &mut Faults) {
+    list.case(14, 0, "fixed one kilowatt above demand", |case, _| {
+        let year_round = Running::of(case, YEAR_ROUND);
+        refused_demand(case, year_round.fixed.checked_sub(1)?)
+    });
+    list.case(14, 0, "fixed above demand", |case, chance| {
+        let year_round = Running::of(case, YEAR_ROUND);
+        refused_demand(case, any(chance, year_round.fixed as usize)? as u64)
+    });
+    list.case(14, 0, "variable one kilowatt too small year round", |case, _| {
+        let [year_round, peak] = [YEAR_ROUND, PEAK].map(|scaling| Running::of(case, scaling));
+        let demand = year_round.most() + 1;
+        (demand <= peak.most()).then(|| refused_demand(case, demand))?
+    });
+    list.case(14, 0, "variable one kilowatt too small at peak", |case, _| {
+        let [year_round, peak] = [YEAR_ROUND, PEAK].map(|scaling| Running::of(case, scaling));
+        let demand = peak.most() + 1;
+        (year_round.fixed <= demand && demand <= year_round.most()).then(|| refused_demand(case, demand))?
+    });
+    list.case(14, 0, "variable too small in both", |case, _| {
+        let [year_round, peak] = [YEAR_ROUND, PEAK].map(|scaling| Running::of(case, scaling));
+        let demand = total_tec(case).min(100_000_000);
+        (year_round.most() < demand && peak.most() < demand).then(|| refused_demand(case, demand))?
+    });
+    list.case(14, 0, "nothing that runs at peak", |case, chance| {
+        case.stations.iter_mut().for_each(|row| row.plant = chance.of(&[1, 3]));
+        let paying = case.stations.iter_mut().find(|row| row.tec > 0)?;
+        paying.plant = 1;
+        Some(0)
+    });
+}
+
+/// Sets a total demand that 7 lets pass and 14 does not.
+fn refused_demand(case: &mut Case, demand: u64) -> Option<u64> {
+    let lawful = (1..=total_tec(case).min(100_000_000)).contains(&demand);
+    (lawful && set_demand(case, demand)).then_some(0)
 }
 
 fn make_all_links(case: &mut Case) {

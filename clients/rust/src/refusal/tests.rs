@@ -6,15 +6,26 @@ use crate::Answer;
 /// What the library answers (number, system, row), which refusal that is, and its words.
 type Known = ((u64, u64, u64), Refusal, &'static str);
 
-const ROW_FREE: [Known; 8] = [
-    ((1, 0, 0), Refusal::File, "the file is not whole, or a solution has another length than nodes plus circuits"),
+const ROW_FREE: [Known; 11] = [
+    (
+        (1, 0, 0),
+        Refusal::File,
+        "the file is not whole, or a solution has another length than nodes plus circuits (none for peak in edition 1)",
+    ),
     ((2, 0, 0), Refusal::Setting, "a setting is out of its range"),
     ((7, 0, 0), Refusal::Total, "total demand or total TEC is out of its range, or TEC is below demand"),
     ((10, 1, 0), Refusal::Misses { system: System::Base }, "base solution: the misses sum up too high"),
     ((10, 2, 0), Refusal::Misses { system: System::Wider }, "wider solution: the misses sum up too high"),
     ((10, 3, 0), Refusal::Misses { system: System::Local }, "local solution: the misses sum up too high"),
+    ((10, 4, 0), Refusal::Misses { system: System::PeakBase }, "peak base solution: the misses sum up too high"),
+    ((10, 5, 0), Refusal::Misses { system: System::PeakWider }, "peak wider solution: the misses sum up too high"),
     ((12, 0, 0), Refusal::Buffer, "the buffer is shorter than the sheet"),
     ((13, 0, 0), Refusal::ChargeableTec, "no TEC is chargeable: all of it is of interconnectors (plant type 3)"),
+    (
+        (14, 0, 0),
+        Refusal::Unscalable,
+        "generation does not scale to demand in a background: fixed plant types come to more, or the others have less than is left",
+    ),
 ];
 
 const OF_A_ROW: [Known; 5] = [
@@ -30,10 +41,14 @@ const OF_A_ROW: [Known; 5] = [
         "station 23 is malformed, out of range, at no node, or has the identifier of an earlier station",
     ),
     ((6, 0, 24), Refusal::Unreached { row: 24 }, "node 24 cannot be reached from the reference"),
-    ((11, 1, 25), Refusal::Direction { row: 25 }, "the direction of circuit 25 is in doubt"),
+    (
+        (15, 0, 25),
+        Refusal::BackgroundInDoubt { circuit: 25 },
+        "it is in doubt whether circuit 25 counts for year round or for peak",
+    ),
 ];
 
-const OF_A_SYSTEM: [Known; 6] = [
+const OF_A_SYSTEM: [Known; 12] = [
     (
         (8, 1, 31),
         Refusal::Number { system: System::Base, row: 31 },
@@ -50,23 +65,53 @@ const OF_A_SYSTEM: [Known; 6] = [
         "local solution, number 33: out of range, or the reference's potential is not 0",
     ),
     (
-        (9, 1, 34),
-        Refusal::Balance { system: System::Base, row: 34 },
-        "base solution: the flows do not balance at node 34",
+        (8, 4, 34),
+        Refusal::Number { system: System::PeakBase, row: 34 },
+        "peak base solution, number 34: out of range, or the reference's potential is not 0",
     ),
     (
-        (9, 2, 35),
-        Refusal::Balance { system: System::Wider, row: 35 },
-        "wider solution: the flows do not balance at node 35",
+        (8, 5, 35),
+        Refusal::Number { system: System::PeakWider, row: 35 },
+        "peak wider solution, number 35: out of range, or the reference's potential is not 0",
     ),
     (
-        (9, 3, 36),
-        Refusal::Balance { system: System::Local, row: 36 },
-        "local solution: the flows do not balance at node 36",
+        (9, 1, 36),
+        Refusal::Balance { system: System::Base, row: 36 },
+        "base solution: the flows do not balance at node 36",
+    ),
+    (
+        (9, 2, 37),
+        Refusal::Balance { system: System::Wider, row: 37 },
+        "wider solution: the flows do not balance at node 37",
+    ),
+    (
+        (9, 3, 38),
+        Refusal::Balance { system: System::Local, row: 38 },
+        "local solution: the flows do not balance at node 38",
+    ),
+    (
+        (9, 4, 39),
+        Refusal::Balance { system: System::PeakBase, row: 39 },
+        "peak base solution: the flows do not balance at node 39",
+    ),
+    (
+        (9, 5, 40),
+        Refusal::Balance { system: System::PeakWider, row: 40 },
+        "peak wider solution: the flows do not balance at node 40",
+    ),
+    (
+        (11, 1, 41),
+        Refusal::Direction { system: System::Base, row: 41 },
+        "base solution: the direction of circuit 41 is in doubt",
+    ),
+    (
+        (11, 4, 42),
+        Refusal::Direction { system: System::PeakBase, row: 42 },
+        "peak base solution: the direction of circuit 42 is in doubt",
     ),
 ];
 
-const ENDS: [u64; 8] = [0, 1, 2, 3, 4, 7, 1 << 32, u64::MAX];
+const ENDS: [u64; 10] = [0, 1, 2, 3, 4, 5, 6, 7, 1 << 32, u64::MAX];
 
 fn known() -> impl Iterator<Item = Known> {
     ROW_FREE.into_iter().chain(OF_A_ROW).chain(OF_A_SYSTEM)
@@ -91,14 +136,14 @@ fn each_known_answer_is_its_own_refusal_in_its_own_words() {
 
 #[test]
 fn every_number_of_the_table_is_tried() {
-    for number in 1..=13 {
+    for number in 1..=15 {
         assert!(known().any(|((tried, ..), ..)| tried == number), "{number}");
     }
 }
 
 #[test]
 fn a_number_outside_the_table_is_unknown() {
-    for number in [14, 16, 255, 256 + 1, (1 << 32) + 1, u64::MAX - 1, u64::MAX] {
+    for number in [16, 17, 255, 256 + 1, (1 << 32) + 1, u64::MAX - 1, u64::MAX] {
         for system in ENDS {
             for row in ENDS {
                 let refusal = Refusal::Unknown { number, system, row };
@@ -114,48 +159,60 @@ fn a_number_outside_the_table_is_unknown() {
     }
 }
 
+/// Numbers of the table with a system or a row that they never have.
+const STRANGE: [(u64, u64, u64); 35] = [
+    (1, 0, 1),
+    (1, 1, 0),
+    (2, 0, 9),
+    (2, 3, 0),
+    (3, 1, 1),
+    (4, 2, 1),
+    (5, 3, 1),
+    (6, 1, 1),
+    (7, 0, 1),
+    (7, 1, 0),
+    (8, 0, 1),
+    (8, 6, 1),
+    (9, 0, 1),
+    (9, 6, 1),
+    (9, u64::MAX, 1),
+    (10, 0, 0),
+    (10, 6, 0),
+    (10, 1, 1),
+    (10, 5, 1),
+    (11, 0, 1),
+    (11, 2, 1),
+    (11, 3, 1),
+    (11, 5, 1),
+    (11, 6, 1),
+    (12, 0, 1),
+    (12, 1, 0),
+    (13, 0, 1),
+    (13, 0, u64::MAX),
+    (13, 1, 0),
+    (13, 3, 1),
+    (14, 0, 1),
+    (14, 1, 0),
+    (14, 4, 0),
+    (15, 1, 1),
+    (15, 4, 1),
+];
+
 #[test]
 fn a_known_number_with_a_strange_system_or_row_is_unknown() {
-    let strange = [
-        (1, 0, 1),
-        (1, 1, 0),
-        (2, 0, 9),
-        (2, 3, 0),
-        (3, 1, 1),
-        (4, 2, 1),
-        (5, 3, 1),
-        (6, 1, 1),
-        (7, 0, 1),
-        (7, 1, 0),
-        (8, 0, 1),
-        (8, 4, 1),
-        (9, 0, 1),
-        (9, u64::MAX, 1),
-        (10, 0, 0),
-        (10, 4, 0),
-        (10, 1, 1),
-        (11, 0, 1),
-        (11, 2, 1),
-        (12, 0, 1),
-        (12, 1, 0),
-        (13, 0, 1),
-        (13, 0, u64::MAX),
-        (13, 1, 0),
-        (13, 3, 1),
-    ];
-    for (number, system, row) in strange {
+    for (number, system, row) in STRANGE {
         assert_eq!(Refusal::of(answer(number, system, row)), Some(Refusal::Unknown { number, system, row }));
     }
 }
 
 #[test]
 fn every_answer_is_carried_as_it_came() {
-    for number in (1..=300).chain([1 << 32, (1 << 32) + 12, (1 << 32) + 13, u64::MAX]) {
+    for number in (1..=300).chain([1 << 32, (1 << 32) + 12, (1 << 32) + 15, u64::MAX]) {
         for system in ENDS {
             for row in ENDS {
                 let refusal = Refusal::of(answer(number, system, row)).expect("a number other than 0 is a refusal");
                 assert_eq!(carried(refusal), (number, system, row));
-                assert!(number <= 13 || matches!(refusal, Refusal::Unknown { .. }));
+                assert!(number <= 15 || matches!(refusal, Refusal::Unknown { .. }));
             }
         }
     }
