@@ -74,6 +74,7 @@ pub fn of_refusal(cause: Refusal) -> Values
         Refusal::NoChargeableTec => refusal(13, 0, 0),
         Refusal::Unscalable => refusal(14, 0, 0),
         Refusal::BackgroundInDoubt(row) => refusal(15, 0, row),
+        Refusal::BadShare(row) => refusal(16, 0, row),
     }
 }
 

@@ -1,4 +1,4 @@
-// The entry called with KILN, lent buffers of several lengths and runs of wrong lengths, peak's too: prints each answer's values, and whether the buffer changed.
+// The entry called with KILN, lent buffers of several lengths, runs of wrong lengths, peak's too, and share files: prints each answer's values, and whether the buffer changed.
 // Then the line of a refusal, into a buffer that is long enough and one that is a byte too short; and walks along ends that no sound table has.
 use libc::STDIN_FILENO;
 use libc::STDOUT_FILENO;
@@ -48,16 +48,17 @@ fn print_length(length: usize, out: &[u8]) {
 }
 
 // One call: what it answers, and how much of the buffer is as it was.
-fn call_five(
+fn call_all(
     file: &[u8],
     base: &[i64],
     wider: &[i64],
     local: &[i64],
     peak_base: &[i64],
     peak_wider: &[i64],
+    share: &[u8],
     out: &mut [u8],
 ) {
-    let answer = sheet::write(file, base, wider, local, peak_base, peak_wider, out);
+    let answer = sheet::write(file, base, wider, local, peak_base, peak_wider, share, out);
     let carried = answers::values(answer);
     print_number(carried.number);
     print_number(carried.system);
@@ -65,9 +66,9 @@ fn call_five(
     print_length(carried.length, out);
 }
 
-// A call with no run for peak.
+// A call with no run for peak and no share file.
 fn call(file: &[u8], base: &[i64], wider: &[i64], local: &[i64], out: &mut [u8]) {
-    call_five(file, base, wider, local, &[], &[], out);
+    call_all(file, base, wider, local, &[], &[], &[], out);
 }
 
 // A call with a buffer of 200 bytes.
@@ -100,12 +101,20 @@ fn wrong_runs(file: &[u8], base: &[i64], wider: &[i64], local: &[i64], long: &[i
     call_with_room(&file[..0], base, wider, local);
 }
 
-// Runs for peak, which edition 1 has not: one, the other, and both.
+// A share file, which edition 1 does not judge: one byte of it, and all of the case.
+fn share_files(file: &[u8], base: &[i64], wider: &[i64], local: &[i64]) {
+    let mut out = [7u8; 200];
+    call_all(file, base, wider, local, &[], &[], b"s", &mut out);
+    call_all(file, base, wider, local, &[], &[], file, &mut out);
+}
+
+// Runs for peak, which edition 1 has not: one, the other, and both; then share files.
 fn peak_runs(file: &[u8], base: &[i64], wider: &[i64], local: &[i64]) {
     let mut out = [7u8; 200];
-    call_five(file, base, wider, local, base, &[], &mut out);
-    call_five(file, base, wider, local, &[], wider, &mut out);
-    call_five(file, base, wider, local, base, wider, &mut out);
+    call_all(file, base, wider, local, base, &[], &[], &mut out);
+    call_all(file, base, wider, local, &[], wider, &[], &mut out);
+    call_all(file, base, wider, local, base, wider, &[], &mut out);
+    share_files(file, base, wider, local);
 }
 
 // The line of a refusal: how long it is, and how much of the buffer is as it was.

@@ -1,7 +1,8 @@
 -- The columns of a grid: what steps 8 to 10 ask of them is what they ask of the grid, so the figures are the same.
-use mathlib.Core.Path.{_≡_, refl, sym, _∙_, ap}
+use mathlib.Core.Path.{_≡_, refl, sym, _∙_, ap, ap₂}
 use mathlib.Core.Bool.{Bool, true}
 use mathlib.Core.List.{List}
+use mathlib.Core.Option.{Option}
 use Prim.Native.Nat.{ℕ, suc, _≤_, _<_}
 use native.Mathlib.Nat.{le-trans}
 use native.Mathlib.Omega.{arith}
@@ -22,38 +23,48 @@ use Rattle.meaning.specs.Editions.{Of}
 use Rattle.meaning.specs.Study.{Runs}
 use Rattle.meaning.specs.Grid.{Grid}
 use Rattle.meaning.specs.Grid as grid
-use Rattle.meaning.specs.Rows.{_between_and_}
-use Rattle.meaning.specs.Columns.{kwAt, noLine, noLocal}
+use Rattle.meaning.specs.Rows.{_between_and_, found}
+use Rattle.meaning.specs.Columns.{kwAt, price, column, noLine, noLocal}
 use Rattle.meaning.specs.Proposal.{potential}
-use Rattle.meaning.specs.Charging.{Basis, Priced, Zones, localFigures, zoneFigures}
-use Rattle.meaning.specs.Figures.{zones, weight, paying, payingIn, totalPaying, totalPayingIn, localMetres, basis}
+use Rattle.meaning.specs.Charging.{Basis, Priced, Zones, localFigures, zoneFigures, residual, remainder}
+use Rattle.meaning.specs.Sharing.{Sharing}
+use Rattle.meaning.specs.Figures.{zones, weight, paying, payingIn, totalPaying, totalPayingIn, sharing, localMetres, basis}
 use Rattle.meaning.proofs.Bases.{Alike, AlikePriced, C-same, priced-same, line-same, residual-alike, remainder-alike, zone-alike}
 use Rattle.meaning.proofs.Sides.{of-peak}
 use Rattle.meaning.proofs.Columns.{column-same}
-use Rattle.meaning.proofs.Says.{says-le, _also_}
+use Rattle.meaning.proofs.Says.{says-le, says-all, _also_}
 use Rattle.totals.specs.Totals.{totalOf}
 use Rattle.totals.proofs.TotalLaws.{added-up}
 use Rattle.zones.specs.declared.ZoneSums.{ZoneSums}
 use Rattle.zones.proofs.Laws.{reached-all}
-use Rattle.tariffs.specs.declared.zonal.Sides.{Sides}
-use Rattle.tariffs.specs.Sides.{paysIn, overFrom, sideFigures}
-use Rattle.tariffs.specs.Case.{localFrom, bySide, byBackground, sideIn, basisIn, figuresOf, settingsFit, totalsFit, figuresIn, sidesOver, atPeak, figuresOver}
+use Rattle.boundaries.specs.declared.Shares.{Shares}
+use Rattle.boundaries.specs.Boundaries.{sharingIn}
+use Rattle.tariffs.specs.declared.zonal.Backgrounds.{Backgrounds}
+use Rattle.tariffs.specs.Sides.{paysIn, overFrom, sharedZones, sharesFit, formIn, sideFigures}
+use Rattle.tariffs.specs.Case.{localFrom, bySide, byBackground, zonalIn, basisIn, figuresOf, settingsFit, totalsFit, figuresIn, backgroundsOver, atPeak, figuresOver}
 use Rattle.charges.proofs.OfSide.{SideOf, GridFits, sums, zones-are}
 
 -- ---- bases that are alike
 side-same : {S S′ : Priced} → AlikePriced S S′ → sideFigures S ≡ sideFigures S′
 unfolding sideFigures
 side-same {S = S} {S′ = S′} a =
-    rw (residual-alike a, remainder-alike a, column-same noLine 32 (S .zones YearRound .count) (λ k. zoneFigures S (suc k)) (λ k. zoneFigures S′ (suc k)) (λ k h. zone-alike a (suc k)), a .zones YearRound tt) refl
+    rw (residual-alike a, remainder-alike a, column-same noLine 32 (S .zones YearRound .count) (λ k. zoneFigures S (suc k)) (λ k. zoneFigures S′ (suc k)) (λ k h. zone-alike a (suc k)), a .zones YearRound tt)
+    (ap₂ (λ (e : Edition) (s : Option Sharing). record {
+      form = formIn e (found s);
+      zones = S′ .zones YearRound .count;
+      residual = price (residual S′);
+      remainder = remainder S′;
+      zone = column noLine 32 (S′ .zones YearRound .count) (λ k. zoneFigures S′ (suc k));
+    }) (a .edition) (a .sharing))
 
-figures-same : {B B′ : Basis} → Alike B B′ → figuresOf B ≡ figuresOf B′
+figures-same : {B B′ : Basis} {s t : Option Sharing} → Alike B B′ → s ≡ t → figuresOf B s ≡ figuresOf B′ t
 unfolding figuresOf
-figures-same {B = B} {B′ = B′} a =
+figures-same {B = B} {B′ = B′} a same =
     rw (
       C-same a YearRound tt,
       of-peak _ (ap (λ (s : Settings). s .edition) (a .settings)) (C-same a Peak),
-      side-same (priced-same a Generation),
-      side-same (priced-same a Demand),
+      side-same (priced-same a same Generation),
+      side-same (priced-same a same Demand),
       column-same noLocal 256 (B .nodes) (localFigures B) (localFigures B′) (line-same a),
       a .nodes,
       a .settings,
@@ -74,18 +85,16 @@ pub record ColumnsOf (G : Grid) (n : ℕ) (gz : List ℕ) (tec payers atPeak : L
   pub demanded : (b : Background) → SideOf G b Demand n dz demand demand
 
 module _ (G : Grid) (runs : Runs) (f : GridFits G runs) (n : ℕ) (gz : List ℕ) (tec payers payersAtPeak : List Kw) (dz : List ℕ) (demand : List Kw)
-    (o : ColumnsOf G n gz tec payers payersAtPeak dz demand) where
+    (o : ColumnsOf G n gz tec payers payersAtPeak dz demand) (share : List ℕ) (shares : Shares) (told : sharingIn shares (G .settings .«generation_zones») ≡ sharing G share)
+    (light-kw : (k : ℕ) → k < sharedZones (shares .«in_force») (G .settings .«generation_zones») → kwAt (shares .kw) k ≤ totalPaying G Generation) where
   abbrev s : Settings
   s = G .settings
 
   abbrev og : SideOf G YearRound Generation n gz tec payers
   og = o .generation YearRound tt
 
-  abbrev yearRound : Sides
-  yearRound = sidesOver (s .«generation_zones») (s .«demand_zones») n gz tec payers dz demand (runs (Wider YearRound))
-
-  abbrev peak : Sides
-  peak = sidesOver (atPeak (s .edition) (s .«generation_zones»)) (atPeak (s .edition) (s .«demand_zones»)) (atPeak (s .edition) n) gz tec payersAtPeak dz demand (runs (Wider Peak))
+  abbrev z : Backgrounds
+  z = backgroundsOver s n gz tec payers payersAtPeak dz demand (runs (Wider YearRound)) (runs (Wider Peak))
 
   few : n ≤ 256
   few = omega (arith, og .nodes, f .few)
@@ -104,7 +113,7 @@ module _ (G : Grid) (runs : Runs) (f : GridFits G runs) (n : ℕ) (gz : List ℕ
   total-is side = let e = payers-are side in rw (← added-up n (bySide payers demand side) few (rw e (f .kilowattsFit .all side .most))) e
 
   abbrev B : Basis
-  B = basisIn s yearRound peak (totalOf n payers .0) (totalOf n demand .0) n tec payers (runs Local)
+  B = basisIn s z (totalOf n payers .0) (totalOf n demand .0) n tec payers (runs Local)
 
   -- the local metres of a node are in their range
   local-is : (v : ℕ) → v < n → localFrom (potential (runs Local) v) ≡ localMetres runs v
@@ -136,23 +145,30 @@ module _ (G : Grid) (runs : Runs) (f : GridFits G runs) (n : ℕ) (gz : List ℕ
       ((((((r .zonesMost Generation, r .zonesMost Demand), r .p), r .constant), r .widerFactor), r .localFactor), r .revenue)
 
   -- what pays in the zones is some of what pays
-  in-zones : (b : Background) → Of b (s .edition) → (side : Side) → (let z = sideIn (byBackground yearRound peak b) side in sum (z .count) (paysIn (z .sums)) ≤ totalPaying G side)
+  in-zones : (b : Background) → Of b (s .edition) → (side : Side) → (let of = zonalIn z b side in sum (of .count) (paysIn (of .sums)) ≤ totalPaying G side)
   unfolding basisIn basis
-  in-zones b h side = let e = ap (λ (z : Zones). z .total) (sides b h side) in rw e (f .kilowattsFit .inAll b side)
+  in-zones b h side = let e = ap (λ (x : Zones). x .total) (sides b h side) in rw e (f .kilowattsFit .inAll b side)
 
-  light : (b : Background) (side : Side) → sideIn (byBackground yearRound peak b) side .over .total .0 ≤ totalPaying G side
+  light : (b : Background) (side : Side) → zonalIn z b side .over .total .0 ≤ totalPaying G side
   unfolding overFrom
   light YearRound Generation = in-zones YearRound tt Generation
   light YearRound Demand = in-zones YearRound tt Demand
   light Peak Generation = peak-most (s .edition) (s .«generation_zones») _ (λ h. in-zones Peak h Generation)
   light Peak Demand = peak-most (s .edition) (s .«demand_zones») _ (λ h. in-zones Peak h Demand)
 
-  totals-fit : (side : Side) → totalsFit (totalOf n (bySide payers demand side)) (sideIn yearRound side .over) (sideIn peak side .over) ≡ true
+  totals-fit : (side : Side) → totalsFit (totalOf n (bySide payers demand side)) (zonalIn z YearRound side .over) (zonalIn z Peak side .over) ≡ true
   unfolding totalsFit _between_and_
   totals-fit side =
       let a = f .kilowattsFit .all side in
       rw (total-is side) (((says-le also says-le) also says-le also says-le) .1 (((a .least, a .most), light YearRound side), light Peak side))
 
-  pub case-is : figuresOver n s gz tec payers payersAtPeak dz demand (runs (Wider YearRound)) (runs (Wider Peak)) (runs Local) ≡ figuresOf (basis G runs)
+  -- what pays a shared tariff is some of what pays
+  shares-fit : sharesFit shares (s .«generation_zones») (totalOf n payers .0) ≡ true
+  unfolding sharesFit
+  shares-fit = says-all (sharedZones (shares .«in_force») (s .«generation_zones»)) (λ k. says-le {m = kwAt (shares .kw) k} {n = totalOf n payers .0}) .1 (λ k h. rw (total-is Generation) (light-kw k h))
+
+  pub case-is : figuresOver n s gz tec payers payersAtPeak dz demand (runs (Wider YearRound)) (runs (Wider Peak)) (runs Local) shares ≡ figuresOf (basis G runs) (sharing G share)
   unfolding figuresOver figuresIn
-  case-is = rw (settings-fit, reached-all n (length (runs Local)) few (omega (arith, og .nodes, f .long Local tt)), totals-fit Generation, totals-fit Demand) (figures-same alike)
+  case-is =
+      rw (settings-fit, reached-all n (length (runs Local)) few (omega (arith, og .nodes, f .long Local tt)), totals-fit Generation, totals-fit Demand, shares-fit)
+      (figures-same alike told)

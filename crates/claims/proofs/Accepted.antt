@@ -61,70 +61,70 @@ module _ (sheet buffer : List ℕ) where
   refusal-settled Passes r = (λ e. absurd (accepted≢refused e), λ e. absurd (stops≢passes (sym e)))
   refusal-settled (Stops q) r = (λ e. ap Stops (refused-same e), λ e. ap Refused (stops-same e))
 
-module _ (file : List ℕ) (runs : Runs) (buffer : List ℕ) where
+module _ (file : List ℕ) (runs : Runs) (share buffer : List ℕ) where
   abbrev verdict : Judgement
-  verdict = judged file runs orElse bufferStage (sheetOf file runs) buffer
+  verdict = judged file runs share orElse bufferStage (sheetOf file runs share) buffer
 
   -- the conditions of the whole order are those of acceptance
-  all-met : AllMet (order file runs buffer) ↔ Accepting file runs buffer
+  all-met : AllMet (order file runs share buffer) ↔ Accepting file runs share buffer
   all-met =
-      let b = both-met (caseOrder file runs) (whole (length (sheetOf file runs) ≤ length buffer) ShortBuffer ∷ []) in
-      let c = case-met file runs in
+      let b = both-met (caseOrder file runs share) (whole (length (sheetOf file runs share) ≤ length buffer) ShortBuffer ∷ []) in
+      let c = case-met file runs share in
       (λ m. let t = b .0 m in (c .0 (t .0), t .1 .0), λ a. b .1 (c .1 (a .0), (a .1, tt)))
 
-  passing : (verdict ≡ Passes) ↔ Accepting file runs buffer
+  passing : (verdict ≡ Passes) ↔ Accepting file runs share buffer
   passing =
-      let p = judge-all file runs buffer .passes in
+      let p = judge-all file runs share buffer .passes in
       (λ e. all-met .0 (p .0 e), λ a. p .1 (all-met .1 a))
 
-  exactly : IsWritten file runs buffer ↔ Accepting file runs buffer
+  exactly : IsWritten file runs share buffer ↔ Accepting file runs share buffer
   unfolding settle
   exactly =
-      let s = sheet-settled (sheetOf file runs) buffer verdict in
+      let s = sheet-settled (sheetOf file runs share) buffer verdict in
       (λ e. passing .0 (s .0 e), λ a. s .1 (passing .1 a))
 
-  answered : (r : Refusal) → (settle file runs buffer .answer ≡ Refused r) ↔ Stopped file runs buffer r
+  answered : (r : Refusal) → (settle file runs share buffer .answer ≡ Refused r) ↔ Stopped file runs share buffer r
   unfolding settle
   answered r =
-      let s = refusal-settled (sheetOf file runs) buffer verdict r in
-      let k = judge-all file runs buffer .stops r in
+      let s = refusal-settled (sheetOf file runs share) buffer verdict r in
+      let k = judge-all file runs share buffer .stops r in
       (λ e. k .0 (s .0 e), λ f. s .1 (k .1 f))
 
-  stopped : (r : Refusal) → Stopped file runs buffer r → settle file runs buffer ≡ refused r buffer
+  stopped : (r : Refusal) → Stopped file runs share buffer r → settle file runs share buffer ≡ refused r buffer
   unfolding settle settledBy
-  stopped r f = ap (λ (j : Judgement). settledBy j (sheetOf file runs) buffer) (judge-all file runs buffer .stops r .1 f)
+  stopped r f = ap (λ (j : Judgement). settledBy j (sheetOf file runs share) buffer) (judge-all file runs share buffer .stops r .1 f)
 
-  either : Accepting file runs buffer ⊎ ((r : Refusal) × Stopped file runs buffer r)
+  either : Accepting file runs share buffer ⊎ ((r : Refusal) × Stopped file runs share buffer r)
   either = go verdict refl
     where
-      go : (j : Judgement) → verdict ≡ j → Accepting file runs buffer ⊎ ((r : Refusal) × Stopped file runs buffer r)
+      go : (j : Judgement) → verdict ≡ j → Accepting file runs share buffer ⊎ ((r : Refusal) × Stopped file runs share buffer r)
       go Passes e = inl (passing .0 e)
-      go (Stops r) e = inr (r, judge-all file runs buffer .stops r .0 e)
+      go (Stops r) e = inr (r, judge-all file runs share buffer .stops r .0 e)
 
 -- ---- demands 1 and 2: which refusal
 pub refused-exactly-when : RefusedExactlyWhen
-refused-exactly-when file runs buffer r = record { exactly = answered file runs buffer r; untouched = stopped file runs buffer r }
+refused-exactly-when file runs share buffer r = record { exactly = answered file runs share buffer r; untouched = stopped file runs share buffer r }
 
 pub one-answer : OneAnswer
-one-answer file runs buffer = record {
-  either = either file runs buffer;
-  notBoth = λ a r f. stops≢passes (sym (judge-all file runs buffer .stops r .1 f) ∙ passing file runs buffer .1 a);
-  onlyOne = λ q r f g. refused-same (sym (answered file runs buffer q .1 f) ∙ answered file runs buffer r .1 g);
+one-answer file runs share buffer = record {
+  either = either file runs share buffer;
+  notBoth = λ a r f. stops≢passes (sym (judge-all file runs share buffer .stops r .1 f) ∙ passing file runs share buffer .1 a);
+  onlyOne = λ q r f g. refused-same (sym (answered file runs share buffer q .1 f) ∙ answered file runs share buffer r .1 g);
 }
 
 -- ---- demand 1
 pub every-input-settled : EveryInputSettled
-every-input-settled file runs buffer = go (either file runs buffer)
+every-input-settled file runs share buffer = go (either file runs share buffer)
   where
-    go : Accepting file runs buffer ⊎ ((r : Refusal) × Stopped file runs buffer r) → IsWritten file runs buffer ⊎ IsRefused file runs buffer
-    go (inl a) = inl (exactly file runs buffer .1 a)
+    go : Accepting file runs share buffer ⊎ ((r : Refusal) × Stopped file runs share buffer r) → IsWritten file runs share buffer ⊎ IsRefused file runs share buffer
+    go (inl a) = inl (exactly file runs share buffer .1 a)
     go (inr (r, f)) =
-        inr (record { cause = r; listed = stopped-listed file runs buffer r f; settled = stopped file runs buffer r f })
+        inr (record { cause = r; listed = stopped-listed file runs share buffer r f; settled = stopped file runs share buffer r f })
 
 -- ---- demand 2, first half
 pub accepted-exactly-when : AcceptedExactlyWhen
-accepted-exactly-when file runs buffer = record { accepted = exactly file runs buffer; otherwise = else (every-input-settled file runs buffer) }
+accepted-exactly-when file runs share buffer = record { accepted = exactly file runs share buffer; otherwise = else (every-input-settled file runs share buffer) }
   where
-    else : IsWritten file runs buffer ⊎ IsRefused file runs buffer → (Accepting file runs buffer → ⊥) → IsRefused file runs buffer
-    else (inl w) f = absurd (f (exactly file runs buffer .0 w))
+    else : IsWritten file runs share buffer ⊎ IsRefused file runs share buffer → (Accepting file runs share buffer → ⊥) → IsRefused file runs share buffer
+    else (inl w) f = absurd (f (exactly file runs share buffer .0 w))
     else (inr r) f = r

@@ -83,13 +83,13 @@ module _ (S : Study) (sound : SoundTables S) (runs runs′ : Runs) (s : Solved (
 -- ---- demand 3
 pub solvers-agree : SolversAgree
 unfolding gridOf
-solvers-agree file file′ runs runs′ a a′ same = record {
+solvers-agree file file′ runs runs′ share a a′ same = record {
   backgrounds = same-background S sound runs runs′ s s′;
   directions = same-direction S sound runs runs′ s s′;
   potentials = λ system has. potential-near S sound (gridOf S) runs runs′ system (one S sound runs runs′ s s′ system) (s .each system has) (s′ .each system has);
-  distances = subst (λ (G : Grid). DistancesWithin 1 (gridOf S) G runs runs′ (sheetOf file runs) (sheetOf file′ runs′)) (sym (same-grid same))
-      (one-network file file′ runs runs′ a a′ (ap (λ (s : Settings). s .edition) (same .settings)) grounds all);
-  sheets = λ r. ap₂ (λ (G : Grid) (R : Runs). sheet G R) (same-grid same) r;
+  distances = subst (λ (G : Grid). DistancesWithin 1 (gridOf S) G runs runs′ share share (sheetOf file runs share) (sheetOf file′ runs′ share)) (sym (same-grid same))
+      (one-network file file′ runs runs′ share share a a′ (ap (λ (s : Settings). s .edition) (same .settings)) grounds all);
+  sheets = λ r. ap₂ (λ (G : Grid) (R : Runs). sheet G R share) (same-grid same) r;
 }
   where
     S : Study

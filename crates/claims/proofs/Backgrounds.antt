@@ -36,7 +36,7 @@ pub record Low (v : Values) : Type 0 where
   pub number : v .number ≤ 13
   pub system : v .system ≤ 3
 
-low-row : {e : Edition} {n m k : ℕ} {r : Refusal} {v : Values} → e ≡ First → Listed e n m k r v → Low v
+low-row : {e : Edition} {n m k z : ℕ} {r : Refusal} {v : Values} → e ≡ First → Listed e n m k z r v → Low v
 unfolding refusal
 low-row first Listed.badFile = record { number = omega arith; system = omega arith }
 low-row first Listed.badSetting = record { number = omega arith; system = omega arith }
@@ -53,25 +53,26 @@ low-row first Listed.shortBuffer = record { number = omega arith; system = omega
 low-row first Listed.noChargeableTec = record { number = omega arith; system = omega arith }
 low-row first (Listed.unscalable second) = absurd (first≢second (sym first ∙ second))
 low-row first (Listed.backgroundInDoubt row second i) = absurd (first≢second (sym first ∙ second))
+low-row first (Listed.badShare row second i) = absurd (first≢second (sym first ∙ second))
 
 pub edition-one-answers : EditionOneAnswers
-edition-one-answers file runs buffer r first e =
-    let low = low-row first (stopped-listed file runs buffer r (refused-exactly-when file runs buffer r .exactly .0 e)) in
+edition-one-answers file runs share buffer r first e =
+    let low = low-row first (stopped-listed file runs share buffer r (refused-exactly-when file runs share buffer r .exactly .0 e)) in
     record { number = low .number; system = low .system }
 
 -- ---- peak's runs are as long as the others in edition 2, and empty in edition 1
 pub runs-of-the-edition : RunsOfTheEdition
 unfolding runLength systemNumber
 runs-of-the-edition = record {
-  second = λ file buffer base wider local second.
-      refused-exactly-when file (threeRuns base wider local) buffer BadFile .untouched
+  second = λ file share buffer base wider local second.
+      refused-exactly-when file (threeRuns base wider local) share buffer BadFile .untouched
       (inl (
         refl,
         λ w.
             omega (arith, w .nodes .least, w .lengths (Base Peak), ap (λ (e : Edition). cond (leb 4 (solutions e)) (solutionCount file) 0) second),
       ));
-  first = λ file buffer base wider local peakBase peakWider first some.
-      refused-exactly-when file (runsOf base wider local peakBase peakWider) buffer BadFile .untouched
+  first = λ file share buffer base wider local peakBase peakWider first some.
+      refused-exactly-when file (runsOf base wider local peakBase peakWider) share buffer BadFile .untouched
       (inl (
         refl,
         λ w.

@@ -33,7 +33,7 @@ tarnSheet =
     ++ text "L HEAD 0 0\nL MILL 0 0\nL FORD 0 0\nL WEIR -3 -2\n"
     ++ text "R 2000 500\n"
 
-tarn-prints : prints tarn ≡ tarnSheet
+tarn-prints : prints tarn [] ≡ tarnSheet
 unfolding opened
 tarn-prints = refl
 
@@ -45,27 +45,27 @@ alike : WeighAlike tarnGrid 1 1
 unfolding opened
 alike = four _ refl refl refl refl
 
-tarn-opposite : Opposite tarnGrid tarnRuns 1 1
-tarn-opposite = zones-mirror tarnGrid tarnRuns 1 1 alike
+tarn-opposite : Opposite tarnGrid tarnRuns [] 1 1
+tarn-opposite = zones-mirror tarnGrid tarnRuns [] 1 1 alike
 
 -- generation zone 1 is one of the figures that moved: -3,000 metres times kilowatts over 2,000 kW, which was -1
 zone-moved : NegativeHalf (negℤ (pos 3000)) 2000
 unfolding opened
 zone-moved = record { below = record { lt = tt }; half = refl; was = refl }
 
-zone-divides : Divides tarnGrid tarnRuns (negℤ (pos 3000)) 2000 (negℤ (pos 2))
+zone-divides : Divides tarnGrid tarnRuns [] (negℤ (pos 3000)) 2000 (negℤ (pos 2))
 unfolding opened
 zone-divides = zonal YearRound Generation 1
 
 -- on the sheet's bytes these are lines 1 and 3, counted from 0
-tarn-lines : LinesAlike tarnGrid (lineAt 1 (sheetOf tarn tarnRuns)) (lineAt 3 (sheetOf tarn tarnRuns))
+tarn-lines : LinesAlike tarnGrid (lineAt 1 (sheetOf tarn tarnRuns [])) (lineAt 3 (sheetOf tarn tarnRuns []))
 unfolding opened
 tarn-lines = record { generation = refl; demand = refl; alike = alike }
 
 tarn-printed : (k : ℕ) → 2 ≤ k → k < 5
-    → readWhole (field k (lineAt 3 (sheetOf tarn tarnRuns))) ≡ negℤ (readWhole (field k (lineAt 1 (sheetOf tarn tarnRuns))))
+    → readWhole (field k (lineAt 3 (sheetOf tarn tarnRuns []))) ≡ negℤ (readWhole (field k (lineAt 1 (sheetOf tarn tarnRuns []))))
 unfolding opened
-tarn-printed k = printed-mirror tarn tarnRuns tarn-acceptable .opposite 1 3 k tarn-lines
+tarn-printed k = printed-mirror tarn tarnRuns [] tarn-acceptable .opposite 1 3 k tarn-lines
 
 -- ---- its mirror image: TEC and demand exchanged at each node, p 100 for 900, flows and potentials turned round. C is -0.5, so -1
 abbrev turned : List ℤ → List ℤ
@@ -92,7 +92,7 @@ imageSheet =
     ++ text "L MILL 0 0\nL FORD 0 0\nL WEIR 3 2\n"
     ++ text "R 1000 1000\n"
 
-image-prints : prints image ≡ imageSheet
+image-prints : prints image [] ≡ imageSheet
 unfolding opened
 image-prints = refl
 
@@ -135,9 +135,9 @@ exchanged-with mark wider local = record {
     turned-in (Wider Peak) d = four _ refl refl refl refl
     turned-in Local d = four _ refl refl refl refl
 
-tarn-image : MirrorImage tarnGrid (gridOf (studyOf image)) tarnRuns imageRuns
+tarn-image : MirrorImage tarnGrid (gridOf (studyOf image)) tarnRuns imageRuns []
 unfolding opened
-tarn-image = sides-mirror tarnGrid (gridOf (studyOf image)) tarnRuns imageRuns (exchanged-with 1 (negℤ (pos 2500000000)) (negℤ (pos 2500000000)))
+tarn-image = sides-mirror tarnGrid (gridOf (studyOf image)) tarnRuns imageRuns [] (exchanged-with 1 (negℤ (pos 2500000000)) (negℤ (pos 2500000000)))
 
 -- ---- both without the mark, WEIR at -5 m: no local income, and all but the `L` lines is exchanged
 abbrev openRuns : Runs
@@ -149,7 +149,7 @@ openSheet =
     ++ text "L HEAD 0 0\nL MILL 0 0\nL FORD 0 0\nL WEIR 0 0\n"
     ++ text "R 1000 2500\n"
 
-open-prints : prints (fileOf (tarnStudy 0) openRuns) ≡ openSheet
+open-prints : prints (fileOf (tarnStudy 0) openRuns) [] ≡ openSheet
 unfolding opened
 open-prints = refl
 
@@ -159,12 +159,12 @@ openImageSheet =
     ++ text "L MILL 0 0\nL FORD 0 0\nL WEIR 0 0\n"
     ++ text "R 2500 1000\n"
 
-open-image-prints : prints (fileOf (imageStudy 0) (turnedRound openRuns)) ≡ openImageSheet
+open-image-prints : prints (fileOf (imageStudy 0) (turnedRound openRuns)) [] ≡ openImageSheet
 unfolding opened
 open-image-prints = refl
 
-open-money : MoneyImage (gridOf (tarnStudy 0)) (gridOf (imageStudy 0)) openRuns (turnedRound openRuns)
+open-money : MoneyImage (gridOf (tarnStudy 0)) (gridOf (imageStudy 0)) openRuns (turnedRound openRuns) []
 unfolding opened
 open-money =
-    money-mirrors (gridOf (tarnStudy 0)) (gridOf (imageStudy 0)) openRuns (turnedRound openRuns)
-    (record { exchanged = exchanged-with 0 (negℤ (pos 5000000000)) (pos 0); revenues = refl; noLocal = refl; noLocal′ = refl })
+    money-mirrors (gridOf (tarnStudy 0)) (gridOf (imageStudy 0)) openRuns (turnedRound openRuns) []
+    (record { whole = refl; exchanged = exchanged-with 0 (negℤ (pos 5000000000)) (pos 0); revenues = refl; noLocal = refl; noLocal′ = refl })

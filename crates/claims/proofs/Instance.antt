@@ -37,24 +37,24 @@ use Rattle.claims.proofs.Stations.{rearranged}
 use Rattle.claims.proofs.Theorems.{accepted-exactly-when, refused-exactly-when, one-answer, revenue-recovered, centre-balances, solvers-agree, stations-hidden, no-interconnector-no-change, types-hidden, one-sheet-in-either-version, new-voltages-in-version-two}
 
 -- ---- KILN is acceptable, and settled in either way
-kiln-acceptable : Acceptable kiln kilnRuns
-kiln-acceptable = judged-pass kiln kilnRuns .0 kiln-judged
+kiln-acceptable : Acceptable kiln kilnRuns []
+kiln-acceptable = judged-pass kiln kilnRuns [] .0 kiln-judged
 
-kiln-sheet : sheetOf kiln kilnRuns ≡ kilnSheet
+kiln-sheet : sheetOf kiln kilnRuns [] ≡ kilnSheet
 unfolding opened
 kiln-sheet = refl
 
-kiln-written : IsWritten kiln kilnRuns (replicate 117 7)
-kiln-written = accepted-exactly-when kiln kilnRuns (replicate 117 7) .accepted .1 (kiln-acceptable, rw kiln-sheet (omega arith))
+kiln-written : IsWritten kiln kilnRuns [] (replicate 117 7)
+kiln-written = accepted-exactly-when kiln kilnRuns [] (replicate 117 7) .accepted .1 (kiln-acceptable, rw kiln-sheet (omega arith))
 
-kiln-short : IsRefused kiln kilnRuns (replicate 116 7)
-kiln-short = accepted-exactly-when kiln kilnRuns (replicate 116 7) .otherwise (λ t. too-long (rw kiln-sheet at (t .1)))
+kiln-short : IsRefused kiln kilnRuns [] (replicate 116 7)
+kiln-short = accepted-exactly-when kiln kilnRuns [] (replicate 116 7) .otherwise (λ t. too-long (rw kiln-sheet at (t .1)))
   where
     too-long : 117 ≤ 116 → ⊥
     too-long h = omega arith
 
-kiln-recovered : Recovered (gridOf (studyOf kiln)) kilnSheet
-kiln-recovered = rw kiln-sheet at (revenue-recovered kiln kilnRuns kiln-acceptable)
+kiln-recovered : Recovered (gridOf (studyOf kiln)) [] kilnSheet
+kiln-recovered = rw kiln-sheet at (revenue-recovered kiln kilnRuns [] kiln-acceptable)
 
 -- ---- five stations, listed differently, with the capacity of KILN's two; NODA 10 mm of base and 4 cm of wider potential higher
 abbrev divided : List Station
@@ -72,12 +72,12 @@ dividedWith runs = fileOf (record { settings = kilnSettings; nodes = kilnNodes; 
 abbrev other : List ℕ
 other = dividedWith otherRuns
 
-other-judged : judged other otherRuns ≡ Passes
+other-judged : judged other otherRuns [] ≡ Passes
 unfolding opened
 other-judged = refl
 
-other-acceptable : Acceptable other otherRuns
-other-acceptable = judged-pass other otherRuns .0 other-judged
+other-acceptable : Acceptable other otherRuns []
+other-acceptable = judged-pass other otherRuns [] .0 other-judged
 
 -- equal tables of capacity say equal capacities
 pub capacity-at : (S S′ : Study) (n : ℕ)
@@ -93,16 +93,16 @@ same : SameButStations (studyOf kiln) (studyOf other)
 unfolding opened
 same = record { settings = refl; nodes = refl; circuits = refl; capacity = capacity-at (studyOf kiln) (studyOf other) 3 refl }
 
-kilns-agree : Agree (studyOf kiln) kilnRuns otherRuns (sheetOf kiln kilnRuns) (sheetOf other otherRuns)
-kilns-agree = solvers-agree kiln other kilnRuns otherRuns kiln-acceptable other-acceptable same
+kilns-agree : Agree (studyOf kiln) kilnRuns otherRuns [] (sheetOf kiln kilnRuns []) (sheetOf other otherRuns [])
+kilns-agree = solvers-agree kiln other kilnRuns otherRuns [] kiln-acceptable other-acceptable same
 
 -- ---- KILN's proposals with the five stations, divided and listed differently step by step: one sheet
 abbrev twin : List ℕ
 twin = dividedWith kilnRuns
 
-twin-acceptable : Acceptable twin kilnRuns
+twin-acceptable : Acceptable twin kilnRuns []
 unfolding opened
-twin-acceptable = judged-pass twin kilnRuns .0 refl
+twin-acceptable = judged-pass twin kilnRuns [] .0 refl
 
 of-parts : (i j k n : String) (a b c : ℕ) → a ≡ b + c → Parts (stationOf i n a) (stationOf j n b) (stationOf k n c)
 of-parts i j k n a b c e = record { firstNode = refl; secondNode = refl; firstType = refl; secondType = refl; tec = e }
@@ -119,8 +119,8 @@ twin-rearranged : StationsRearranged (studyOf kiln) (studyOf twin)
 unfolding opened
 twin-rearranged = record { settings = refl; nodes = refl; circuits = refl; stations = divided-so }
 
-one-sheet : sheetOf kiln kilnRuns ≡ sheetOf twin kilnRuns
-one-sheet = solvers-agree kiln twin kilnRuns kilnRuns kiln-acceptable twin-acceptable (rearranged twin-rearranged) .sheets refl
+one-sheet : sheetOf kiln kilnRuns [] ≡ sheetOf twin kilnRuns []
+one-sheet = solvers-agree kiln twin kilnRuns kilnRuns [] kiln-acceptable twin-acceptable (rearranged twin-rearranged) .sheets refl
 
 -- ---- one milliwatt more on A-B, with KILN's stations and with the divided ones: one answer, in two buffers
 abbrev leaking : Runs
@@ -134,20 +134,20 @@ divided-passes : PassesToFive other leaking
 unfolding opened
 divided-passes = (judge-file other leaking .passes .0 refl .0, judge-rows (studyOf other) .passes .0 refl)
 
-kiln-leaks : settle kiln leaking (replicate 5 7) .answer ≡ Refused (Unbalanced (Base YearRound) 1)
+kiln-leaks : settle kiln leaking [] (replicate 5 7) .answer ≡ Refused (Unbalanced (Base YearRound) 1)
 unfolding opened
 kiln-leaks = refl
 
-hidden : settle other leaking (replicate 5 1) .answer ≡ Refused (Unbalanced (Base YearRound) 1)
-hidden = sym (stations-hidden kiln other leaking (replicate 5 7) (replicate 5 1) passes-five divided-passes same refl) ∙ kiln-leaks
+hidden : settle other leaking [] (replicate 5 1) .answer ≡ Refused (Unbalanced (Base YearRound) 1)
+hidden = sym (stations-hidden kiln other leaking [] (replicate 5 7) (replicate 5 1) passes-five divided-passes same refl) ∙ kiln-leaks
 
 -- so 01's order stops it there, at balance and not at a number, a miss or a direction; and a short buffer at 12
-leak-stopped : Stopped kiln leaking (replicate 5 7) (Unbalanced (Base YearRound) 1)
-leak-stopped = refused-exactly-when kiln leaking (replicate 5 7) (Unbalanced (Base YearRound) 1) .exactly .0 kiln-leaks
+leak-stopped : Stopped kiln leaking [] (replicate 5 7) (Unbalanced (Base YearRound) 1)
+leak-stopped = refused-exactly-when kiln leaking [] (replicate 5 7) (Unbalanced (Base YearRound) 1) .exactly .0 kiln-leaks
 
-not-missed : Stopped kiln leaking (replicate 5 7) (MissesTooHigh (Base YearRound)) → ⊥
+not-missed : Stopped kiln leaking [] (replicate 5 7) (MissesTooHigh (Base YearRound)) → ⊥
 unfolding values refusal
-not-missed f = unbalanced≢missed (one-answer kiln leaking (replicate 5 7) .onlyOne (Unbalanced (Base YearRound) 1) (MissesTooHigh (Base YearRound)) leak-stopped f)
+not-missed f = unbalanced≢missed (one-answer kiln leaking [] (replicate 5 7) .onlyOne (Unbalanced (Base YearRound) 1) (MissesTooHigh (Base YearRound)) leak-stopped f)
   where
     unbalanced≢missed : Unbalanced (Base YearRound) 1 ≡ MissesTooHigh (Base YearRound) → ⊥
     unbalanced≢missed e = numbers (ap {B = ℕ} (λ (r : Refusal). values (Refused r) .number) e)
@@ -167,15 +167,15 @@ kiln-as-in-01 : AsIn01 (studyOf kiln) kilnRuns
 unfolding opened
 kiln-as-in-01 = no-interconnector-no-change (studyOf kiln) kilnRuns refl kiln-without
 
-half-acceptable : Acceptable half kilnRuns
+half-acceptable : Acceptable half kilnRuns []
 unfolding opened
-half-acceptable = judged-pass half kilnRuns .0 refl
+half-acceptable = judged-pass half kilnRuns [] .0 refl
 
-half-recovered : Recovered (gridOf (studyOf half)) (sheetOf half kilnRuns)
-half-recovered = revenue-recovered half kilnRuns half-acceptable
+half-recovered : Recovered (gridOf (studyOf half)) [] (sheetOf half kilnRuns [])
+half-recovered = revenue-recovered half kilnRuns [] half-acceptable
 
 half-balances : Balances (gridOf (studyOf half)) kilnRuns YearRound
-half-balances = centre-balances half kilnRuns half-acceptable YearRound tt
+half-balances = centre-balances half kilnRuns [] half-acceptable YearRound tt
 
 -- and KILN with a nuclear and a hydro station in place of two others: one sheet
 abbrev typed : String → String → (plantType tec : ℕ) → Station
@@ -202,14 +202,14 @@ retyped-totals = record { edition = refl; settings = refl; nodes = refl; circuit
     none (suc (suc zero)) h = refl
     none (suc (suc (suc v))) h = absurd (omega arith)
 
-retyped-sheet : sheetOf kiln kilnRuns ≡ sheetOf retyped kilnRuns
-retyped-sheet = types-hidden kiln retyped kilnRuns retyped-totals .sheets
+retyped-sheet : sheetOf kiln kilnRuns [] ≡ sheetOf retyped kilnRuns []
+retyped-sheet = types-hidden kiln retyped kilnRuns retyped-totals .sheets []
 
 -- ---- KILN as a version 2 file says what KILN says, and is settled as KILN is; a case with a link at 320 is accepted, in version 2
 abbrev kilnTwo : List ℕ
 kilnTwo = fileIn 2 kilnStudy kilnRuns
 
-two-judged : judged kilnTwo kilnRuns ≡ Passes
+two-judged : judged kilnTwo kilnRuns [] ≡ Passes
 unfolding opened
 two-judged = refl
 
@@ -229,18 +229,18 @@ say-the-same : SayTheSame kiln kilnTwo
 unfolding opened
 say-the-same = record {
   whole = rw (own-runs .0) (kiln-acceptable .whole);
-  otherWhole = rw (own-runs .1) (judged-pass kilnTwo kilnRuns .0 two-judged .whole);
+  otherWhole = rw (own-runs .1) (judged-pass kilnTwo kilnRuns [] .0 two-judged .whole);
   settings = refl;
   nodes = refl;
   circuits = refl;
   stations = refl;
 }
 
-two-versions : (versionOf kiln ≡ 1) × (versionOf kilnTwo ≡ 2) × (settle kiln kilnRuns (replicate 200 7) ≡ settle kilnTwo kilnRuns (replicate 200 7)) × (prints kiln ≡ prints kilnTwo)
+two-versions : (versionOf kiln ≡ 1) × (versionOf kilnTwo ≡ 2) × (settle kiln kilnRuns [] (replicate 200 7) ≡ settle kilnTwo kilnRuns [] (replicate 200 7)) × (prints kiln [] ≡ prints kilnTwo [])
 unfolding versionOf u32
 two-versions =
     let one = one-sheet-in-either-version kiln kilnTwo say-the-same in
-    (refl, refl, one .settled kilnRuns (replicate 200 7), one .printed (own-runs .0 ∙ sym (own-runs .1)))
+    (refl, refl, one .settled kilnRuns [] (replicate 200 7), one .printed (own-runs .0 ∙ sym (own-runs .1)) [])
 
 abbrev subsea : List ℕ
 subsea =
@@ -255,10 +255,10 @@ subsea =
     })
     kilnRuns
 
-subsea-judged : judged subsea kilnRuns ≡ Passes
+subsea-judged : judged subsea kilnRuns [] ≡ Passes
 unfolding opened
 subsea-judged = refl
 
 subsea-version : versionOf subsea ≡ 2
 unfolding opened
-subsea-version = new-voltages-in-version-two subsea kilnRuns (judged-pass subsea kilnRuns .0 subsea-judged) 2 (omega arith) (inl refl)
+subsea-version = new-voltages-in-version-two subsea kilnRuns [] (judged-pass subsea kilnRuns [] .0 subsea-judged) 2 (omega arith) (inl refl)

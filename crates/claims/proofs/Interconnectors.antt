@@ -1,6 +1,7 @@
 -- 02, request 1: who pays, and that 01's own figures stand where no interconnector is.
 use mathlib.Core.Path.{_≡_, refl, sym, _∙_, ap, ap₂}
 use mathlib.Core.Bool.{cond}
+use mathlib.Core.List.{List}
 use Prim.Native.Nat.{ℕ, suc, _<_}
 use native.Mathlib.Omega.{arith}
 use lib.Dec.{eqb}
@@ -53,12 +54,12 @@ module _ (G : Grid) (first : G .settings .edition ≡ First) (all : (v : ℕ) �
   unfolding charging.localIncome basis
   local-same runs = Σ-same (length (G .nodes)) _ _ (λ v h. ap (λ (kw : ℕ). localTariff G runs v *ℤ pos kw) (all v h))
 
-  all-tec-pays : (runs : Runs) → AllTecPays G runs
+  all-tec-pays : (runs : Runs) (share : List ℕ) → AllTecPays G runs share
   unfolding charging.C charging.rest charging.residual charging.remainder charging.priced basis
-  all-tec-pays runs = record {
+  all-tec-pays runs share = record {
     centre = rw (over-same, total-in, total-demand) refl;
     generationRest =
-        ap₂ (λ (w l : ℤ). target G Generation -ℤ w -ℤ l) (present-income G first runs Generation ∙ over-same (zoneTariff G runs YearRound Generation)) (local-same runs);
+        ap₂ (λ (w l : ℤ). target G Generation -ℤ w -ℤ l) (present-income G first runs share Generation ∙ over-same (zoneTariff G runs share YearRound Generation)) (local-same runs);
     generationResidual = rw total-same refl;
     generationRemainder = rw total-same refl;
   }

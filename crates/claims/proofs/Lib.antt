@@ -29,6 +29,8 @@ pub mod Types
 pub mod Mirrored
 -- 02, request 5: what edition 1 can answer, and the runs of an edition
 pub mod Backgrounds
+-- 02, request 6: without a file in force nothing changes; a file too long is a wrong length
+pub mod Shares
 -- a refusal read back from its line
 pub mod Told
 -- nothing of it is vacuous

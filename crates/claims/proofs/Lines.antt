@@ -9,8 +9,8 @@ use lib.IntN.{ℤ, pos, _+ℤ_}
 use lib.ListN.{getD}
 use Rattle.integers.specs.Numbers.{Σ}
 use Rattle.meaning.specs.Study.{MicroPerKw}
-use Rattle.meaning.specs.declared.Edition.{Edition}
-use Rattle.meaning.specs.declared.Edition.the-variants.{First, Second}
+use Rattle.meaning.specs.declared.Form.{Form}
+use Rattle.meaning.specs.declared.Form.the-variants.{OneBackground, TwoBackgrounds, Sharing}
 use Rattle.meaning.specs.declared.Background.{Background}
 use Rattle.meaning.specs.declared.Background.the-variants.{YearRound, Peak}
 use Rattle.meaning.specs.Editions.{Of}
@@ -19,7 +19,9 @@ use Rattle.meaning.specs.declared.Side.the-variants.{Generation, Demand}
 use Rattle.meaning.specs.declared.ZoneFigures.{ZoneFigures}
 use Rattle.meaning.specs.Text.{text, decimals, line}
 use Rattle.meaning.specs.Sheet.{constantFields, letter, zoneNumbers, zoneFields, nodeFields, nodeLine, remainderFields, Shown, zoneRow, zoneLines, nodeLines, sheetText}
-use Rattle.meaning.specs.Read.{readNatural, readWhole, metresField, tariffField, residualField, totalField}
+use Rattle.meaning.specs.Read.{pieces, readNatural, readWhole, metresField, tariffField, residualField, totalField, printedSharedMetres, printedSharedTariff}
+use Rattle.meaning.specs.Read as read
+use Rattle.meaning.proofs.Shared.{formEdition}
 use Rattle.sizes.proofs.SheetLength.{figuresIn}
 use Rattle.meaning.proofs.Says.{Says, says-eq}
 use Rattle.claims.proofs.Digits.{From, none, more, from-lower, natural-from, decimal-from, read-decimal}
@@ -32,7 +34,7 @@ Line = List (List ℕ)
 -- what each line is worth: a node's line is worth 0 where it is not printed
 pub record Worth (s : Shown) (F : Line → ℤ) (zone : Side → ℕ → ℤ) (local : ℕ → ℤ) (left : ℤ) : Type 0 where
   pub start : F (constantFields (s .edition) (s .c) (s .peakC)) ≡ pos 0
-  pub zones : (side : Side) (k : ℕ) → F (zoneRow (s .edition) side (s .side side) k) ≡ zone side k
+  pub zones : (side : Side) (k : ℕ) → F (zoneRow side (s .side side) k) ≡ zone side k
   pub silent : (v : ℕ) → s .local v .tec .0 ≡ 0 → pos 0 ≡ local v
   pub printed : (v : ℕ) → v < s .nodes → F (nodeFields (s .name v) (s .local v)) ≡ local v
   pub last : F (remainderFields (s .side Generation .remainder) (s .side Demand .remainder)) ≡ left
@@ -62,14 +64,14 @@ worth a e = rw e at a
 
 module _ (s : Shown) (named : (v : ℕ) → v < s .nodes → From 45 (s .name v))
     (F : Line → ℤ) (zone : Side → ℕ → ℤ) (local : ℕ → ℤ) (left : ℤ) (w : Worth s F zone local left) where
-  add-zone : (side : Side) (k : ℕ) → Adds F (line (zoneRow (s .edition) side (s .side side) k)) (zone side k)
+  add-zone : (side : Side) (k : ℕ) → Adds F (line (zoneRow side (s .side side) k)) (zone side k)
   unfolding zoneFields
   add-zone side k =
       let z = s .side side .zone k in
-      let rest = numbers-or-none (eqb (z .weight .0) 0) (zoneNumbers (s .edition) (s .side side .residual) z) in
+      let rest = numbers-or-none (eqb (z .weight .0) 0) (zoneNumbers (s .side side .form) (s .side side .residual) z) in
       worth (adds-line F (letter-from side) (field (from-lower (omega arith) (natural-from (suc k))) rest)) (w .zones side k)
 
-  add-zones : (side : Side) → Adds F (zoneLines (s .edition) side (s .side side)) (Σ (s .side side .zones) (zone side))
+  add-zones : (side : Side) → Adds F (zoneLines side (s .side side)) (Σ (s .side side .zones) (zone side))
   unfolding zoneLines
   add-zones side = adds-joined F (s .side side .zones) _ _ (λ k h. add-zone side k)
 
@@ -101,14 +103,14 @@ read-numbers (z ∷ zs) zero = read-decimal z
 read-numbers (z ∷ zs) (suc i) = read-numbers zs i
 
 -- field k of a zone's line, from 2 on
-abbrev pub zoneField : Edition → MicroPerKw → ZoneFigures → (k : ℕ) → ℤ
+abbrev pub zoneField : Form → MicroPerKw → ZoneFigures → (k : ℕ) → ℤ
 zoneField e r z k = getD (pos 0 ∷ pos 0 ∷ zoneNumbers e r z) k (pos 0)
 
 -- as it reads: 0 where the zone has no kilowatts
-unfoldable pub zoneRead : Edition → MicroPerKw → ZoneFigures → (k : ℕ) → ℤ
+unfoldable pub zoneRead : Form → MicroPerKw → ZoneFigures → (k : ℕ) → ℤ
 zoneRead e r z k = cond (eqb (z .weight .0) 0) (pos 0) (zoneField e r z k)
 
-pub zone-read : (e : Edition) (side : Side) (zone : ℕ) (r : MicroPerKw) (z : ZoneFigures) (k : ℕ) → 2 ≤ k
+pub zone-read : (e : Form) (side : Side) (zone : ℕ) (r : MicroPerKw) (z : ZoneFigures) (k : ℕ) → 2 ≤ k
     → readWhole (getD (zoneFields e side zone r z) k []) ≡ zoneRead e r z k
 unfolding zoneFields zoneRead readWhole readNatural
 zone-read e side zone r z zero h = absurd (omega arith)
@@ -121,38 +123,94 @@ zone-read e side zone r z (suc (suc i)) h = go (eqb (z .weight .0) 0) i
     go false i = read-numbers (zoneNumbers e r z) i
 
 -- ---- which field is which number
-pub metres-from : (e : Edition) (b : Background) → 2 ≤ metresField e b
+pub metres-from : (f : Form) (b : Background) → 2 ≤ metresField f b
 unfolding metresField
-metres-from First b = omega arith
-metres-from Second Peak = omega arith
-metres-from Second YearRound = omega arith
+metres-from OneBackground b = omega arith
+metres-from TwoBackgrounds Peak = omega arith
+metres-from TwoBackgrounds YearRound = omega arith
+metres-from Sharing Peak = omega arith
+metres-from Sharing YearRound = omega arith
 
-pub residual-from : (e : Edition) → 2 ≤ residualField e
+pub residual-from : (f : Form) → 2 ≤ residualField f
 unfolding residualField
-residual-from First = omega arith
-residual-from Second = omega arith
+residual-from OneBackground = omega arith
+residual-from TwoBackgrounds = omega arith
+residual-from Sharing = omega arith
 
 module _ (r : MicroPerKw) (z : ZoneFigures) where
-  pub metres-field : (e : Edition) (b : Background) → Of b e → zoneField e r z (metresField e b) ≡ figuresIn b z .metres .0
+  pub metres-field : (f : Form) (b : Background) → Of b (formEdition f) → zoneField f r z (metresField f b) ≡ figuresIn b z .metres .0
   unfolding zoneNumbers metresField
-  metres-field First YearRound h = refl
-  metres-field First Peak h = absurd h
-  metres-field Second YearRound h = refl
-  metres-field Second Peak h = refl
+  metres-field OneBackground YearRound h = refl
+  metres-field OneBackground Peak h = absurd h
+  metres-field TwoBackgrounds YearRound h = refl
+  metres-field TwoBackgrounds Peak h = refl
+  metres-field Sharing YearRound h = refl
+  metres-field Sharing Peak h = refl
 
-  pub tariff-field : (e : Edition) (b : Background) → Of b e → zoneField e r z (tariffField e b) ≡ figuresIn b z .tariff .0
+  pub tariff-field : (f : Form) (b : Background) → Of b (formEdition f) → zoneField f r z (tariffField f b) ≡ figuresIn b z .tariff .0
   unfolding zoneNumbers metresField
-  tariff-field First YearRound h = refl
-  tariff-field First Peak h = absurd h
-  tariff-field Second YearRound h = refl
-  tariff-field Second Peak h = refl
+  tariff-field OneBackground YearRound h = refl
+  tariff-field OneBackground Peak h = absurd h
+  tariff-field TwoBackgrounds YearRound h = refl
+  tariff-field TwoBackgrounds Peak h = refl
+  tariff-field Sharing YearRound h = refl
+  tariff-field Sharing Peak h = refl
 
-  pub residual-field : (e : Edition) → zoneField e r z (residualField e) ≡ r
+  pub residual-field : (f : Form) → zoneField f r z (residualField f) ≡ r
   unfolding zoneNumbers residualField
-  residual-field First = refl
-  residual-field Second = refl
+  residual-field OneBackground = refl
+  residual-field TwoBackgrounds = refl
+  residual-field Sharing = refl
 
-  pub total-field : (e : Edition) → zoneField e r z (totalField e) ≡ z .total .0
+  pub total-field : (f : Form) → zoneField f r z (totalField f) ≡ z .total .0
   unfolding zoneNumbers residualField
-  total-field First = refl
-  total-field Second = refl
+  total-field OneBackground = refl
+  total-field TwoBackgrounds = refl
+  total-field Sharing = refl
+
+-- ---- 02, request 6: the shared metres and tariff that a line has
+-- of fields, as a reader of a line has them
+abbrev pub sharedMetresIn : Form → Line → ℤ
+sharedMetresIn OneBackground fs = pos 0
+sharedMetresIn TwoBackgrounds fs = pos 0
+sharedMetresIn Sharing fs = readWhole (getD fs 8 [])
+
+abbrev pub sharedTariffIn : Form → Line → ℤ
+sharedTariffIn OneBackground fs = pos 0
+sharedTariffIn TwoBackgrounds fs = pos 0
+sharedTariffIn Sharing fs = readWhole (getD fs 9 [])
+
+pub metres-in : (f : Form) (l : List ℕ) → printedSharedMetres f l ≡ sharedMetresIn f (pieces 32 l)
+unfolding printedSharedMetres read.field
+metres-in OneBackground l = refl
+metres-in TwoBackgrounds l = refl
+metres-in Sharing l = refl
+
+pub tariff-in : (f : Form) (l : List ℕ) → printedSharedTariff f l ≡ sharedTariffIn f (pieces 32 l)
+unfolding printedSharedTariff read.field
+tariff-in OneBackground l = refl
+tariff-in TwoBackgrounds l = refl
+tariff-in Sharing l = refl
+
+-- of a zone whose shared figures are 0 where its line has none
+abbrev pub sharedOr : Form → ℤ → ℤ
+sharedOr OneBackground z = pos 0
+sharedOr TwoBackgrounds z = pos 0
+sharedOr Sharing z = z
+
+orNothing : (b : Bool) → cond b (pos 0) (pos 0) ≡ pos 0
+orNothing true = refl
+orNothing false = refl
+
+module _ (side : Side) (zone : ℕ) (r : MicroPerKw) (z : ZoneFigures) where
+  pub shared-metres-read : (f : Form) → sharedMetresIn f (zoneFields f side zone r z) ≡ cond (eqb (z .weight .0) 0) (pos 0) (sharedOr f (z .shared .metres .0))
+  unfolding zoneRead zoneNumbers
+  shared-metres-read OneBackground = sym (orNothing (eqb (z .weight .0) 0))
+  shared-metres-read TwoBackgrounds = sym (orNothing (eqb (z .weight .0) 0))
+  shared-metres-read Sharing = zone-read Sharing side zone r z 8 (omega arith)
+
+  pub shared-tariff-read : (f : Form) → sharedTariffIn f (zoneFields f side zone r z) ≡ cond (eqb (z .weight .0) 0) (pos 0) (sharedOr f (z .shared .tariff .0))
+  unfolding zoneRead zoneNumbers
+  shared-tariff-read OneBackground = sym (orNothing (eqb (z .weight .0) 0))
+  shared-tariff-read TwoBackgrounds = sym (orNothing (eqb (z .weight .0) 0))
+  shared-tariff-read Sharing = zone-read Sharing side zone r z 9 (omega arith)

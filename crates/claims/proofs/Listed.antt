@@ -28,9 +28,10 @@ use Rattle.meaning.proofs.Systems.{has-flow, has-distance}
 use Rattle.meaning.specs.Grid.{Grid, gridOf}
 use Rattle.meaning.specs.Direction.{countsFor, background}
 use Rattle.meaning.specs.Systems.{baseFlow, counting, backgroundOf}
+use Rattle.meaning.specs.Figures.{zones}
 use Rattle.meaning.specs.Conditions.{InRange}
-use Rattle.meaning.specs.Refusals.{Condition, whole, eachRow, Unmet, AllMet, FirstUnmet, onlySecond, scalingOrder, systemsOrder, proposalsOrder, caseOrder, Stopped}
-use Rattle.meaning.specs.Demands.{SystemListed, base, wider, local, peakBase, peakWider, badFile, badSetting, badNode, badCircuit, badStation, unreached, badTotal, noChargeableTec, badNumber, unbalanced, missesTooHigh, inDoubt, shortBuffer, unscalable, backgroundInDoubt, ListedFor}
+use Rattle.meaning.specs.Refusals.{Condition, whole, eachRow, Unmet, AllMet, FirstUnmet, onlySecond, onlyOf, scalingOrder, shareOrder, systemsOrder, proposalsOrder, caseOrder, Stopped}
+use Rattle.meaning.specs.Demands.{SystemListed, base, wider, local, peakBase, peakWider, badFile, badSetting, badNode, badCircuit, badStation, unreached, badTotal, noChargeableTec, badNumber, unbalanced, missesTooHigh, inDoubt, shortBuffer, unscalable, backgroundInDoubt, badShare, ListedFor}
 
 -- row i is printed as row i + 1
 in-rows : {i n : ℕ} → i < n → InRange (suc i) 1 n
@@ -78,6 +79,11 @@ module _ (P : Refusal → Type 0) where
   only First cs after f rest = rest
   only Second cs after f rest = f refl
 
+  -- and of a share file that is there
+  filed : (share : List ℕ) (cs after : List Condition) → All (cs ++ after) → All after → All (onlyOf share cs ++ after)
+  filed [] cs after f rest = rest
+  filed (b ∷ bs) cs after f rest = f
+
   of-unmet : (c : Condition) → Each c → (r : Refusal) → Unmet c r → P r
   of-unmet (whole Holds q) n r u = subst P (sym (u .0)) n
   of-unmet (eachRow k Holds q) n r (i, e, u) = subst P (sym e) (n i (u .within))
@@ -88,7 +94,7 @@ module _ (P : Refusal → Type 0) where
   of-first cs (_and_ {cs = ds} n ns) r (inr (m, f)) = of-first ds ns r f
 
 -- what stops a case before 12 is a row of the table, and not row 12
-module _ (file : List ℕ) (runs : Runs) where
+module _ (file : List ℕ) (runs : Runs) (share : List ℕ) where
   abbrev Row : Refusal → Type 0
   Row r = ListedFor (studyOf file) r × (eqb (values (Refused r) .number) 12 ≡ false)
 
@@ -132,30 +138,35 @@ module _ (file : List ℕ) (runs : Runs) where
       let after = doubt and distance-rows in
       systems-rows (flowSystems e) (has-flow e) (only Row e _ _ (λ second. (λ i h. (backgroundInDoubt (suc i) second (in-rows h), refl)) and after) after)
 
-  -- 14, which edition 2 alone asks
-  scaling-rows : All Row (scalingOrder G ++ proposalsOrder G runs)
-  unfolding gridOf values refusal
-  scaling-rows = only Row e _ _ (λ second. (unscalable second, refl) and (unscalable second, refl) and proposals-rows) proposals-rows
+  -- 16, which edition 2 alone asks, of a file that is there
+  share-rows : All Row (shareOrder G share ++ proposalsOrder G runs)
+  unfolding gridOf values refusal zones
+  share-rows = only Row e _ _ (λ second. filed Row share _ _ ((badShare 0 second (omega arith), refl) and (λ i h. (badShare (suc i) second h, refl)) and proposals-rows) proposals-rows) proposals-rows
 
-  case-row : (r : Refusal) → FirstUnmet (caseOrder file runs) r → Row r
+  -- 14, which edition 2 alone asks
+  scaling-rows : All Row (scalingOrder G ++ (shareOrder G share ++ proposalsOrder G runs))
   unfolding gridOf values refusal
-  case-row = of-first Row (caseOrder file runs)
+  scaling-rows = only Row e _ _ (λ second. (unscalable second, refl) and (unscalable second, refl) and share-rows) share-rows
+
+  case-row : (r : Refusal) → FirstUnmet (caseOrder file runs share) r → Row r
+  unfolding gridOf values refusal
+  case-row = of-first Row (caseOrder file runs share)
       ((badFile, refl) and (badSetting, refl) and (λ i h. (badNode (suc i) (in-rows h), refl)) and (λ i h. (badCircuit (suc i) (in-rows h), refl))
       and (λ i h. (badStation (suc i) (in-rows h), refl)) and (λ i h. (unreached (suc i) (in-rows h), refl)) and (badTotal, refl) and (noChargeableTec, refl)
       and scaling-rows)
 
-  pub case-listed : (r : Refusal) → FirstUnmet (caseOrder file runs) r → ListedFor (studyOf file) r
+  pub case-listed : (r : Refusal) → FirstUnmet (caseOrder file runs share) r → ListedFor (studyOf file) r
   case-listed r f = case-row r f .0
 
-  pub case-number : (r : Refusal) → FirstUnmet (caseOrder file runs) r → values (Refused r) .number ≢ 12
+  pub case-number : (r : Refusal) → FirstUnmet (caseOrder file runs share) r → values (Refused r) .number ≢ 12
   case-number r f e = true≢false (sym (says-eq .1 e) ∙ case-row r f .1)
 
   -- and 12 stands behind them
-  pub stopped-listed : (buffer : List ℕ) (r : Refusal) → Stopped file runs buffer r → ListedFor (studyOf file) r
+  pub stopped-listed : (buffer : List ℕ) (r : Refusal) → Stopped file runs share buffer r → ListedFor (studyOf file) r
   unfolding values
-  stopped-listed buffer r f = go (first-of-two (caseOrder file runs) (whole (length (sheetOf file runs) ≤ length buffer) ShortBuffer ∷ []) r .0 f)
+  stopped-listed buffer r f = go (first-of-two (caseOrder file runs share) (whole (length (sheetOf file runs share) ≤ length buffer) ShortBuffer ∷ []) r .0 f)
     where
-      go : FirstUnmet (caseOrder file runs) r ⊎ AllMet (caseOrder file runs) × FirstUnmet (whole (length (sheetOf file runs) ≤ length buffer) ShortBuffer ∷ []) r
+      go : FirstUnmet (caseOrder file runs share) r ⊎ AllMet (caseOrder file runs share) × FirstUnmet (whole (length (sheetOf file runs share) ≤ length buffer) ShortBuffer ∷ []) r
           → ListedFor (studyOf file) r
       go (inl g) = case-listed r g
       go (inr (m, inl (e, u))) = subst (ListedFor (studyOf file)) (sym e) shortBuffer

@@ -1,5 +1,6 @@
 -- The figures bring in the targets: of each side, what the zones pay, the local income and the remainder are the target.
 use mathlib.Core.Path.{_≡_, refl, sym, _∙_, ap, ap₂}
+use mathlib.Core.List.{List}
 use Prim.Native.Nat.{ℕ, zero, suc, _+_, _*_, _-_, _≤_}
 use native.Mathlib.Omega.{arith}
 use native.Mathlib.Nat.{mul-add, add-mul}
@@ -37,25 +38,25 @@ unfolding overBackgrounds
 over-each First n t = refl
 over-each Second n t = Σ-add n (t YearRound) (t Peak)
 
-module _ (G : Grid) (fit : KilowattsFit G) (runs : Runs) where
+module _ (G : Grid) (fit : KilowattsFit G) (runs : Runs) (share : List ℕ) where
   -- what the zones of a side bring in
   abbrev printed : Side → ℤ
-  printed side = Σ (zones G side) (λ k. zoneWorth G runs side (suc k))
+  printed side = Σ (zones G side) (λ k. zoneWorth G runs share side (suc k))
 
   -- the residual is paid by each kilowatt, and the zones have all of them
-  income-is : (side : Side) → printed side ≡ widerIncome (priced G runs side) +ℤ residual G runs side *ℤ pos (totalPaying G side)
+  income-is : (side : Side) → printed side ≡ widerIncome (priced G runs share side) +ℤ residual G runs share side *ℤ pos (totalPaying G side)
   unfolding charging.priced basis
   income-is side =
       Σ-add (zones G side) _ _
       ∙ ap₂ _+ℤ_
-      (over-each (G .settings .edition) (zones G side) (λ b k. zoneTariff G runs b side (suc k) *ℤ pos (zonePayingIn G b side (suc k))))
-      (flat (residual G runs side) (λ k. zonePaying G side (suc k)) (zones G side) ∙ ap (λ (m : ℕ). residual G runs side *ℤ pos m) (fit .zonesAll side))
+      (Σ-add (zones G side) _ _ ∙ ap (λ (z : ℤ). z +ℤ charging.sharedIncome (priced G runs share side)) (over-each (G .settings .edition) (zones G side) (λ b k. zoneTariff G runs share b side (suc k) *ℤ pos (zonePayingIn G b side (suc k)))))
+      (flat (residual G runs share side) (λ k. zonePaying G side (suc k)) (zones G side) ∙ ap (λ (m : ℕ). residual G runs share side *ℤ pos m) (fit .zonesAll side))
 
-  pub side-recovered : (side : Side) → printed side +ℤ localIncome G runs side +ℤ remainder G runs side ≡ target G side
+  pub side-recovered : (side : Side) → printed side +ℤ localIncome G runs side +ℤ remainder G runs share side ≡ target G side
   unfolding charging.remainder remainderOf charging.residual charging.rest charging.priced basis
   side-recovered side =
       rw (income-is side)
-      (cancel (widerIncome (priced G runs side)) (residual G runs side) (localIncome G runs side) (target G side) (totalPaying G side))
+      (cancel (widerIncome (priced G runs share side)) (residual G runs share side) (localIncome G runs side) (target G side) (totalPaying G side))
     where
       cancel : (o r l t : ℤ) (k : ℕ) → o +ℤ r *ℤ pos k +ℤ l +ℤ (t -ℤ o -ℤ l -ℤ r *ℤ pos k) ≡ t
       cancel o r l t k = simp Z (omega arith)

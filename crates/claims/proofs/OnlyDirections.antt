@@ -52,7 +52,7 @@ module _ (S S′ : Study) (runs runs′ : Runs) (grounds : SameBackgrounds S S�
   }
 
 -- of either edition: two accepted cases of one edition whose circuits count for the same backgrounds
-module _ (file file′ : List ℕ) (runs runs′ : Runs) (a : Acceptable file runs) (a′ : Acceptable file′ runs′) (edition : studyOf file .settings .edition ≡ studyOf file′ .settings .edition)
+module _ (file file′ : List ℕ) (runs runs′ : Runs) (share share′ : List ℕ) (a : Acceptable file runs share) (a′ : Acceptable file′ runs′ share′) (edition : studyOf file .settings .edition ≡ studyOf file′ .settings .edition)
     (grounds : SameBackgrounds (studyOf file) (studyOf file′) runs runs′) where
   own-metre : ((b : Asked) → b ≢ sameDirections → Holds b (studyOf file) (studyOf file′) runs runs′) → (system : System) → OfDistances system
       → HasSystem (studyOf file .settings .edition) system → SameDirections (λ c. HasLength c × Own system c) (studyOf file) (studyOf file′) runs runs′
@@ -63,17 +63,17 @@ module _ (file file′ : List ℕ) (runs runs′ : Runs) (a : Acceptable file ru
       (a′ .solved system (subst (λ (e : Edition). HasSystem e system) edition has))
 
   pub one-network : ((b : Asked) → Holds b (studyOf file) (studyOf file′) runs runs′)
-      → DistancesWithin 1 (gridOf (studyOf file)) (gridOf (studyOf file′)) runs runs′ (sheetOf file runs) (sheetOf file′ runs′)
+      → DistancesWithin 1 (gridOf (studyOf file)) (gridOf (studyOf file′)) runs runs′ share share′ (sheetOf file runs share) (sheetOf file′ runs′ share′)
   one-network all =
-      distances-within 1 (studyOf file) (studyOf file′) (a .study .tables) (a′ .study .tables) (all sameNames) edition runs runs′
+      distances-within 1 (studyOf file) (studyOf file′) (a .study .tables) (a′ .study .tables) (all sameNames) edition runs runs′ share share′
       (λ system d has. own-metre (λ b n. all b) system d has (λ c k p. all sameDirections c k (p .0)))
 
 -- ---- "over edition 1", whose circuits all count for one background
 pub own-directions-count : OwnDirectionsCount
-own-directions-count file file′ runs runs′ a a′ first all system d has =
-    own-metre file file′ runs runs′ a a′ (first .0 ∙ sym (first .1)) (first-backgrounds (studyOf file) (studyOf file′) runs runs′ first) all system d
+own-directions-count file file′ runs runs′ share share′ a a′ first all system d has =
+    own-metre file file′ runs runs′ share share′ a a′ (first .0 ∙ sym (first .1)) (first-backgrounds (studyOf file) (studyOf file′) runs runs′ first) all system d
     (subst (λ (e : Edition). HasSystem e system) (sym (first .0)) has)
 
 pub only-directions-count : OnlyDirectionsCount
-only-directions-count file file′ runs runs′ a a′ first =
-    one-network file file′ runs runs′ a a′ (first .0 ∙ sym (first .1)) (first-backgrounds (studyOf file) (studyOf file′) runs runs′ first)
+only-directions-count file file′ runs runs′ share share′ a a′ first =
+    one-network file file′ runs runs′ share share′ a a′ (first .0 ∙ sym (first .1)) (first-backgrounds (studyOf file) (studyOf file′) runs runs′ first)

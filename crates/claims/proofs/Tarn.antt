@@ -77,12 +77,12 @@ tarnRuns = runsWith (negℤ (pos 2500000000)) (negℤ (pos 2500000000))
 abbrev pub tarn : List ℕ
 tarn = fileOf (tarnStudy 1) tarnRuns
 
-tarn-judged : judged tarn tarnRuns ≡ Passes
+tarn-judged : judged tarn tarnRuns [] ≡ Passes
 unfolding opened
 tarn-judged = refl
 
-pub tarn-acceptable : Acceptable tarn tarnRuns
-tarn-acceptable = judged-pass tarn tarnRuns .0 tarn-judged
+pub tarn-acceptable : Acceptable tarn tarnRuns []
+tarn-acceptable = judged-pass tarn tarnRuns [] .0 tarn-judged
 
 -- what holds of four nodes
 pub four : (P : ℕ → Type 0) → P 0 → P 1 → P 2 → P 3 → (v : ℕ) → v < 4 → P v

@@ -1,8 +1,9 @@
--- The user's demands, proved: each statement is a type of meaning/specs/Demands.antt or, for requests 2, 3, 5 and 12, Mirror.antt, Versions.antt, Backgrounds.antt and OnlyDirections.antt, and its proof is in the file named here.
+-- The user's demands, proved: each statement is a type of meaning/specs/Demands.antt or, for requests 2, 3, 5, 6 and 12, Mirror.antt, Versions.antt, Backgrounds.antt, Shares.antt and OnlyDirections.antt, and its proof is in the file named here.
 use Rattle.meaning.specs.Demands.{EveryInputSettled, AcceptedExactlyWhen, RefusedExactlyWhen, OneAnswer, JudgeIsWrite, RevenueRecovered, CentreBalances, SolversAgree, StationsHidden, CapacityKept, SheetsFit, AllButInterconnectorsPay, NoInterconnectorNoChange, TypesHidden}
 use Rattle.meaning.specs.Mirror.{NearestMirrors, OnlyNegativeHalvesMove, FiguresMove, AveragesMirror, ZonesMirror, PrintedMirror, SidesMirror, MoneyMirrors}
 use Rattle.meaning.specs.Versions.{OneSheetInEitherVersion, EveryCaseInVersionTwo, VersionOneByVoltage, FactorLast, NewVoltagesInVersionTwo, OwnFactorForBothLengths, NoFactorNoChange}
 use Rattle.meaning.specs.Backgrounds.{SystemsInOrder, EditionOneIs01, EditionOneAnswers, RunsOfTheEdition, EachBackgroundServed, LengthsStandOnce, AllButIntermittentPayAtPeak, PeakIsPaid}
+use Rattle.meaning.specs.Shares.{NoFileNoChange, PartsAddUp, PrintedParts, PartsBetween, ChainsEndAtOneCentre, LoadFactorsWeigh, ShareCut}
 use Rattle.meaning.specs.OnlyDirections.{OnlyDirectionsCount, OwnDirectionsCount}
 use Rattle.meaning.proofs.Mirror as Mirror
 use Rattle.meaning.proofs.Versions as Versions
@@ -10,6 +11,9 @@ use Rattle.meaning.proofs.Twins as Twins
 use Rattle.meaning.proofs.Systems as Systems
 use Rattle.meaning.proofs.Present as Present
 use Rattle.meaning.proofs.Backgrounds as BackgroundLaws
+use Rattle.sharing.proofs.Adds as Adds
+use Rattle.sharing.proofs.Centre as Centre
+use Rattle.sharing.proofs.Loads as Loads
 use Rattle.sizes.proofs.Accepted as Sizes
 use Rattle.claims.proofs.Accepted
 use Rattle.claims.proofs.Recovered
@@ -20,13 +24,14 @@ use Rattle.claims.proofs.Interconnectors
 use Rattle.claims.proofs.Types
 use Rattle.claims.proofs.Mirrored
 use Rattle.claims.proofs.Backgrounds
+use Rattle.claims.proofs.Shares
 use Rattle.claims.proofs.OnlyDirections
 
--- demand 1: any bytes, runs and buffer give the sheet, or a refusal of 01's table with the buffer untouched
+-- demand 1: any bytes, runs, share file and buffer give the sheet, or a refusal of 01's table with the buffer untouched
 pub every-input-settled : EveryInputSettled
 every-input-settled = Accepted.every-input-settled
 
--- demand 2: accepted exactly when 1 to 11 and 13 to 15 do not hold, in a person's words, and the sheet fits
+-- demand 2: accepted exactly when 1 to 11 and 13 to 16 do not hold, in a person's words, and the sheet fits
 pub accepted-exactly-when : AcceptedExactlyWhen
 accepted-exactly-when = Accepted.accepted-exactly-when
 
@@ -146,7 +151,7 @@ systems-in-order = Systems.systems-in-order
 pub edition-one-is-01 : EditionOneIs01
 edition-one-is-01 = Present.edition-one-is-01
 
--- and edition 1 never answers 14 or 15, nor any refusal of system 4 or 5
+-- and edition 1 never answers 14, 15 or 16, nor any refusal of system 4 or 5
 pub edition-one-answers : EditionOneAnswers
 edition-one-answers = Backgrounds.edition-one-answers
 
@@ -169,6 +174,34 @@ all-but-intermittent-pay-at-peak = BackgroundLaws.all-but-intermittent-pay-at-pe
 -- and at peak at least the demand's kilowatts pay, so that C's divisor is above 0, by 14
 pub peak-is-paid : PeakIsPaid
 peak-is-paid = BackgroundLaws.peak-is-paid
+
+-- 02, request 6: without a file, with an empty one and in edition 1 with any, every answer, sheet and print is as before
+pub no-file-no-change : NoFileNoChange
+no-file-no-change = Shares.no-file-no-change
+
+-- shared and not-shared metres add up to the zone's metres, whatever the file
+pub parts-add-up : PartsAddUp
+parts-add-up = Adds.parts-add-up
+
+-- and a zone's line shows them so
+pub printed-parts : PrintedParts
+printed-parts = Shares.printed-parts
+
+-- a boundary's shared part lies between 0 and its distance, whichever sign
+pub parts-between : PartsBetween
+parts-between = Adds.parts-between
+
+-- in an accepted case with a file in force there is one centre, where the chain of every zone with TEC ends
+pub chains-end-at-one-centre : ChainsEndAtOneCentre
+chains-end-at-one-centre = Centre.chains-end-at-one-centre
+
+-- the shared tariff is charged on some of the kilowatts that pay; on all at full load, on none at no load
+pub load-factors-weigh : LoadFactorsWeigh
+load-factors-weigh = Loads.load-factors-weigh
+
+-- a file longer than any sound one is a wrong length, and its front is judged as all of it
+pub share-cut : ShareCut
+share-cut = Shares.share-cut
 
 -- 02, request 12: accepted cases of edition 1, of one network and the same directions have the same nodal distances, to within one metre, whatever their demand and TEC; that nothing less will do is in the crate `tutorial`
 pub only-directions-count : OnlyDirectionsCount

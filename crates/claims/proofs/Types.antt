@@ -29,7 +29,8 @@ use Rattle.meaning.specs.Answers.{_orElse_, unless, inSecond}
 use Rattle.meaning.specs.Outcome.{gridStage, judged, sheetOf, settle}
 use Rattle.meaning.specs.declared.Side.{Side}
 use Rattle.meaning.specs.declared.Side.the-variants.{Generation, Demand}
-use Rattle.meaning.specs.Figures.{zones, zoneOf, weight, paying, payingIn, basis}
+use Rattle.meaning.proofs.Shared.{not-in-first, unshared, unshared-form, unshared-stage}
+use Rattle.meaning.specs.Figures.{shareStage, zones, zoneOf, weight, paying, payingIn, basis}
 use Rattle.meaning.specs.Sheet.{sideOf, shownOf, sheet}
 use Rattle.meaning.specs.Demands.{SameTotals, PassesToFive, TypesHidden}
 use Rattle.meaning.proofs.Plants.{types-past}
@@ -49,7 +50,7 @@ module _ (s : Settings) (first : s .edition ≡ First) (ns : List Node) (cs : Li
   abbrev G′ : Grid
   G′ = record { settings = s; nodes = ns; circuits = cs; capacity = k′ }
 
-  module _ (weigh : (v : ℕ) → v < length ns → nodeTec G v ≡ nodeTec G′ v) (pay : (v : ℕ) → v < length ns → payingTec G v ≡ payingTec G′ v) (runs : Runs) where
+  module _ (weigh : (v : ℕ) → v < length ns → nodeTec G v ≡ nodeTec G′ v) (pay : (v : ℕ) → v < length ns → payingTec G v ≡ payingTec G′ v) (runs : Runs) (share : List ℕ) where
     abbrev own : Side → Side
     own side = side
 
@@ -96,16 +97,16 @@ module _ (s : Settings) (first : s .edition ≡ First) (ns : List Node) (cs : Li
       local = λ v h. refl;
     }
 
-    of-side : (side : Side) → SameSide (sideOf G runs side) (sideOf G′ runs side)
+    of-side : (side : Side) → SameSide (sideOf G runs share side) (sideOf G′ runs share side)
     unfolding zones
     of-side side =
-        let p = priced-same bases side in
-        record { zones = refl; residual = residual-alike p; remainder = remainder-alike p; zone = λ k h. zone-alike p (suc k) }
+        let p = priced-same bases (unshared G share (not-in-first share first) ∙ sym (unshared G′ share (not-in-first share first))) side in
+        record { form = unshared-form G share (not-in-first share first) side ∙ sym (unshared-form G′ share (not-in-first share first) side); zones = refl; residual = residual-alike p; remainder = remainder-alike p; zone = λ k h. zone-alike p (suc k) }
 
-    pub one-sheet : sheet G runs ≡ sheet G′ runs
+    pub one-sheet : sheet G runs share ≡ sheet G′ runs share
     unfolding sheet basis
     one-sheet =
-        same-sheet (shownOf G runs) (shownOf G′ runs)
+        same-sheet (shownOf G runs share) (shownOf G′ runs share)
         (record {
           edition = refl;
           c = C-same bases YearRound tt;
@@ -117,7 +118,7 @@ module _ (s : Settings) (first : s .edition ≡ First) (ns : List Node) (cs : Li
         })
 
   -- ---- 6, 7, 13, and 8 to 11; 14 and 15 are of edition 2 alone
-  module _ (weigh : nodeTec G ≡ nodeTec G′) (pay : (v : ℕ) → v < length ns → payingTec G v ≡ payingTec G′ v) (runs : Runs) where
+  module _ (weigh : nodeTec G ≡ nodeTec G′) (pay : (v : ℕ) → v < length ns → payingTec G v ≡ payingTec G′ v) (runs : Runs) (share : List ℕ) where
     networks : networkOf G ≡ networkOf G′
     unfolding networkOf
     networks = refl
@@ -170,11 +171,14 @@ module _ (s : Settings) (first : s .edition ≡ First) (ns : List Node) (cs : Li
     unfolding chargeableStage
     chargeable = rw (sum-same (length ns) _ _ pay) refl
 
-    pub one-judgement : afterFive G runs ≡ afterFive G′ runs
+    sharings : shareStage G share ≡ shareStage G′ share
+    sharings = unshared-stage G share (not-in-first share first) ∙ sym (unshared-stage G′ share (not-in-first share first))
+
+    pub one-judgement : afterFive G runs share ≡ afterFive G′ runs share
     unfolding gridStage proposalsStage
     one-judgement =
         ap₂ _orElse_ (ap₂ _orElse_ (ap reachStage networks) (ap₂ _orElse_ totals (ap₂ _orElse_ chargeable scalings)))
-        (λ i. ordered (s .edition) (λ system. solutions system i) (countings i) (directions i))
+        (ap₂ _orElse_ sharings (λ i. ordered (s .edition) (λ system. solutions system i) (countings i) (directions i)))
 
 module _ (S S′ : Study) (h : SameTotals S S′) where
   lengths : length (S .nodes) ≡ length (S′ .nodes)
@@ -199,29 +203,29 @@ module _ (S S′ : Study) (h : SameTotals S S′) where
   unfolding gridOf
   to-second = λ i. record { settings = h .settings i; nodes = h .nodes i; circuits = h .circuits i; capacity = gridOf S′ .capacity }
 
-  one-sheet-of : (runs : Runs) → sheet (gridOf S) runs ≡ sheet (gridOf S′) runs
+  one-sheet-of : (runs : Runs) (share : List ℕ) → sheet (gridOf S) runs share ≡ sheet (gridOf S′) runs share
   unfolding gridOf overTypes
-  one-sheet-of runs =
-      one-sheet (S .settings) (h .edition) (S .nodes) (S .circuits) (gridOf S .capacity) (gridOf S′ .capacity) (h .tec) pays-same runs
-      ∙ ap (λ (G : Grid). sheet G runs) to-second
+  one-sheet-of runs share =
+      one-sheet (S .settings) (h .edition) (S .nodes) (S .circuits) (gridOf S .capacity) (gridOf S′ .capacity) (h .tec) pays-same runs share
+      ∙ ap (λ (G : Grid). sheet G runs share) to-second
 
-  one-judgement-of : (runs : Runs) → afterFive (gridOf S) runs ≡ afterFive (gridOf S′) runs
+  one-judgement-of : (runs : Runs) (share : List ℕ) → afterFive (gridOf S) runs share ≡ afterFive (gridOf S′) runs share
   unfolding gridOf overTypes
-  one-judgement-of runs =
-      one-judgement (S .settings) (h .edition) (S .nodes) (S .circuits) (gridOf S .capacity) (gridOf S′ .capacity) (λ i v. weighs-same v i) pays-same runs
-      ∙ ap (λ (G : Grid). afterFive G runs) to-second
+  one-judgement-of runs share =
+      one-judgement (S .settings) (h .edition) (S .nodes) (S .circuits) (gridOf S .capacity) (gridOf S′ .capacity) (λ i v. weighs-same v i) pays-same runs share
+      ∙ ap (λ (G : Grid). afterFive G runs share) to-second
 
 pub types-hidden : TypesHidden
 types-hidden file file′ runs h = record { sheets = sheets; answers = answers }
   where
-    sheets : sheetOf file runs ≡ sheetOf file′ runs
+    sheets : (share : List ℕ) → sheetOf file runs share ≡ sheetOf file′ runs share
     sheets = one-sheet-of (studyOf file) (studyOf file′) h runs
 
-    answers : PassesToFive file runs → PassesToFive file′ runs → (buffer buffer′ : List ℕ) → length buffer ≡ length buffer′
-        → settle file runs buffer .answer ≡ settle file′ runs buffer′ .answer
-    answers p p′ buffer buffer′ long =
-        let judgements = judged-after file runs p ∙ one-judgement-of (studyOf file) (studyOf file′) h runs ∙ sym (judged-after file′ runs p′) in
-        settled-answer file runs buffer
-        ∙ ap₂ (λ (j : Judgement) (text : List ℕ). answered j (length text) (length buffer)) judgements sheets
-        ∙ ap (λ (n : ℕ). answered (judged file′ runs) (length (sheetOf file′ runs)) n) long
-        ∙ sym (settled-answer file′ runs buffer′)
+    answers : PassesToFive file runs → PassesToFive file′ runs → (share buffer buffer′ : List ℕ) → length buffer ≡ length buffer′
+        → settle file runs share buffer .answer ≡ settle file′ runs share buffer′ .answer
+    answers p p′ share buffer buffer′ long =
+        let judgements = judged-after file runs share p ∙ one-judgement-of (studyOf file) (studyOf file′) h runs share ∙ sym (judged-after file′ runs share p′) in
+        settled-answer file runs share buffer
+        ∙ ap₂ (λ (j : Judgement) (text : List ℕ). answered j (length text) (length buffer)) judgements (sheets share)
+        ∙ ap (λ (n : ℕ). answered (judged file′ runs share) (length (sheetOf file′ runs share)) n) long
+        ∙ sym (settled-answer file′ runs share buffer′)

@@ -18,9 +18,9 @@ use Rattle.meaning.proofs.Kiln.{nodeOf, kiln, kilnBase, kilnWider, kilnLocal}
 use Rattle.meaning.proofs.Both.{both, bothStudy, bothSettings, bothNodes, bothCircuits, bothRuns, bothBase, bothWider, bothLocal, bothPeakBase, bothPeakWider, plant}
 
 -- 1: edition 1 and edition 3 by their numbers (byte 52); edition 2 in a version 1 file; edition 1 with a run of edition 2, edition 2 without one
-not-whole : judged (set both 52 1) bothRuns ∷ judged (set both 52 3) bothRuns ∷ judged (fileIn 1 bothStudy bothRuns) bothRuns
-    ∷ judged kiln (runsOf kilnBase kilnWider kilnLocal kilnBase [])
-    ∷ judged both (threeRuns bothBase bothWider bothLocal)
+not-whole : judged (set both 52 1) bothRuns [] ∷ judged (set both 52 3) bothRuns [] ∷ judged (fileIn 1 bothStudy bothRuns) bothRuns []
+    ∷ judged kiln (runsOf kilnBase kilnWider kilnLocal kilnBase []) []
+    ∷ judged both (threeRuns bothBase bothWider bothLocal) []
     ∷ []
     ≡ Stops BadFile ∷ Stops BadFile ∷ Stops BadFile ∷ Stops BadFile ∷ Stops BadFile ∷ []
 unfolding opened
@@ -30,7 +30,7 @@ not-whole = refl
 abbrev withStations : List Station → Judgement
 withStations stations =
     let S : Study = record { settings = bothSettings; nodes = bothNodes; circuits = bothCircuits; stations = stations } in
-    judged (fileIn 2 S bothRuns) bothRuns
+    judged (fileIn 2 S bothRuns) bothRuns []
 
 -- 14: fixed generation above demand year round; peak's variable TEC a kilowatt too small
 unscalable : withStations (plant "WIND" "NODA" 1 300000 ∷ []) ∷ withStations (plant "GAS" "NODA" 7 149999 ∷ plant "WIND" "NODB" 1 100000 ∷ []) ∷ []
@@ -40,7 +40,7 @@ unscalable = refl
 
 -- the case with other runs
 abbrev withRuns : (base wider peakBase peakWider : List ℤ) → Judgement
-withRuns b w pb pw = judged both (runsOf b w bothLocal pb pw)
+withRuns b w pb pw = judged both (runsOf b w bothLocal pb pw) []
 
 -- 8 to 10 of systems 1 and 4 before 2 and 5: a milliwatt more on A-B in peak, with a wider reference potential of 1; then that potential alone, of peak
 in-order : withRuns bothBase (set bothWider 2 (pos 1)) (set bothPeakBase 3 (pos 20908100001)) bothPeakWider
@@ -78,7 +78,7 @@ pair mark demand stations y p =
     } in
     let none : List ℤ = pos 0 ∷ pos 0 ∷ pos 0 ∷ [] in
     let runs : Runs = runsOf (pos (1000000 * y) ∷ pos 0 ∷ pos (1000000 * y) ∷ []) none none (pos (1000000 * p) ∷ pos 0 ∷ pos (1000000 * p) ∷ []) none in
-    judged (fileIn 2 S runs) runs
+    judged (fileIn 2 S runs) runs []
 
 -- 15: 700 kW of wind year round, none in peak
 which-doubt : pair 0 1400 (plant "WIND" "A" 1 1000 ∷ plant "GAS" "B" 7 2000 ∷ []) 700 0 ≡ Stops (BackgroundInDoubt 1)

@@ -96,7 +96,7 @@ dale-runs Local = refl
 dale-runs (Base Peak) = refl
 dale-runs (Wider Peak) = refl
 
-dale-judged : judged dale daleRuns ≡ Passes
+dale-judged : judged dale daleRuns [] ≡ Passes
 unfolding opened
 dale-judged = refl
 
@@ -104,7 +104,7 @@ abbrev daleSheet : List ℕ
 daleSheet =
     text "C -29145\n" ++ text "G 1 44783 15638 283454 13964051 14247505\n" ++ text "G 2 -\n" ++ text "G 3 18591 -10554 -191302 13964051 13772749\n" ++ text "D 1 0 29145 528282 4724676 5252958\n" ++ text "D 2 -33007 -3862 -70003 4724676 4654673\n" ++ text "D 3 -\n" ++ text "L FELL 799 8167\n" ++ text "L QUAY 406 4150\n" ++ text "L VALE 10010 102313\n" ++ text "R 26610 41342\n"
 
-dale-prints : prints dale ≡ daleSheet
+dale-prints : prints dale [] ≡ daleSheet
 unfolding opened
 dale-prints = refl
 
@@ -123,10 +123,10 @@ unfolding opened
 dale-directions = refl
 
 -- step 10: each side has its target, 730 and 270 thousandths of the revenue
-dale-generation : sideIncome (gridOf daleStudy) Generation daleSheet +ℤ printedRemainder Generation daleSheet ≡ pos (1234567 * 730 * 1000)
+dale-generation : sideIncome (gridOf daleStudy) [] Generation daleSheet +ℤ printedRemainder Generation daleSheet ≡ pos (1234567 * 730 * 1000)
 unfolding opened
 dale-generation = refl
 
-dale-demand : sideIncome (gridOf daleStudy) Demand daleSheet +ℤ printedRemainder Demand daleSheet ≡ pos (1234567 * 270 * 1000)
+dale-demand : sideIncome (gridOf daleStudy) [] Demand daleSheet +ℤ printedRemainder Demand daleSheet ≡ pos (1234567 * 270 * 1000)
 unfolding opened
 dale-demand = refl

@@ -18,20 +18,20 @@ use Rattle.meaning.proofs.Kiln.{kiln, kilnSettings, kilnNodes, kilnCircuits, ki
 -- KILN with other tables, and KILN with other runs
 abbrev withTables : List Node → List Circuit → List Station → Judgement
 withTables nodes circuits stations =
-    judged (fileOf (record { settings = kilnSettings; nodes = nodes; circuits = circuits; stations = stations }) kilnRuns) kilnRuns
+    judged (fileOf (record { settings = kilnSettings; nodes = nodes; circuits = circuits; stations = stations }) kilnRuns) kilnRuns []
 
 abbrev withRuns : (b w l : List ℤ) → Judgement
-withRuns b w l = judged kiln (threeRuns b w l)
+withRuns b w l = judged kiln (threeRuns b w l) []
 
 -- 1: a byte short, a byte too many, the version (byte 532), a run too short
-not-whole : judged (take 539 kiln) kilnRuns ∷ judged (kiln ++ (0 ∷ [])) kilnRuns ∷ judged (set kiln 532 3) kilnRuns
+not-whole : judged (take 539 kiln) kilnRuns [] ∷ judged (kiln ++ (0 ∷ [])) kilnRuns [] ∷ judged (set kiln 532 3) kilnRuns []
     ∷ withRuns kilnBase (take 5 kilnWider) kilnLocal ∷ []
     ≡ Stops BadFile ∷ Stops BadFile ∷ Stops BadFile ∷ Stops BadFile ∷ []
 unfolding opened
 not-whole = refl
 
 -- 2: reference row 4 of 3 (byte 48)
-reference : judged (set kiln 48 4) kilnRuns ≡ Stops BadSetting
+reference : judged (set kiln 48 4) kilnRuns [] ≡ Stops BadSetting
 unfolding opened
 reference = refl
 
@@ -40,7 +40,7 @@ repeated : withTables (nodeOf "NODA" 0 ∷ nodeOf "NODB" 30000 ∷ nodeOf "NODA"
 unfolding opened
 repeated = refl
 
-spaced : judged (set kiln 89 32) kilnRuns ≡ Stops (BadNode 2)
+spaced : judged (set kiln 89 32) kilnRuns [] ≡ Stops (BadNode 2)
 unfolding opened
 spaced = refl
 
@@ -86,6 +86,6 @@ unfolding opened
 leak = refl
 
 -- as the program prints it: the local flow of circuit 3 is -1 there (bytes 468 to 475), which breaks NODA's balance
-printed-refusal : prints (take 468 kiln ++ (replicate 8 255 ++ drop 476 kiln)) ≡ text "refused 9 3 1\n"
+printed-refusal : prints (take 468 kiln ++ (replicate 8 255 ++ drop 476 kiln)) [] ≡ text "refused 9 3 1\n"
 unfolding opened
 printed-refusal = refl

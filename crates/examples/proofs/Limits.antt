@@ -66,7 +66,7 @@ highRuns =
     (pos 10000000000000000 ∷ replicate 12 (pos 0))
     (pos 10000000000000000 ∷ pos 10000000000000000 ∷ replicate 11 (pos 0))
 
-high-prints : prints (fileOf high highRuns)
+high-prints : prints (fileOf high highRuns) []
     ≡ text "C -5000000\n" ++ text "G 1 10000000 5000000 2500000000 -7450000000 -4950000000\n" ++ text "D 1 0 5000000 2500000000 -2450000000 50000000\n" ++ text "L A 10000000 5000000000\n" ++ text "R 0 0\n"
 unfolding opened
 high-prints = refl
@@ -84,7 +84,7 @@ lowRuns =
     (pos 0 ∷ replicate 6 (negℤ (pos 10000000000000000)) ++ replicate 6 (pos 0))
     (pos 0 ∷ pos 0 ∷ replicate 5 (negℤ (pos 10000000000000000)) ++ replicate 6 (pos 0))
 
-low-prints : prints (fileOf low lowRuns)
+low-prints : prints (fileOf low lowRuns) []
     ≡ text "C 5000000\n" ++ text "G 1 0 5000000 2500000000 -2450000000 50000000\n" ++ text "D 1 10000000 5000000 2500000000 -2450000000 50000000\n" ++ text "L A 0 0\n" ++ text "R 0 0\n"
 unfolding opened
 low-prints = refl

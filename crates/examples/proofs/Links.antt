@@ -20,7 +20,7 @@ use Rattle.meaning.proofs.Kiln.{stationOf, kilnBase, kilnWider, kilnLocal}
 use Rattle.meaning.proofs.Links.{linkOf, kilnWith, half, halfSheet}
 
 -- read back over the 200,000 kW that pay, and demand's, the sheet brings in 100,000 pounds less its remainders
-half-income : printedIncome (gridOf (studyOf half)) halfSheet ≡ pos (100000 * 1000000 - 50000)
+half-income : printedIncome (gridOf (studyOf half)) [] halfSheet ≡ pos (100000 * 1000000 - 50000)
 unfolding opened
 half-income = refl
 
@@ -28,7 +28,7 @@ half-income = refl
 abbrev linked : List Station → Judgement
 linked stations =
     let runs : Runs = threeRuns (set kilnBase 2 (pos 1)) kilnWider kilnLocal in
-    judged (fileOf (kilnWith stations) runs) runs
+    judged (fileOf (kilnWith stations) runs) runs []
 
 -- too little TEC; enough, all of type 3; the same beside 0 kW that would pay; and beside 1 kW that pays
 in-place : linked (linkOf "GEN_1" "NODA" 100000 ∷ linkOf "GEN_2" "NODB" 49999 ∷ [])

@@ -98,14 +98,14 @@ local₈ = lifted local₉
 abbrev answer : Settings → List Node → List Circuit → List Station → (b w l : List ℤ) → Answer
 answer settings nodes circuits stations b w l =
     let runs : Runs = threeRuns b w l in
-    settle (fileOf (record { settings = settings; nodes = nodes; circuits = circuits; stations = stations }) runs) runs (replicate 5 7) .answer
+    settle (fileOf (record { settings = settings; nodes = nodes; circuits = circuits; stations = stations }) runs) runs [] (replicate 5 7) .answer
 
 abbrev inFive : (b w l : List ℤ) → Answer
 inFive b w l = answer kilnSettings kilnNodes kilnCircuits kilnStations b w l
 
 -- the same with version 3 (byte 532)
 version : (let runs : Runs = threeRuns base₈ wider₈ local₈ in
-    settle (set (fileOf (record { settings = lostReference; nodes = nameless; circuits = unknownEnd; stations = repeated }) runs) 532 3) runs (replicate 5 7) .answer)
+    settle (set (fileOf (record { settings = lostReference; nodes = nameless; circuits = unknownEnd; stations = repeated }) runs) 532 3) runs [] (replicate 5 7) .answer)
     ≡ Refused BadFile
 unfolding opened
 version = refl

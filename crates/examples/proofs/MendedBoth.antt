@@ -93,7 +93,7 @@ eight run potential flow = set (nine run potential flow) 1 (pos 1)
 abbrev answer : List Station → (base peakBase wider peakWider local : List ℤ) → Answer
 answer stations b pb w pw l =
     let runs : Runs = runsOf b w l pb pw in
-    settle (fileIn 2 (studyWith stations) runs) runs (replicate 5 7) .answer
+    settle (fileIn 2 (studyWith stations) runs) runs [] (replicate 5 7) .answer
 
 -- with everything wrong in the wider and local runs
 abbrev early : List Station → (base peakBase : List ℤ) → Answer

@@ -46,7 +46,7 @@ unfolding opened
 two-long = refl
 
 -- 17,000 m at a factor of 2,000 are KILN's 34,000 m: as cable at 320 and 525, as overhead line at 400, half and half, and KILN itself
-link-prints : prints (linked 2 320 0 17000 2000) ∷ prints (linked 2 525 0 17000 2000) ∷ prints (linked 2 400 17000 0 2000) ∷ prints (linked 2 132 8500 8500 2000) ∷ prints kilnTwo ∷ []
+link-prints : prints (linked 2 320 0 17000 2000) [] ∷ prints (linked 2 525 0 17000 2000) [] ∷ prints (linked 2 400 17000 0 2000) [] ∷ prints (linked 2 132 8500 8500 2000) [] ∷ prints kilnTwo [] ∷ []
     ≡ kilnSheet ∷ kilnSheet ∷ kilnSheet ∷ kilnSheet ∷ kilnSheet ∷ []
 unfolding opened
 link-prints = refl
@@ -66,7 +66,7 @@ unfolding opened
 factors-stop = refl
 
 -- rows of one version behind a trailer of the other; versions 0 and 3
-versions-stop : judged (set kiln 532 2) kilnRuns ∷ judged (set kilnTwo 544 1) kilnRuns ∷ judged (set kilnTwo 544 0) kilnRuns ∷ judged (set kilnTwo 544 3) kilnRuns ∷ []
+versions-stop : judged (set kiln 532 2) kilnRuns [] ∷ judged (set kilnTwo 544 1) kilnRuns [] ∷ judged (set kilnTwo 544 0) kilnRuns [] ∷ judged (set kilnTwo 544 3) kilnRuns [] ∷ []
     ≡ Stops BadFile ∷ Stops BadFile ∷ Stops BadFile ∷ Stops BadFile ∷ []
 unfolding opened
 versions-stop = refl

@@ -6,17 +6,17 @@ use borrow.Author.Tests.{eq-eqb, ne-eqb}
 use Rattle.meaning.specs.Study.{MicroPerKw}
 use Rattle.meaning.specs.Text.{text, natural, decimals, ends, line}
 use Rattle.meaning.specs.Sheet.{letter, zoneNumbers, zoneFields, nodeFields, nodeLine}
-use Rattle.meaning.specs.declared.Edition.{Edition}
+use Rattle.meaning.specs.declared.Form.{Form}
 use Rattle.meaning.specs.declared.Side.{Side}
 use Rattle.meaning.specs.declared.ZoneFigures.{ZoneFigures}
 use Rattle.meaning.specs.declared.LocalFigures.{LocalFigures}
 
-module _ (edition : Edition) (side : Side) (zone : ℕ) (residual : MicroPerKw) (z : ZoneFigures) where
-  pub zone-dash : z .weight .0 ≡ 0 → line (zoneFields edition side zone residual z) ≡ (letter side ++ (text " " ++ natural zone)) ++ text " -\n"
+module _ (form : Form) (side : Side) (zone : ℕ) (residual : MicroPerKw) (z : ZoneFigures) where
+  pub zone-dash : z .weight .0 ≡ 0 → line (zoneFields form side zone residual z) ≡ (letter side ++ (text " " ++ natural zone)) ++ text " -\n"
   unfolding zoneFields line ends
   zone-dash e = simp (eq-eqb _ _ e, append-assoc)
 
-  pub zone-full : (z .weight .0 ≡ 0 → ⊥) → line (zoneFields edition side zone residual z) ≡ (letter side ++ (text " " ++ natural zone)) ++ ends (decimals (zoneNumbers edition residual z))
+  pub zone-full : (z .weight .0 ≡ 0 → ⊥) → line (zoneFields form side zone residual z) ≡ (letter side ++ (text " " ++ natural zone)) ++ ends (decimals (zoneNumbers form residual z))
   unfolding zoneFields line ends
   zone-full n = simp (ne-eqb _ _ n, append-assoc)
 

@@ -18,7 +18,7 @@ Adds most line text longer = Put most (line .bytes) (line .len) text (longer .by
 
 -- room for any line, and the bytes of a line with no text
 abbrev pub width : ℕ
-width = 192
+width = 240
 
 unfoldable pub zeros : List ℕ
 zeros = replicate width 0

@@ -7,13 +7,14 @@ ghost use lib.ListN.{take};
 ghost use Rattle.meaning.specs.Name.{unpadded};
 ghost use Prim.Native.Nat.{_+_, _≤_};
 ghost use Rattle.meaning.specs.Text.{decimals, ends, line};
-ghost use Rattle.meaning.specs.declared.Edition.the-variants.{First, Second};
+ghost use Rattle.meaning.specs.declared.Form.the-variants.{OneBackground, TwoBackgrounds, Sharing};
 ghost use Rattle.meaning.specs.Sheet.{constantFields, letter, zoneNumbers, zoneFields, nodeLine, remainderFields};
 ghost use Rattle.meaning.specs.Outcome.{refusedFields};
 ghost use Rattle.lines.specs.Making.{Adds, Holds, width};
 use digits::with_count;
 use digits::with_numbers;
 use meaning::Edition;
+use meaning::Form;
 use meaning::LocalFigures;
 use meaning::Metres;
 use meaning::MicroPerKw;
@@ -25,8 +26,8 @@ use words::with_byte;
 use words::with_name;
 use words::with_word;
 
-// Room for any line: a zone's is the longest.
-pub const WIDTH: usize = 192;
+// Room for any line: a zone's is the longest, 233 bytes at most whatever its numbers.
+pub const WIDTH: usize = 240;
 
 // The text of a line, zeros behind it, and its length.
 pub struct Line {
@@ -55,16 +56,17 @@ fn letter_of(side: Side) -> Line
     }
 }
 
-// The numbers of a zone's line, by edition: in the second peak's three first.
-fn first_numbers(residual: MicroPerKw, z: ZoneFigures) -> [i64; 5]
-    ensures { λ r. ⌜ r ≡ zoneNumbers First (residual .0) z ⌝ }
+// The numbers of a zone's line, by its form: year round's three, then the residual and the total.
+fn one_background(residual: MicroPerKw, z: ZoneFigures) -> [i64; 5]
+    ensures { λ r. ⌜ r ≡ zoneNumbers OneBackground (residual .0) z ⌝ }
 {
     let y = z.year_round;
     [y.metres.0, y.after_c.0, y.tariff.0, residual.0, z.total.0]
 }
 
-fn second_numbers(residual: MicroPerKw, z: ZoneFigures) -> [i64; 8]
-    ensures { λ r. ⌜ r ≡ zoneNumbers Second (residual .0) z ⌝ }
+// 02, request 5: peak's three before them.
+fn two_backgrounds(residual: MicroPerKw, z: ZoneFigures) -> [i64; 8]
+    ensures { λ r. ⌜ r ≡ zoneNumbers TwoBackgrounds (residual .0) z ⌝ }
 {
     let p = z.peak;
     let y = z.year_round;
@@ -80,32 +82,51 @@ fn second_numbers(residual: MicroPerKw, z: ZoneFigures) -> [i64; 8]
     ]
 }
 
-// A line with these numbers more, and its end.
-fn with_figures(line: Line, edition: Edition, residual: MicroPerKw, z: ZoneFigures) -> Line
-    requires { ⌜ line .len + 169 ≤ width ⌝ }
-    ensures { λ r. ⌜ Adds 169 line (ends (decimals (zoneNumbers edition (residual .0) z))) r ⌝ }
+// 02, request 6: and the shared metres and their tariff after year round's.
+fn sharing(residual: MicroPerKw, z: ZoneFigures) -> [i64; 10]
+    ensures { λ r. ⌜ r ≡ zoneNumbers Sharing (residual .0) z ⌝ }
 {
-    match edition {
-        Edition::First => {
-            let numbers = first_numbers(residual, z);
+    let p = z.peak;
+    let y = z.year_round;
+    let s = z.shared;
+    [
+        p.metres.0,
+        p.after_c.0,
+        p.tariff.0,
+        y.metres.0,
+        y.after_c.0,
+        y.tariff.0,
+        s.metres.0,
+        s.tariff.0,
+        residual.0,
+        z.total.0,
+    ]
+}
+
+// A line with these numbers more, and its end.
+fn with_figures(line: Line, form: Form, residual: MicroPerKw, z: ZoneFigures) -> Line
+    requires { ⌜ line .len + 211 ≤ width ⌝ }
+    ensures { λ r. ⌜ Adds 211 line (ends (decimals (zoneNumbers form (residual .0) z))) r ⌝ }
+{
+    match form {
+        Form::OneBackground => {
+            let numbers = one_background(residual, z);
             with_numbers(line, &numbers)
         }
-        Edition::Second => {
-            let numbers = second_numbers(residual, z);
+        Form::TwoBackgrounds => {
+            let numbers = two_backgrounds(residual, z);
+            with_numbers(line, &numbers)
+        }
+        Form::Sharing => {
+            let numbers = sharing(residual, z);
             with_numbers(line, &numbers)
         }
     }
 }
 
 // The line of a zone: `-` with no kilowatts.
-pub fn zone_line(
-    edition: Edition,
-    side: Side,
-    zone: usize,
-    residual: MicroPerKw,
-    z: ZoneFigures,
-) -> Line
-    ensures { λ r. ⌜ Holds width (line (zoneFields edition side zone (residual .0) z)) r ⌝ }
+pub fn zone_line(form: Form, side: Side, zone: usize, residual: MicroPerKw, z: ZoneFigures) -> Line
+    ensures { λ r. ⌜ Holds width (line (zoneFields form side zone (residual .0) z)) r ⌝ }
 {
     let lettered = letter_of(side);
     let numbered = with_count(lettered, zone);
@@ -113,7 +134,7 @@ pub fn zone_line(
     if w.0 == 0 {
         return with_word(numbered, b" -\n");
     }
-    with_figures(numbered, edition, residual, z)
+    with_figures(numbered, form, residual, z)
 }
 
 // The line of a node, whose name stands at the front of these bytes: none without TEC.

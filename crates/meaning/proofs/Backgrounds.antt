@@ -21,7 +21,7 @@ use Rattle.meaning.proofs.Plants.{capacity-at, year-round-pays, all-but
 use Rattle.meaning.proofs.Generation.{generation-total, generation-most, peak-pays, scalable-in}
 
 pub each-background-served : EachBackgroundServed
-each-background-served file runs a b h =
+each-background-served file runs share a b h =
     let s = scalable-in (studyOf file) (a .study) b h in
     record { all = generation-total (gridOf (studyOf file)) b s; most = generation-most (gridOf (studyOf file)) b s }
 
@@ -56,4 +56,4 @@ all-but-intermittent-pay-at-peak S v h = record {
 
 pub peak-is-paid : PeakIsPaid
 unfolding totalPayingIn payingIn gridOf
-peak-is-paid file runs a second = peak-pays (gridOf (studyOf file)) (subst (Of Peak) (sym second) tt) (a .study .scalable second Peak)
+peak-is-paid file runs share a second = peak-pays (gridOf (studyOf file)) (subst (Of Peak) (sym second) tt) (a .study .scalable second Peak)

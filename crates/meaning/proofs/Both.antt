@@ -125,12 +125,12 @@ bothSheet =
     ++ text "G 3 -\n" ++ text "D 1 -320 5327 95886 -2600 3319 59742 177705 333333\n"
     ++ text "L NODA 2000 20000\n" ++ text "L NODB 1000 10000\n" ++ text "L NODC 0 0\n" ++ text "R 160000 50000\n"
 
-pub both-prints : prints both ≡ bothSheet
+pub both-prints : prints both [] ≡ bothSheet
 unfolding opened
 both-prints = refl
 
 -- read back from its bytes, the sheet brings in 50,000 pounds from each side, less its remainder
-both-income : (sideIncome (gridOf bothStudy) Generation bothSheet ≡ pos 49999840000) × (sideIncome (gridOf bothStudy) Demand bothSheet ≡ pos 49999950000)
+both-income : (sideIncome (gridOf bothStudy) [] Generation bothSheet ≡ pos 49999840000) × (sideIncome (gridOf bothStudy) [] Demand bothSheet ≡ pos 49999950000)
     × (printedRemainder Generation bothSheet ≡ pos 160000)
     × (printedRemainder Demand bothSheet ≡ pos 50000)
 unfolding opened

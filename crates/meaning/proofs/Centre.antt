@@ -12,7 +12,7 @@ use Rattle.meaning.specs.Grid.{Grid}
 use Rattle.meaning.specs.declared.Background.{Background}
 use Rattle.meaning.specs.declared.Side.{Side}
 use Rattle.meaning.specs.declared.Side.the-variants.{Generation, Demand}
-use Rattle.meaning.specs.Figures.{zones, zonePayingIn, totalPayingIn, overZones, zonalMetres, C, afterC, basis}
+use Rattle.meaning.specs.Figures.{zones, zonePayingIn, totalPayingIn, overZones, zonalMetres, C, basis}
 use Rattle.meaning.specs.Charging as charging
 use Rattle.meaning.specs.Demands.{Balances}
 
@@ -46,7 +46,7 @@ module _ (G : Grid) (runs : Runs) (b : Background) (all : (side : Side) → sum 
       raised a c w = simp Z (omega arith)
 
   pub balances : 1 ≤ G .settings .p * totalPayingIn G b Generation + (1000 - G .settings .p) * totalPayingIn G b Demand → Balances G runs b
-  unfolding charging.afterC charging.C charging.priced basis
+  unfolding charging.C basis
   balances h =
       let p = G .settings .p in
       let d = overZones G b Demand (zonalMetres G runs b Demand) in

@@ -10,11 +10,12 @@ use Rattle.meaning.specs.Calls.{Call, Kept}
 pub record SameLent (c d : Call) : Type 0 where
   pub file : c .file ≡ d .file
   pub runs : c .runs ≡ d .runs
+  pub share : c .share ≡ d .share
   pub before : c .before ≡ d .before
 
-same-settled : (c d : Call) → SameLent c d → settle (c .file) (c .runs) (c .before) ≡ settle (d .file) (d .runs) (d .before)
+same-settled : (c d : Call) → SameLent c d → settle (c .file) (c .runs) (c .share) (c .before) ≡ settle (d .file) (d .runs) (d .share) (d .before)
 same-settled c d s =
-    ap₂ (λ (f : List ℕ) (r : Runs). settle f r (c .before)) (s .file) (s .runs) ∙ ap (λ (b : List ℕ). settle (d .file) (d .runs) b) (s .before)
+    ap₂ (λ (f : List ℕ) (r : Runs). settle f r (c .share) (c .before)) (s .file) (s .runs) ∙ ap₂ (λ (h b : List ℕ). settle (d .file) (d .runs) h b) (s .share) (s .before)
 
 pub one-result : (c d : Call) → Kept c → Kept d → SameLent c d → (c .answer ≡ d .answer) × (c .after ≡ d .after)
 one-result c d kept kept′ s =

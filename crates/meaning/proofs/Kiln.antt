@@ -95,21 +95,21 @@ kilnSheet =
     ++ text "L NODA 0 0\n" ++ text "L NODB 0 0\n" ++ text "R 200000 50000\n"
 
 -- 01: "The program prints all of"
-pub kiln-prints : prints kiln ≡ kilnSheet
+pub kiln-prints : prints kiln [] ≡ kilnSheet
 unfolding opened
 kiln-prints = refl
 
-pub kiln-judged : judged kiln kilnRuns ≡ Passes
+pub kiln-judged : judged kiln kilnRuns [] ≡ Passes
 unfolding opened
 kiln-judged = refl
 
 -- a buffer of 200 bytes holds the sheet at its front, and is otherwise as it was
-pub kiln-settled : settle kiln kilnRuns (replicate 200 7) ≡ record { answer = Accepted 117; buffer = kilnSheet ++ replicate 83 7 }
+pub kiln-settled : settle kiln kilnRuns [] (replicate 200 7) ≡ record { answer = Accepted 117; buffer = kilnSheet ++ replicate 83 7 }
 unfolding opened
 kiln-settled = refl
 
 -- read back from its bytes, the sheet brings in 100,000 pounds less the two remainders
-kiln-income : printedIncome (gridOf kilnStudy) kilnSheet ≡ pos (100000 * 1000000 - 250000)
+kiln-income : printedIncome (gridOf kilnStudy) [] kilnSheet ≡ pos (100000 * 1000000 - 250000)
 unfolding opened
 kiln-income = refl
 
@@ -118,15 +118,15 @@ unfolding opened
 kiln-remainders = (refl, refl)
 
 -- 8: the reference's potential is 1 in the wider run
-ground : judged kiln (threeRuns kilnBase (set kilnWider 2 (pos 1)) kilnLocal) ≡ Stops (BadNumber (Wider YearRound) 3)
+ground : judged kiln (threeRuns kilnBase (set kilnWider 2 (pos 1)) kilnLocal) [] ≡ Stops (BadNumber (Wider YearRound) 3)
 unfolding opened
 ground = refl
 
 -- 12: a buffer one byte short is refused and stays as it was; an exact fit is written
-shortened : settle kiln kilnRuns (replicate 116 7) ≡ record { answer = Refused ShortBuffer; buffer = replicate 116 7 }
+shortened : settle kiln kilnRuns [] (replicate 116 7) ≡ record { answer = Refused ShortBuffer; buffer = replicate 116 7 }
 unfolding opened
 shortened = refl
 
-exact : settle kiln kilnRuns (replicate 117 7) ≡ record { answer = Accepted 117; buffer = kilnSheet }
+exact : settle kiln kilnRuns [] (replicate 117 7) ≡ record { answer = Accepted 117; buffer = kilnSheet }
 unfolding opened
 exact = refl

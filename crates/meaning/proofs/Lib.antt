@@ -14,6 +14,8 @@ pub mod Networks
 pub mod Plants
 pub mod Shares
 pub mod Generation
+pub mod Chains
+pub mod Shared
 pub mod Sides
 pub mod Bases
 pub mod Sheets
@@ -31,7 +33,7 @@ pub mod Versions
 pub mod Twins
 -- 02, request 12: what distances are said by
 pub mod Directions
--- the definitions computed: the starred rows, case KILN and its damaged forms, interconnectors, a case of edition 2
+-- the definitions computed: the starred rows, case KILN and its damaged forms, interconnectors, a case of edition 2, five zones with a share file
 pub mod Write
 pub mod Opened
 pub mod Starred
@@ -39,6 +41,7 @@ pub mod Kiln
 pub mod Small
 pub mod Links
 pub mod Both
+pub mod FiveZones
 -- 02, request 5: edition 1 is 01's, and what is promised of backgrounds
 pub mod Present
 pub mod Backgrounds

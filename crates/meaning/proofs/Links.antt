@@ -28,7 +28,7 @@ half = fileOf (kilnWith (stationOf "GEN_1" "NODA" 200000 ∷ linkOf "GEN_2" "NOD
 abbrev pub halfSheet : List ℕ
 halfSheet = text "C -17990\nG 1 28333 10343 186174 63826 250000\nD 1 -4200 13790 248220 85113 333333\nL NODA 0 0\nL NODB 0 0\nR 0 50000\n"
 
-half-prints : prints half ≡ halfSheet
+half-prints : prints half [] ≡ halfSheet
 unfolding opened
 half-prints = refl
 
@@ -65,6 +65,7 @@ towed-prints : prints (fileOf towed
     (pos 401000000 ∷ pos 0 ∷ pos 401000000 ∷ [])
     (replicate 3 (pos 0))
     (pos 10000000000 ∷ pos 0 ∷ pos 0 ∷ [])))
+    []
     ≡ text "C 0\nG 1 0 0 0 2332 2332\nG 2 0 0 0 2332 2332\nG 3 -\nD 1 0 0 0 336 336\nL A 10 101\nL B 0 0\nR 100 528\n"
 unfolding opened
 towed-prints = refl

@@ -1,6 +1,7 @@
 -- 02, request 2: the mirror of generation and demand. Of "nearest" only that it is a nearest number, and that it mirrors, is used.
 use mathlib.Core.Path.{_≡_, refl, sym, _∙_, ap, ap₂}
 use mathlib.Core.Logic.{_⊎_, inl, inr}
+use mathlib.Core.List.{List}
 use Prim.Native.Nat.{ℕ, _+_, _*_, _-_, _<_}
 use native.Mathlib.Omega.{arith}
 use lib.IntN.{ℤ, pos, negℤ, _+ℤ_, _-ℤ_, _*ℤ_}
@@ -11,17 +12,21 @@ use Rattle.integers.proofs.Core.{Z}
 use Rattle.integers.proofs.Laws.{neg-neg, neg-mul}
 use Rattle.integers.proofs.Sum.{Σ-same, Σ-neg}
 use Rattle.integers.proofs.Div.{floor-exact, nearest-error, nearest-mirror, nearest-moved}
+use Rattle.meaning.specs.declared.Edition.{Edition}
 use Rattle.meaning.specs.declared.Background.{Background}
+use Rattle.meaning.specs.declared.Background.the-variants.{YearRound, Peak}
 use Rattle.meaning.specs.declared.System.the-variants.{Wider, Local}
 use Rattle.meaning.specs.declared.Side.{Side}
 use Rattle.meaning.specs.declared.Side.the-variants.{Generation, Demand}
 use Rattle.meaning.specs.Study.{Metres, Runs}
 use Rattle.meaning.specs.Grid.{Grid}
 use Rattle.meaning.specs.Charging.{metres, tariff}
-use Rattle.meaning.specs.Figures.{widerMetres, localMetres, distance, totalPayingIn, overZones, target, zonalMetres, C, afterC, zoneTariff, localTariff, localIncome, basis}
+use Rattle.meaning.specs.Figures.{widerMetres, localMetres, distance, totalPayingIn, overZones, target, zonalMetres, C, afterC, zoneTariff, localTariff, localIncome, priced, basis}
 use Rattle.meaning.specs.Charging as charging
 use Rattle.meaning.specs.Distances.{weightIn}
-use Rattle.meaning.specs.Mirror.{NearestMirrors, halfUp, NegativeHalf, OnlyNegativeHalvesMove, nodal, zonal, centre, zoneTariffs, localTariffs, FiguresMove, average, AveragesMirror, WeighAlike, ZonesMirror, other, Exchanged, MirrorImage, SidesMirror, MoneyMirrors}
+use Rattle.meaning.specs.Mirror.{NearestMirrors, halfUp, NegativeHalf, OnlyNegativeHalvesMove, nodal, zonal, centre, zoneTariffs, sharedTariffs, localTariffs, FiguresMove, average, AveragesMirror, WeighAlike, Whole, ZonesMirror, other, Exchanged, MirrorImage, SidesMirror, MoneyMirrors}
+use Rattle.meaning.specs.Sharing.{inForce}
+use Rattle.meaning.proofs.Shared.{unshared-on, own-whole, own-peak, no-shared-income}
 use Rattle.meaning.proofs.Sides.{average-same, zonal-average, Corresponds, zonal-same, total-same, over-same, residual-same, remainder-same, zone-total-same}
 
 -- ---- one division
@@ -70,6 +75,14 @@ unfolding distance
 demand-average G runs b zone =
     zonal-average G runs b Demand zone ∙ averages-mirror (length (G .nodes)) (widerMetres runs b) (weightIn G Demand zone)
 
+-- ---- metres after C, where they are whole
+after-whole : (G : Grid) (runs : Runs) (share : List ℕ) (b : Background) → Whole G share b → (side : Side) (zone : ℕ)
+    → afterC G runs share b side zone ≡ charging.withC side (C G runs b) (zonalMetres G runs b side zone)
+unfolding charging.afterC charging.priced basis
+after-whole G runs share YearRound whole side zone =
+    ap (charging.withC side (C G runs YearRound)) (own-whole (priced G runs share side) (unshared-on G share whole runs side) YearRound zone)
+after-whole G runs share Peak whole side zone = ap (charging.withC side (C G runs Peak)) (own-peak (priced G runs share side) zone)
+
 -- ---- a generation zone and a demand zone
 module _ (G : Grid) (runs : Runs) (g d : ℕ) (h : WeighAlike G g d) (b : Background) where
   zone-mirror : zonalMetres G runs b Demand d ≡ negℤ (zonalMetres G runs b Generation g)
@@ -78,21 +91,27 @@ module _ (G : Grid) (runs : Runs) (g d : ℕ) (h : WeighAlike G g d) (b : Backgr
       ∙ ap negℤ (average-same (length (G .nodes)) (distance runs b Generation) (distance runs b Generation) _ _ (λ v k. refl) (λ v k. sym (h v k)))
       ∙ ap negℤ (sym (zonal-average G runs b Generation g))
 
-  centre-mirror : afterC G runs b Demand d ≡ negℤ (afterC G runs b Generation g)
-  unfolding charging.afterC charging.priced basis
-  centre-mirror = rw (zone-mirror) (moved (zonalMetres G runs b Generation g) (C G runs b))
-    where
-      moved : (m c : ℤ) → negℤ m -ℤ c ≡ negℤ (m +ℤ c)
-      moved m c = simp Z (omega arith)
+  module _ (share : List ℕ) (whole : Whole G share b) where
+    centre-mirror : afterC G runs share b Demand d ≡ negℤ (afterC G runs share b Generation g)
+    centre-mirror =
+        after-whole G runs share b whole Demand d ∙ ap (λ (m : Metres). charging.withC Demand (C G runs b) m) zone-mirror ∙ moved (zonalMetres G runs b Generation g) (C G runs b)
+        ∙ ap negℤ (sym (after-whole G runs share b whole Generation g))
+      where
+        moved : (m c : ℤ) → negℤ m -ℤ c ≡ negℤ (m +ℤ c)
+        moved m c = simp Z (omega arith)
 
-  price-mirror : zoneTariff G runs b Demand d ≡ negℤ (zoneTariff G runs b Generation g)
-  unfolding charging.zoneTariff charging.priced basis
-  price-mirror =
-      ap (λ (m : Metres). tariff m (G .settings .constant) (G .settings .«wider_factor»)) centre-mirror
-      ∙ tariff-mirror (afterC G runs b Generation g) (G .settings .constant) (G .settings .«wider_factor»)
+    price-mirror : zoneTariff G runs share b Demand d ≡ negℤ (zoneTariff G runs share b Generation g)
+    unfolding charging.zoneTariff charging.priced basis
+    price-mirror =
+        ap (λ (m : Metres). tariff m (G .settings .constant) (G .settings .«wider_factor»)) centre-mirror
+        ∙ tariff-mirror (afterC G runs share b Generation g) (G .settings .constant) (G .settings .«wider_factor»)
 
 pub zones-mirror : ZonesMirror
-zones-mirror G runs g d h = record { metres = zone-mirror G runs g d h; withC = centre-mirror G runs g d h; tariffs = price-mirror G runs g d h }
+zones-mirror G runs share g d h = record {
+  metres = zone-mirror G runs g d h;
+  withC = λ b whole. centre-mirror G runs g d h b share whole;
+  tariffs = λ b whole. price-mirror G runs g d h b share whole;
+}
 
 -- ---- a case and its mirror image
 -- step 8 over plain numbers: p and p′ are 1000 together
@@ -108,6 +127,10 @@ turned-C p p′ k l a b e =
 
     joined : (p q k l : ℕ) → q * l + p * k ≡ p * k + q * l
     joined p q k l = omega arith
+
+whole-turned : (G G′ : Grid) → G′ .settings .edition ≡ G .settings .edition → (share : List ℕ) (b : Background) → Whole G share b → Whole G′ share b
+whole-turned G G′ e share YearRound whole = ap (λ (e : Edition). inForce e share) e ∙ whole
+whole-turned G G′ e share Peak whole = tt
 
 module _ (G G′ : Grid) (runs runs′ : Runs) (x : Exchanged G G′ runs runs′) where
   same-tariff : (m m′ : Metres) (c c′ f f′ : ℕ) → m ≡ m′ → c ≡ c′ → f ≡ f′ → tariff m c f ≡ tariff m′ c′ f′
@@ -146,32 +169,37 @@ module _ (G G′ : Grid) (runs runs′ : Runs) (x : Exchanged G G′ runs runs�
         (turned-C (G .settings .p) (G′ .settings .p) (totalPayingIn G b Generation) (totalPayingIn G b Demand) (overZones G b Demand (zonalMetres G runs b Demand))
         (overZones G b Generation (zonalMetres G runs b Generation)) (x .shares))
 
-    after-turned : (side : Side) (zone : ℕ) → afterC G′ runs′ b side zone ≡ afterC G runs b (other side) zone
-    unfolding charging.afterC charging.priced basis
-    after-turned Generation zone = rw (zonal-turned Generation zone, C-turned) refl
-    after-turned Demand zone = rw (zonal-turned Demand zone, C-turned, neg-neg (C G runs b)) refl
+    with-turned : (side : Side) (zone : ℕ)
+        → charging.withC side (C G′ runs′ b) (zonalMetres G′ runs′ b side zone) ≡ charging.withC (other side) (C G runs b) (zonalMetres G runs b (other side) zone)
+    with-turned Generation zone = rw (zonal-turned Generation zone, C-turned) refl
+    with-turned Demand zone = rw (zonal-turned Demand zone, C-turned, neg-neg (C G runs b)) refl
 
-    tariff-turned : (side : Side) (zone : ℕ) → zoneTariff G′ runs′ b side zone ≡ zoneTariff G runs b (other side) zone
-    unfolding charging.zoneTariff charging.priced basis
-    tariff-turned side zone = same-tariff _ _ _ _ _ _ (after-turned side zone) (x .constants) (x .widerFactors)
+    module _ (share : List ℕ) (whole : Whole G share b) where
+      after-turned : (side : Side) (zone : ℕ) → afterC G′ runs′ share b side zone ≡ afterC G runs share b (other side) zone
+      after-turned side zone =
+          after-whole G′ runs′ share b (whole-turned G G′ (x .editions) share b whole) side zone ∙ with-turned side zone ∙ sym (after-whole G runs share b whole (other side) zone)
+
+      tariff-turned : (side : Side) (zone : ℕ) → zoneTariff G′ runs′ share b side zone ≡ zoneTariff G runs share b (other side) zone
+      unfolding charging.zoneTariff charging.priced basis
+      tariff-turned side zone = same-tariff _ _ _ _ _ _ (after-turned side zone) (x .constants) (x .widerFactors)
 
   local-turned : (v : ℕ) → v < length (G .nodes) → localMetres runs′ v ≡ negℤ (localMetres runs v)
   unfolding localMetres
   local-turned v h = ap metres (x .potentials Local tt v h) ∙ metres-mirror _
 
-  image : MirrorImage G G′ runs runs′
+  image : (share : List ℕ) → MirrorImage G G′ runs runs′ share
   unfolding charging.localTariff basis
-  image = record {
+  image share = record {
     centre = C-turned;
     metres = zonal-turned;
-    withC = after-turned;
-    tariffs = tariff-turned;
+    withC = λ b. after-turned b share;
+    tariffs = λ b. tariff-turned b share;
     localDistances = local-turned;
     localTariffs = λ v h. same-tariff _ _ _ _ _ _ (local-turned v h) (x .constants) (x .localFactors) ∙ tariff-mirror _ _ _;
   }
 
 pub sides-mirror : SidesMirror
-sides-mirror G G′ runs runs′ x = image G G′ runs runs′ x
+sides-mirror G G′ runs runs′ share x = image G G′ runs runs′ x share
 
 -- ---- and its money
 -- a target by p is the other side's by 1000 - p
@@ -187,24 +215,33 @@ local-none G G′ runs runs′ e e′ Generation = e′
 local-none G G′ runs runs′ e e′ Demand = sym e
 
 pub money-mirrors : MoneyMirrors
-money-mirrors G G′ runs runs′ m =
+money-mirrors G G′ runs runs′ share m =
     let x = m .exchanged in
     let e = x .editions in
     let c = corresponds G G′ runs runs′ x in
-    let prices = tariff-turned G G′ runs runs′ x in
     let targets = target-turned G G′ (x .shares) (m .revenues) in
     let locals = local-none G G′ runs runs′ (m .noLocal) (m .noLocal′) in
     record {
-      residuals = residual-same other G G′ runs runs′ e (λ b h. c b) (λ b h. prices b) targets locals;
-      totals = zone-total-same other G G′ runs runs′ e (λ b h. c b) (λ b h. prices b) targets locals;
-      remainders = remainder-same other G G′ runs runs′ e (λ b h. c b) (λ b h. prices b) targets locals;
+      residuals = residual-same other G G′ runs runs′ share e (λ b h. c b) (λ b h. tariff-turned G G′ runs runs′ x b share (all-whole b)) none-shared targets locals;
+      totals = zone-total-same other G G′ runs runs′ share e (λ b h. c b) (λ b h. tariff-turned G G′ runs runs′ x b share (all-whole b)) none-shared targets locals;
+      remainders = remainder-same other G G′ runs runs′ share e (λ b h. c b) (λ b h. tariff-turned G G′ runs runs′ x b share (all-whole b)) none-shared targets locals;
     }
+  where
+    all-whole : (b : Background) → Whole G share b
+    all-whole YearRound = m .whole
+    all-whole Peak = tt
+
+    none-shared : (side : Side) → charging.sharedIncome (priced G′ runs′ share side) ≡ charging.sharedIncome (priced G runs share (other side))
+    none-shared side =
+        no-shared-income (priced G′ runs′ share side) (unshared-on G′ share (whole-turned G G′ (m .exchanged .editions) share YearRound (m .whole)) runs′ side)
+        ∙ sym (no-shared-income (priced G runs share (other side)) (unshared-on G share (m .whole) runs (other side)))
 
 -- ---- what moved, figure by figure: each is the nearest of its division
 pub figures-move : FiguresMove
-unfolding metres zonalMetres charging.C charging.zoneTariff charging.localTariff tariff charging.priced basis
-figures-move G runs z d f (nodal s _ v) p = only-negative-halves-move _ _ p
-figures-move G runs z d f (zonal b side zone) p = only-negative-halves-move _ _ p
-figures-move G runs z d f (centre b) p = only-negative-halves-move _ _ p
-figures-move G runs z d f (zoneTariffs b side zone) p = only-negative-halves-move _ _ p
-figures-move G runs z d f (localTariffs v) p = only-negative-halves-move _ _ p
+unfolding metres zonalMetres charging.C charging.zoneTariff charging.sharedTariff charging.localTariff tariff charging.priced basis
+figures-move G runs share z d f (nodal s _ v) p = only-negative-halves-move _ _ p
+figures-move G runs share z d f (zonal b side zone) p = only-negative-halves-move _ _ p
+figures-move G runs share z d f (centre b) p = only-negative-halves-move _ _ p
+figures-move G runs share z d f (zoneTariffs b side zone) p = only-negative-halves-move _ _ p
+figures-move G runs share z d f (sharedTariffs side zone) p = only-negative-halves-move _ _ p
+figures-move G runs share z d f (localTariffs v) p = only-negative-halves-move _ _ p

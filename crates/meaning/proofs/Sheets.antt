@@ -3,13 +3,14 @@ use mathlib.Core.Path.{_≡_, refl, _∙_, ap, ap₂}
 use Prim.Native.Nat.{ℕ, suc, _<_}
 use Rattle.meaning.specs.Rows.{joined}
 use Rattle.meaning.specs.Text.{line}
-use Rattle.meaning.specs.declared.Edition.{Edition}
+use Rattle.meaning.specs.declared.Form.{Form}
 use Rattle.meaning.specs.declared.Side.{Side}
 use Rattle.meaning.specs.declared.Side.the-variants.{Generation, Demand}
-use Rattle.meaning.specs.Sheet.{zoneFields, nodeLine, SideShown, Shown, zoneRow, zoneLines, nodeLines, sheetText}
+use Rattle.meaning.specs.Sheet.{zoneFields, nodeLine, SideShown, Shown, zoneLines, nodeLines, sheetText}
 use Rattle.meaning.proofs.Rows.{joined-same}
 
 pub record SameSide (s t : SideShown) : Type 0 where
+  pub form : s .form ≡ t .form
   pub zones : s .zones ≡ t .zones
   pub residual : s .residual ≡ t .residual
   pub remainder : s .remainder ≡ t .remainder
@@ -24,11 +25,11 @@ pub record SameShown (s t : Shown) : Type 0 where
   pub name : (v : ℕ) → v < s .nodes → s .name v ≡ t .name v
   pub local : (v : ℕ) → v < s .nodes → s .local v ≡ t .local v
 
-same-zones : (side : Side) {e e′ : Edition} (s t : SideShown) → e ≡ e′ → SameSide s t → zoneLines e side s ≡ zoneLines e′ side t
+same-zones : (side : Side) (s t : SideShown) → SameSide s t → zoneLines side s ≡ zoneLines side t
 unfolding zoneLines
-same-zones side {e = e} s t same x =
-    joined-same (s .zones) _ _ (λ k h. ap₂ (λ r z. line (zoneFields e side (suc k) r z)) (x .residual) (x .zone k h))
-    ∙ ap₂ (λ (e : Edition) (n : ℕ). joined n (λ k. line (zoneRow e side t k))) same (x .zones)
+same-zones side s t x =
+    joined-same (s .zones) _ _ (λ k h. ap₂ (λ r z. line (zoneFields (s .form) side (suc k) r z)) (x .residual) (x .zone k h))
+    ∙ ap₂ (λ (f : Form) (n : ℕ). joined n (λ k. line (zoneFields f side (suc k) (t .residual) (t .zone k)))) (x .form) (x .zones)
 
 module _ (s t : Shown) (e : SameShown s t) where
   same-nodes : nodeLines (s .nodes) (s .name) (s .local) ≡ nodeLines (t .nodes) (t .name) (t .local)
@@ -40,8 +41,8 @@ module _ (s t : Shown) (e : SameShown s t) where
   pub same-sheet : sheetText s ≡ sheetText t
   unfolding sheetText
   same-sheet = rw (
-    same-zones Generation _ _ (e .edition) (e .side Generation),
-    same-zones Demand _ _ (e .edition) (e .side Demand),
+    same-zones Generation _ _ (e .side Generation),
+    same-zones Demand _ _ (e .side Demand),
     same-nodes,
     e .side Generation .remainder,
     e .side Demand .remainder,

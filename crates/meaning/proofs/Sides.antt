@@ -2,6 +2,7 @@
 use mathlib.Core.Path.{_≡_, refl, sym, _∙_, ap, ap₂, fun-ext}
 use mathlib.Core.Logic.{_≢_}
 use mathlib.Core.Bool.{Bool, true, false, cond}
+use mathlib.Core.List.{List}
 use Prim.Native.Nat.{ℕ, suc, _≤_, _<_}
 use native.Mathlib.Omega.{arith}
 use lib.Dec.{eqb}
@@ -123,39 +124,40 @@ module _ (to : Side → Side) (b : Background) (G G′ : Grid) (runs runs′ : R
   over-same side f f′ e =
       rw (x .zoneCounts side) (Σ-same (zones G (to side)) _ _ (λ k h. ap₂ (λ (m : ℤ) (w : ℕ). m *ℤ pos w) (e (suc k)) (paying-same side (suc k))))
 
--- step 10, where the sides correspond in each background of one edition, and tariffs, targets and local income do
-module _ (to : Side → Side) (G G′ : Grid) (runs runs′ : Runs) (edition : G′ .settings .edition ≡ G .settings .edition)
+-- step 10, where the sides correspond in each background of one edition, and tariffs, shared income, targets and local income do
+module _ (to : Side → Side) (G G′ : Grid) (runs runs′ : Runs) (share : List ℕ) (edition : G′ .settings .edition ≡ G .settings .edition)
     (x : (b : Background) → Of b (G′ .settings .edition) → Corresponds to b G G′ runs runs′)
-    (prices : (b : Background) → Of b (G′ .settings .edition) → (side : Side) (zone : ℕ) → zoneTariff G′ runs′ b side zone ≡ zoneTariff G runs b (to side) zone)
+    (prices : (b : Background) → Of b (G′ .settings .edition) → (side : Side) (zone : ℕ) → zoneTariff G′ runs′ share b side zone ≡ zoneTariff G runs share b (to side) zone)
+    (shared : (side : Side) → charging.sharedIncome (priced G′ runs′ share side) ≡ charging.sharedIncome (priced G runs share (to side)))
     (targets : (side : Side) → target G′ side ≡ target G (to side))
     (locals : (side : Side) → localIncome G′ runs′ side ≡ localIncome G runs (to side)) where
-  pub rest-same : (side : Side) → rest G′ runs′ side ≡ rest G runs (to side)
+  pub rest-same : (side : Side) → rest G′ runs′ share side ≡ rest G runs share (to side)
   unfolding charging.rest charging.priced basis
   rest-same side =
-      simp (targets side, over-backgrounds _ _ edition (λ b h. over-same to b G G′ runs runs′ (x b h) side _ _ (prices b h side)), locals side)
+      simp (targets side, over-backgrounds _ _ edition (λ b h. over-same to b G G′ runs runs′ (x b h) side _ _ (prices b h side)), shared side, locals side)
 
-  paid-same : (side : Side) → priced G′ runs′ side .payers ≡ priced G runs (to side) .payers
+  paid-same : (side : Side) → priced G′ runs′ share side .payers ≡ priced G runs share (to side) .payers
   unfolding charging.priced basis
   paid-same side = payers-same to YearRound G G′ runs runs′ (x YearRound tt) side
 
-  zoned-same : (side : Side) → priced G′ runs′ side .zones YearRound ≡ priced G runs (to side) .zones YearRound
+  zoned-same : (side : Side) → priced G′ runs′ share side .zones YearRound ≡ priced G runs share (to side) .zones YearRound
   unfolding charging.priced
   zoned-same side = zones-same to YearRound G G′ runs runs′ (x YearRound tt) side
 
   -- whichever kilowatts the rest is over
-  pub residual-same : (side : Side) → residual G′ runs′ side ≡ residual G runs (to side)
+  pub residual-same : (side : Side) → residual G′ runs′ share side ≡ residual G runs share (to side)
   unfolding charging.residual
   residual-same side = simp (rest-same side, paid-same side, zoned-same side)
 
-  pub remainder-same : (side : Side) → remainder G′ runs′ side ≡ remainder G runs (to side)
+  pub remainder-same : (side : Side) → remainder G′ runs′ share side ≡ remainder G runs share (to side)
   unfolding charging.remainder
   remainder-same side = simp (rest-same side, paid-same side, zoned-same side)
 
   tariffs-same : (side : Side) (zone : ℕ)
-      → overBackgrounds (priced G′ runs′ side .edition) (λ b. zoneTariff G′ runs′ b side zone) ≡ overBackgrounds (priced G runs (to side) .edition) (λ b. zoneTariff G runs b (to side) zone)
+      → overBackgrounds (priced G′ runs′ share side .edition) (λ b. zoneTariff G′ runs′ share b side zone) ≡ overBackgrounds (priced G runs share (to side) .edition) (λ b. zoneTariff G runs share b (to side) zone)
   unfolding charging.priced basis
   tariffs-same side zone = over-backgrounds _ _ edition (λ b h. prices b h side zone)
 
-  pub zone-total-same : (side : Side) (zone : ℕ) → zoneTotal G′ runs′ side zone ≡ zoneTotal G runs (to side) zone
+  pub zone-total-same : (side : Side) (zone : ℕ) → zoneTotal G′ runs′ share side zone ≡ zoneTotal G runs share (to side) zone
   unfolding charging.zoneTotal
   zone-total-same side zone = simp (tariffs-same side zone, prices YearRound tt side zone, residual-same side)

@@ -30,7 +30,7 @@ abbrev before : List ℕ
 before = replicate 100 7
 
 abbrev settled : Study → Runs → Settled
-settled S runs = settle (fileOf S runs) runs before
+settled S runs = settle (fileOf S runs) runs [] before
 
 -- ---- PAIR: two nodes, one circuit of 10 m and x 1, k kW from A to B; the base misses by m
 abbrev pairOf : (k : ℕ) → Circuit → Study

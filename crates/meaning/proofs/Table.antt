@@ -10,7 +10,7 @@ use Rattle.meaning.specs.declared.Background.the-variants.{YearRound, Pe
 use Rattle.meaning.specs.declared.System.{System}
 use Rattle.meaning.specs.declared.System.the-variants.{Base, Wider, Local}
 use Rattle.meaning.specs.declared.Refusal.{Refusal}
-use Rattle.meaning.specs.declared.Refusal.the-variants.{BadFile, BadSetting, BadNode, BadCircuit, BadStation, Unreached, BadTotal, BadNumber, Unbalanced, MissesTooHigh, DirectionInDoubt, ShortBuffer, NoChargeableTec, Unscalable, BackgroundInDoubt}
+use Rattle.meaning.specs.declared.Refusal.the-variants.{BadFile, BadSetting, BadNode, BadCircuit, BadStation, Unreached, BadTotal, BadNumber, Unbalanced, MissesTooHigh, DirectionInDoubt, ShortBuffer, NoChargeableTec, Unscalable, BackgroundInDoubt, BadShare}
 use Rattle.meaning.specs.declared.Answer.the-variants.{Refused}
 use Rattle.meaning.specs.Answers.{refusal, values}
 use Rattle.meaning.specs.Editions.{systemNumber}
@@ -38,7 +38,7 @@ refusalOf number system row =
     let s = systemOf system in
     getD (
     BadFile ∷ BadFile ∷ BadSetting ∷ BadNode row ∷ BadCircuit row ∷ BadStation row ∷ Unreached row ∷ BadTotal ∷ BadNumber s row ∷ Unbalanced s row
-    ∷ MissesTooHigh s ∷ DirectionInDoubt (backgroundOf s) row ∷ ShortBuffer ∷ NoChargeableTec ∷ Unscalable ∷ BackgroundInDoubt row ∷ []) number BadFile
+    ∷ MissesTooHigh s ∷ DirectionInDoubt (backgroundOf s) row ∷ ShortBuffer ∷ NoChargeableTec ∷ Unscalable ∷ BackgroundInDoubt row ∷ BadShare row ∷ []) number BadFile
 
 told : (r : Refusal) → refusalOf (values (Refused r) .number) (values (Refused r) .system) (values (Refused r) .row) ≡ r
 unfolding refusalOf backgroundOf values refusal
@@ -57,6 +57,7 @@ told ShortBuffer = refl
 told NoChargeableTec = refl
 told Unscalable = refl
 told (BackgroundInDoubt i) = refl
+told (BadShare i) = refl
 
 pub values-tell : (q r : Refusal) → values (Refused q) .number ≡ values (Refused r) .number → values (Refused q) .system ≡ values (Refused r) .system
     → values (Refused q) .row ≡ values (Refused r) .row → q ≡ r

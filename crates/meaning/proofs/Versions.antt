@@ -22,6 +22,7 @@ use Rattle.meaning.specs.Answers.{_orElse_, unless}
 use Rattle.meaning.specs.Grid.{gridOf}
 use Rattle.meaning.specs.Direction.{ownOr, expandedLength}
 use Rattle.meaning.specs.Systems.{proposalsStage}
+use Rattle.meaning.specs.Figures.{shareStage}
 use Rattle.meaning.specs.Sheet.{sheet}
 use Rattle.meaning.specs.Outcome.{fileStage, runsStage, rowsStage, gridStage, tablesStage, judged, sheetOf, bufferStage, answeredBy, answerOf, settledBy, settle, printedBy, prints}
 use Rattle.meaning.specs.Conditions.{InRange, WholeFile}
@@ -55,30 +56,30 @@ module _ (file file′ : List ℕ) (same : SayTheSame file file′) where
   same-runs long =
       ap₂ (λ (e : Edition) (n : ℕ). unless (every (λ s. eqb (long s) (cond (leb (systemNumber s) (solutions e)) n 0)) allSystems) BadFile) same-edition same-count
 
-  abbrev judgedBy : (stage : Judgement) → Study → Runs → Judgement
-  judgedBy stage S runs = (stage orElse rowsStage S orElse gridStage (gridOf S)) orElse proposalsStage (gridOf S) runs
+  abbrev judgedBy : (stage : Judgement) → Study → Runs → (share : List ℕ) → Judgement
+  judgedBy stage S runs share = (stage orElse rowsStage S orElse gridStage (gridOf S)) orElse shareStage (gridOf S) share orElse proposalsStage (gridOf S) runs
 
   -- what the file itself asks has passed
-  judged-whole : (f : List ℕ) (runs : Runs) → WholeFile f (runsIn f)
-      → judged f runs ≡ judgedBy (runsStage f (λ s. length (runs s))) (studyOf f) runs
+  judged-whole : (f : List ℕ) (runs : Runs) (share : List ℕ) → WholeFile f (runsIn f)
+      → judged f runs share ≡ judgedBy (runsStage f (λ s. length (runs s))) (studyOf f) runs share
   unfolding judged tablesStage
-  judged-whole f runs w = ap (λ (a : Judgement). a orElse proposalsStage (gridOf (studyOf f)) runs) (orElse-passes _ (passes f w))
+  judged-whole f runs share w = ap (λ (a : Judgement). a orElse shareStage (gridOf (studyOf f)) share orElse proposalsStage (gridOf (studyOf f)) runs) (orElse-passes _ (passes f w))
 
-  judged-alike : (runs : Runs) → judged file runs ≡ judged file′ runs
-  judged-alike runs =
-      judged-whole file runs (same .whole)
-      ∙ ap₂ (λ (a : Judgement) (S : Study). judgedBy a S runs) (same-runs (λ s. length (runs s))) same-study
-      ∙ sym (judged-whole file′ runs (same .otherWhole))
+  judged-alike : (runs : Runs) (share : List ℕ) → judged file runs share ≡ judged file′ runs share
+  judged-alike runs share =
+      judged-whole file runs share (same .whole)
+      ∙ ap₂ (λ (a : Judgement) (S : Study). judgedBy a S runs share) (same-runs (λ s. length (runs s))) same-study
+      ∙ sym (judged-whole file′ runs share (same .otherWhole))
 
-  same-sheet : (runs : Runs) → sheetOf file runs ≡ sheetOf file′ runs
-  same-sheet runs = ap (λ (S : Study). sheet (gridOf S) runs) same-study
+  same-sheet : (runs : Runs) (share : List ℕ) → sheetOf file runs share ≡ sheetOf file′ runs share
+  same-sheet runs share = ap (λ (S : Study). sheet (gridOf S) runs share) same-study
 
   one-case : OneCase file file′
   unfolding settle answerOf prints
   one-case = record {
-    settled = λ runs buffer. ap₂ (λ (j : Judgement) (s : List ℕ). settledBy (j orElse bufferStage s buffer) s buffer) (judged-alike runs) (same-sheet runs);
-    judged = λ runs. ap₂ answeredBy (judged-alike runs) (same-sheet runs);
-    printed = λ e. ap₂ printedBy (judged-alike (runsIn file) ∙ ap (judged file′) e) (same-sheet (runsIn file) ∙ ap (sheetOf file′) e);
+    settled = λ runs share buffer. ap₂ (λ (j : Judgement) (s : List ℕ). settledBy (j orElse bufferStage s buffer) s buffer) (judged-alike runs share) (same-sheet runs share);
+    judged = λ runs share. ap₂ answeredBy (judged-alike runs share) (same-sheet runs share);
+    printed = λ e share. ap₂ printedBy (judged-alike (runsIn file) share ∙ ap (λ (r : Runs). judged file′ r share) e) (same-sheet (runsIn file) share ∙ ap (λ (r : Runs). sheetOf file′ r share) e);
   }
 
 pub one-sheet-in-either-version : OneSheetInEitherVersion
@@ -104,7 +105,7 @@ factor-last file e c h =
     ap (λ (r : Circuit). r .factor) (rows-at noCircuit (sectionCount file 2) (λ i. circuitAt file (circuitSize (versionOf file)) (rowAt (section file 2) i)) c k) ∙ rw e (ap (u32 file) last)
 
 pub new-voltages-in-version-two : NewVoltagesInVersionTwo
-new-voltages-in-version-two file runs a c h n = go (decLt (versionOf file) 2)
+new-voltages-in-version-two file runs share a c h n = go (decLt (versionOf file) 2)
   where
     version : InRange (versionOf file) 1 2
     version = known-version _ _ (a .whole .edition)

@@ -8,7 +8,7 @@ use Rattle.meaning.specs.declared.System.the-variants.{Base}
 use Rattle.meaning.specs.Editions.{systemNumber}
 use Rattle.meaning.specs.declared.Values.{Values}
 use Rattle.meaning.specs.declared.Refusal.{Refusal}
-use Rattle.meaning.specs.declared.Refusal.the-variants.{BadFile, BadSetting, BadNode, BadCircuit, BadStation, Unreached, BadTotal, BadNumber, Unbalanced, MissesTooHigh, DirectionInDoubt, ShortBuffer, NoChargeableTec, Unscalable, BackgroundInDoubt}
+use Rattle.meaning.specs.declared.Refusal.the-variants.{BadFile, BadSetting, BadNode, BadCircuit, BadStation, Unreached, BadTotal, BadNumber, Unbalanced, MissesTooHigh, DirectionInDoubt, ShortBuffer, NoChargeableTec, Unscalable, BackgroundInDoubt, BadShare}
 use Rattle.meaning.specs.declared.Judgement.{Judgement}
 use Rattle.meaning.specs.declared.Judgement.the-variants.{Passes, Stops}
 use Rattle.meaning.specs.declared.Answer.{Answer}
@@ -36,6 +36,7 @@ values (Refused ShortBuffer) = refusal 12 0 0
 values (Refused NoChargeableTec) = refusal 13 0 0
 values (Refused Unscalable) = refusal 14 0 0
 values (Refused (BackgroundInDoubt r)) = refusal 15 0 r
+values (Refused (BadShare r)) = refusal 16 0 r
 
 -- what stops a case first: the first stage if it stops it, else the second
 infixr 20 _orElse_
@@ -57,3 +58,8 @@ at (some i) r = Stops (r (suc i))
 unfoldable pub inSecond : Edition → Judgement → Judgement
 inSecond First j = Passes
 inSecond Second j = j
+
+-- 02, request 6: what is asked only where it is so
+unfoldable pub when : Bool → Judgement → Judgement
+when false j = Passes
+when true j = j

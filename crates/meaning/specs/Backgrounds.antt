@@ -30,7 +30,7 @@ use Rattle.meaning.specs.Generation.{generation, scalingStage}
 use Rattle.meaning.specs.Direction.{direction, signedLength}
 use Rattle.meaning.specs.Systems.{baseFlow, backgroundOf, heading, lengthOf, offset, solutionStage, directionStage, proposalsStage}
 use Rattle.meaning.specs.Charging.{widerIncome}
-use Rattle.meaning.specs.Figures.{zoneWeight, paying, payingIn, zonePaying, totalPayingIn, overZones, zonalMetres, afterC, zoneTariff, residual, zoneTotal, zoneFigures, priced}
+use Rattle.meaning.specs.Figures.{shareStage, formOf, zoneWeight, paying, payingIn, zonePaying, totalPayingIn, overZones, zonalMetres, afterC, zoneTariff, residual, zoneTotal, zoneFigures, priced}
 use Rattle.meaning.specs.Text.{text, natural, decimals}
 use Rattle.meaning.specs.Sheet.{constantFields, letter, zoneFields}
 use Rattle.meaning.specs.Outcome.{refused, settle}
@@ -51,12 +51,12 @@ pub record FrameAs01 (file : List ℕ) : Type 0 where
   pub trailer : trailerSize (editionAt file) ≡ 64
   pub circuits : mostCircuits (editionAt file) (versionOf file) ≡ cond (eqb (versionOf file) 2) 480 512
 
-module _ (G : Grid) (runs : Runs) where
+module _ (G : Grid) (runs : Runs) (share : List ℕ) where
   -- "zonal metres, metres after C, tariff, residual, total"
   abbrev pub fiveNumbers : Side → (zone : ℕ) → List ℤ
   fiveNumbers side zone =
-      zonalMetres G runs YearRound side zone ∷ afterC G runs YearRound side zone ∷ zoneTariff G runs YearRound side zone ∷ residual G runs side
-      ∷ zoneTotal G runs side zone
+      zonalMetres G runs YearRound side zone ∷ afterC G runs share YearRound side zone ∷ zoneTariff G runs share YearRound side zone ∷ residual G runs share side
+      ∷ zoneTotal G runs share side zone
       ∷ []
 
   -- the steps, in 01's order
@@ -66,37 +66,38 @@ module _ (G : Grid) (runs : Runs) where
     pub lengths : (c : ℕ) → lengthOf G runs c ≡ signedLength (G .settings) (circuit (G .circuits) c) (baseFlow G runs YearRound c)
     pub wider : (c : ℕ) → offset G runs (Wider YearRound) c ≡ cond (eqb (circuit (G .circuits) c .localMark) 0) (lengthOf G runs c) (pos 0)
     pub payers : (side : Side) → payingIn G YearRound side ≡ paying G side
-    pub income : (side : Side) → widerIncome (priced G runs side) ≡ overZones G YearRound side (zoneTariff G runs YearRound side)
-    pub total : (side : Side) (zone : ℕ) → zoneTotal G runs side zone ≡ zoneTariff G runs YearRound side zone +ℤ residual G runs side
+    pub income : (side : Side) → widerIncome (priced G runs share side) ≡ overZones G YearRound side (zoneTariff G runs share YearRound side)
+    pub total : (side : Side) (zone : ℕ) → zoneTotal G runs share side zone ≡ zoneTariff G runs share YearRound side zone +ℤ residual G runs share side
     -- the sheet: "`C` and C."; "`G`, zone" and the five
     pub constantLine : (c peakC : Metres) → constantFields (G .settings .edition) c peakC ≡ text "C" ∷ decimals (c ∷ [])
-    pub zoneLine : (side : Side) (zone : ℕ) → zoneFields (G .settings .edition) side zone (residual G runs side) (zoneFigures G runs side zone)
+    pub zoneLine : (side : Side) (zone : ℕ) → zoneFields (formOf G share side) side zone (residual G runs share side) (zoneFigures G runs share side zone)
         ≡ letter side ∷ natural zone ∷ cond (eqb (zoneWeight G side zone) 0) (text "-" ∷ []) (decimals (fiveNumbers side zone))
     -- demand 2: a line brings in its total times the kilowatts that pay, where the total is the tariff plus the residual
     pub lineIncome : (side : Side) (line : List ℕ) → readWhole (field 6 line) ≡ readWhole (field 4 line) +ℤ readWhole (field 5 line)
-        → zoneIncome G side line ≡ cond (hasLetter (letter side) line) (readWhole (field 6 line) *ℤ pos (zonePaying G side (readNatural 0 (field 1 line)))) (pos 0)
-    -- the order: no 14 after 13; "8, 9, 10 for system 1 (base); 11; 8, 9, 10 for system 2 (wider), then 3 (local)"
+        → zoneIncome G share side line ≡ cond (hasLetter (letter side) line) (readWhole (field 6 line) *ℤ pos (zonePaying G side (readNatural 0 (field 1 line)))) (pos 0)
+    -- the order: no 14 and no 16 after 13; "8, 9, 10 for system 1 (base); 11; 8, 9, 10 for system 2 (wider), then 3 (local)"
     pub scaling : scalingStage G ≡ Passes
+    pub sharing : shareStage G share ≡ Passes
     pub order : proposalsStage G runs
         ≡ solutionStage G runs (Base YearRound) orElse directionStage G runs orElse solutionStage G runs (Wider YearRound) orElse solutionStage G runs Local
 
 pub record EditionOneIs01 : Type 0 where
   pub frame : (file : List ℕ) → editionAt file ≡ First → FrameAs01 file
-  pub steps : (G : Grid) (runs : Runs) → G .settings .edition ≡ First → StepsAs01 G runs
+  pub steps : (G : Grid) (runs : Runs) (share : List ℕ) → G .settings .edition ≡ First → StepsAs01 G runs share
 
--- so no answer of it has a number or a system that 01 and requests 1 to 4 do not list: "never 14 or 15"
+-- so no answer of it has a number or a system that 01 and requests 1 to 4 do not list: "never 14 or 15", nor 16
 pub record AnswerOfOne (r : Refusal) : Type 0 where
   pub number : values (Refused r) .number ≤ 13
   pub system : values (Refused r) .system ≤ 3
 
 abbrev pub EditionOneAnswers : Type 0
-EditionOneAnswers = (file : List ℕ) (runs : Runs) (buffer : List ℕ) (r : Refusal) → studyOf file .settings .edition ≡ First → settle file runs buffer .answer ≡ Refused r → AnswerOfOne r
+EditionOneAnswers = (file : List ℕ) (runs : Runs) (share buffer : List ℕ) (r : Refusal) → studyOf file .settings .edition ≡ First → settle file runs share buffer .answer ≡ Refused r → AnswerOfOne r
 
 -- ---- the lent runs are those of the edition, else 1: a case of edition 2 with three runs, and one of edition 1 with a run for peak
 pub record RunsOfTheEdition : Type 0 where
-  pub second : (file buffer : List ℕ) (base wider local : List ℤ) → editionAt file ≡ Second → settle file (threeRuns base wider local) buffer ≡ refused BadFile buffer
-  pub first : (file buffer : List ℕ) (base wider local peakBase peakWider : List ℤ) → editionAt file ≡ First → 1 ≤ length peakBase + length peakWider
-      → settle file (runsOf base wider local peakBase peakWider) buffer ≡ refused BadFile buffer
+  pub second : (file share buffer : List ℕ) (base wider local : List ℤ) → editionAt file ≡ Second → settle file (threeRuns base wider local) share buffer ≡ refused BadFile buffer
+  pub first : (file share buffer : List ℕ) (base wider local peakBase peakWider : List ℤ) → editionAt file ≡ First → 1 ≤ length peakBase + length peakWider
+      → settle file (runsOf base wider local peakBase peakWider) share buffer ≡ refused BadFile buffer
 
 -- ---- "Edition 2 makes two backgrounds": in each, what runs adds up to the demand, and at no node above its TEC
 pub record Served (G : Grid) (b : Background) : Type 0 where
@@ -105,7 +106,7 @@ pub record Served (G : Grid) (b : Background) : Type 0 where
 
 abbrev pub EachBackgroundServed : Type 0
 EachBackgroundServed =
-    (file : List ℕ) (runs : Runs) → Acceptable file runs → (b : Background) → Of b (studyOf file .settings .edition) → Served (gridOf (studyOf file)) b
+    (file : List ℕ) (runs : Runs) (share : List ℕ) → Acceptable file runs share → (b : Background) → Of b (studyOf file .settings .edition) → Served (gridOf (studyOf file)) b
 
 -- ---- "Its length .. stands in its wider solution only; marked circuits use year round alone": in the system of its own mark and background, and in no other
 pub record StandsOnce (G : Grid) (runs : Runs) (c : ℕ) : Type 0 where
@@ -127,5 +128,5 @@ AllButIntermittentPayAtPeak = (S : Study) (v : ℕ) → v < length (S .nodes) �
 -- and some pays there, at least as much as the demand: so C's divisor is above 0, by 14
 abbrev pub PeakIsPaid : Type 0
 PeakIsPaid =
-    (file : List ℕ) (runs : Runs) → Acceptable file runs → studyOf file .settings .edition ≡ Second
+    (file : List ℕ) (runs : Runs) (share : List ℕ) → Acceptable file runs share → studyOf file .settings .edition ≡ Second
     → totalDemand (gridOf (studyOf file)) ≤ totalPayingIn (gridOf (studyOf file)) Peak Generation

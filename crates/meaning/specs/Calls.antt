@@ -14,18 +14,19 @@ use Rattle.meaning.specs.Outcome.{Settled, settle}
 pub record Call : Type 0 where
   pub file : List ℕ
   pub runs : Runs
+  pub share : List ℕ
   pub before : List ℕ
   pub answer : Answer
   pub after : List ℕ
 
 -- its contract: the answer, and the buffer afterwards, are what 01 settles
 pub record Kept (c : Call) : Type 0 where
-  pub contract : _≡_ {A = Settled} (record { answer = c .answer; buffer = c .after }) (settle (c .file) (c .runs) (c .before))
+  pub contract : _≡_ {A = Settled} (record { answer = c .answer; buffer = c .after }) (settle (c .file) (c .runs) (c .share) (c .before))
 
 -- ---- the program: a text at the front of its buffer, and zeros behind it
 pub record Prints (text : List ℕ) (r : Printed) : Type 0 where
   pub long : r .length ≡ length text
-  pub bytes : r .bytes ≡ text ++ replicate (16384 - length text) 0
+  pub bytes : r .bytes ≡ text ++ replicate (17408 - length text) 0
 
 -- ---- the exported entries, which answer in four numbers
 -- number, system, row and length, in this order
@@ -41,6 +42,7 @@ pub record Tells (a : Answer) (after : List ℕ) (result : ℕ) : Type 0 where
 pub record ToldCall : Type 0 where
   pub file : List ℕ
   pub runs : Runs
+  pub share : List ℕ
   pub before : List ℕ
   pub result : ℕ
   pub after : List ℕ
@@ -48,5 +50,5 @@ pub record ToldCall : Type 0 where
 
 -- its contract
 pub record ToldKept (c : ToldCall) : Type 0 where
-  pub answer : Tells (settle (c .file) (c .runs) (c .before) .answer) (c .numbers) (c .result)
-  pub buffer : c .after ≡ settle (c .file) (c .runs) (c .before) .buffer
+  pub answer : Tells (settle (c .file) (c .runs) (c .share) (c .before) .answer) (c .numbers) (c .result)
+  pub buffer : c .after ≡ settle (c .file) (c .runs) (c .share) (c .before) .buffer

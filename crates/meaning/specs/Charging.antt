@@ -1,5 +1,6 @@
 -- 01, steps 6 to 10, each over the numbers it needs. `Figures` says them of a case; the code that works them out cites them here.
 use mathlib.Core.Bool.{cond}
+use mathlib.Core.Option.{Option}
 use Prim.Native.Nat.{ℕ, suc, _+_, _*_, _-_}
 use lib.Dec.{eqb}
 use lib.IntN.{ℤ, pos, negℤ, _+ℤ_, _-ℤ_, _*ℤ_}
@@ -11,10 +12,12 @@ use Rattle.meaning.specs.declared.Side.{Side}
 use Rattle.meaning.specs.declared.Side.the-variants.{Generation, Demand}
 use Rattle.meaning.specs.declared.Settings.{Settings}
 use Rattle.meaning.specs.declared.WiderFigures.{WiderFigures}
+use Rattle.meaning.specs.declared.SharedFigures.{SharedFigures}
 use Rattle.meaning.specs.declared.ZoneFigures.{ZoneFigures}
 use Rattle.meaning.specs.declared.LocalFigures.{LocalFigures}
 use Rattle.meaning.specs.Editions.{byEdition, overBackgrounds}
 use Rattle.meaning.specs.Study.{Kw, Metres, MicroPerKw}
+use Rattle.meaning.specs.Sharing.{Sharing, notSharedMetres, sharedMetres, sharedKw, sharingOn}
 
 -- step 6 (CUSC 14.15.4, 14.15.13): "the nearest of potential / 1,000,000,000"
 unfoldable pub metres : (nanometres : ℤ) → Metres
@@ -77,6 +80,13 @@ widerOf zonal after tariff = record { metres = record { 0 = zonal }; «after_c»
 abbrev pub noWider : WiderFigures
 noWider = widerOf (pos 0) (pos 0) (pos 0)
 
+-- and of the shared metres (02, request 6)
+abbrev pub sharedBy : (shared : Metres) → (tariff : MicroPerKw) → SharedFigures
+sharedBy shared tariff = record { metres = record { 0 = shared }; tariff = record { 0 = tariff } }
+
+abbrev pub noShared : SharedFigures
+noShared = sharedBy (pos 0) (pos 0)
+
 -- ---- a case
 -- what step 7 hands on of a side in a background: how many zones there are; of each, by its number, the kilowatts that weigh, those that pay and the zonal metres; and the kilowatts that pay in all
 pub record Zones : Type 0 where
@@ -96,11 +106,12 @@ pub record Basis : Type 0 where
   pub paying : ℕ → Kw
   pub local : ℕ → Metres
 
--- what prices a side: edition; zones and C in each background; the kilowatts that pay; expansion constant and security factor, its target, and the income of its local tariffs
+-- what prices a side: edition; zones and C in each background; what is shared of it; the kilowatts that pay; expansion constant and security factor, its target, and the income of its local tariffs
 pub record Priced : Type 0 where
   pub edition : Edition
   pub side : Side
   pub zones : Background → Zones
+  pub sharing : Option Sharing
   pub c : Background → Metres
   pub payers : Kw
   pub constant : ℕ
@@ -128,12 +139,14 @@ module _ (B : Basis) where
   localIncome Generation = Σ nodes (λ v. localTariff v *ℤ pos (paying v))
   localIncome Demand = pos 0
 
-  unfoldable pub priced : Side → Priced
-  priced s =
+  -- 02, request 6: with what a share file in force says
+  unfoldable pub priced : Option Sharing → Side → Priced
+  priced sharing s =
       record {
         edition = settings .edition;
         side = s;
         zones = λ b. side b s;
+        sharing = sharingOn s sharing;
         c = C;
         payers = payers s;
         constant = settings .constant;
@@ -148,12 +161,17 @@ module _ (B : Basis) where
 
 -- ---- a side of it
 module _ (S : Priced) where
-  open Priced S using (edition, side, zones, c, payers, constant, factor, target, local)
+  open Priced S using (edition, side, zones, sharing, c, payers, constant, factor, target, local)
+
+  -- zonal metres that the zone's tariff is of; 02, request 6: year round's "become not-shared metres, these plus C and their tariff"
+  unfoldable pub ownMetres : Background → (zone : ℕ) → Metres
+  ownMetres YearRound zone = notSharedMetres sharing (zones YearRound .metres) zone
+  ownMetres Peak zone = zones Peak .metres zone
 
   module _ (b : Background) where
     -- step 8: metres after C
     unfoldable pub afterC : (zone : ℕ) → Metres
-    afterC zone = withC side (c b) (zones b .metres zone)
+    afterC zone = withC side (c b) (ownMetres b zone)
 
     -- step 9
     unfoldable pub zoneTariff : (zone : ℕ) → MicroPerKw
@@ -165,11 +183,22 @@ module _ (S : Priced) where
 
     -- what the line of a zone says of it
     unfoldable pub widerFigures : (zone : ℕ) → WiderFigures
-    widerFigures zone = widerOf (zones b .metres zone) (afterC zone) (zoneTariff zone)
+    widerFigures zone = widerOf (ownMetres b zone) (afterC zone) (zoneTariff zone)
 
-  -- "wider income (zone tariffs times TEC)"
+  -- 02, request 6: "shared metres and tariff", without C
+  unfoldable pub sharedOf : (zone : ℕ) → Metres
+  sharedOf zone = sharedMetres sharing (zones YearRound .metres) zone
+
+  unfoldable pub sharedTariff : (zone : ℕ) → MicroPerKw
+  sharedTariff zone = tariff (sharedOf zone) constant factor
+
+  -- "The shared tariff is charged on the zone's chargeable TEC of each type times that load factor"
+  abbrev pub sharedIncome : ℤ
+  sharedIncome = overZones (zones YearRound .count) (sharedKw sharing) sharedTariff
+
+  -- "wider income (zone tariffs times TEC)"; "demand 2's income counts it so"
   abbrev pub widerIncome : ℤ
-  widerIncome = overBackgrounds edition incomeIn
+  widerIncome = overBackgrounds edition incomeIn +ℤ sharedIncome
 
   unfoldable pub rest : ℤ
   rest = restOf target widerIncome local
@@ -181,7 +210,8 @@ module _ (S : Priced) where
   unfoldable pub remainder : ℤ
   remainder = remainderOf rest payers
 
-  -- step 10 (CUSC 14.22(vii), 14.23(vi)): "A zone's total is its tariff plus the residual."; 02, request 5: "a total adds both and the residual"
+  -- step 10 (CUSC 14.22(vii), 14.23(vi)): "A zone's total is its tariff plus the residual."; 02, request 5: "a total adds both and the residual";
+  -- request 6: "the total leaves the shared tariff out"
   unfoldable pub zoneTotal : (zone : ℕ) → MicroPerKw
   zoneTotal zone = overBackgrounds edition (λ b. zoneTariff b zone) +ℤ residual
 
@@ -192,5 +222,6 @@ module _ (S : Priced) where
         weight = record { 0 = zones YearRound .weight zone };
         «year_round» = widerFigures YearRound zone;
         peak = byEdition noWider (widerFigures Peak zone) edition;
+        shared = sharedBy (sharedOf zone) (sharedTariff zone);
         total = record { 0 = zoneTotal zone };
       }

@@ -7,7 +7,7 @@ use lib.IntN.{ℤ, pos}
 use lib.ListN.{getD}
 use Rattle.meaning.specs.Rows.{rows}
 use Rattle.meaning.specs.Network.{Network}
-use Rattle.meaning.specs.Charging.{noWider}
+use Rattle.meaning.specs.Charging.{noWider, noShared}
 use Rattle.meaning.specs.declared.Kw.{Kw}
 use Rattle.meaning.specs.declared.Metres.{Metres}
 use Rattle.meaning.specs.declared.MicroPerKw.{MicroPerKw}
@@ -48,7 +48,7 @@ column nothing size count f = rows size (λ i. cond (ltb i count) (f i) nothing)
 
 -- past the last zone, and past the last node, a sheet has no figures
 abbrev pub noLine : ZoneFigures
-noLine = record { weight = kilowatts 0; «year_round» = noWider; peak = noWider; total = price (pos 0) }
+noLine = record { weight = kilowatts 0; «year_round» = noWider; peak = noWider; shared = noShared; total = price (pos 0) }
 
 abbrev pub noLocal : LocalFigures
 noLocal = record { tec = kilowatts 0; metres = distance (pos 0); tariff = price (pos 0) }

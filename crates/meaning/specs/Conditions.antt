@@ -1,16 +1,17 @@
 -- Demand 2's conditions, as a person writes them: propositions, with no test in them.
 use mathlib.Core.Path.{_≡_}
 use mathlib.Core.Logic.{_⊎_, _≢_}
-use mathlib.Core.List.{List}
-use Prim.Native.Nat.{ℕ, _+_, _≤_, _<_}
+use mathlib.Core.List.{List, []}
+use Prim.Native.Nat.{ℕ, suc, _+_, _*_, _≤_, _<_}
 use lib.IntN.{ℤ, pos, natAbs, _-ℤ_}
 use lib.ListN.{length, getD}
 use Rattle.meaning.specs.Name.{Name}
 use Rattle.meaning.specs.declared.Settings.{Settings}
-use Rattle.meaning.specs.Study.{Circuit, Study, Runs, node, circuit, station}
+use Rattle.meaning.specs.Study.{Kw, Circuit, Study, Runs, node, circuit, station}
 use Rattle.meaning.specs.File.{u32, editionAt, sections, trailerSize, mostCircuits, versionOf, statedLength, sectionOffset, sectionCount, sectionStart, solutionCount, runLength, studyOf}
 use Rattle.meaning.specs.declared.Edition.the-variants.{Second}
 use Rattle.meaning.specs.declared.Background.{Background}
+use Rattle.meaning.specs.declared.Side.the-variants.{Generation}
 use Rattle.meaning.specs.declared.System.{System}
 use Rattle.meaning.specs.Editions.{HasSystem}
 use Rattle.meaning.specs.Grid.{Grid, gridOf, totalDemand, totalTec, totalPayingTec}
@@ -20,6 +21,8 @@ use Rattle.meaning.specs.declared.Counting.the-variants.{Doubtful}
 use Rattle.meaning.specs.Generation.{totalFixed, totalVariable}
 use Rattle.meaning.specs.Proposal.{potential, flow, flowOut, flowIn, missSum, Proposed}
 use Rattle.meaning.specs.Systems.{counting, heading, proposed}
+use Rattle.meaning.specs.Sharing.{nextInward, loadFactor, Passes}
+use Rattle.meaning.specs.Figures.{zones, zoneWeight}
 
 -- a number in a range, both ends in it
 pub record InRange (x low high : ℕ) : Type 0 where
@@ -143,6 +146,30 @@ pub record SoundStudy (S : Study) : Type 0 where
   pub chargeable : Chargeable (gridOf S)
   pub scalable : S .settings .edition ≡ Second → (b : Background) → Scalable (gridOf S) b
 
+-- not 16 (02, request 6), where the file is in force: "row 0 for a wrong length or load factor"
+pub record SoundShareFrame (share : List ℕ) (zones : ℕ) : Type 0 where
+  pub long : length share ≡ 4 * (zones + 7)
+  pub factors : (plantType : ℕ) → 1 ≤ plantType → plantType ≤ 7 → loadFactor share zones plantType ≤ 1000
+
+module _ (zones : ℕ) (tec : ℕ → Kw) (next : ℕ → ℕ) where
+  -- "0 for the one centre": a zone with TEC that names none
+  pub record Centre (z : ℕ) : Type 0 where
+    pub kilowatts : 1 ≤ tec z
+    pub namesNone : next z ≡ 0
+
+  -- "the lowest zone that names one absent or without TEC, names one though it has no TEC, is a second centre, or whose chain circles": none of these
+  pub record SoundZone (z : ℕ) : Type 0 where
+    pub names : next z ≢ 0 → (next z ≤ zones) × (1 ≤ tec (next z))
+    pub own : next z ≢ 0 → 1 ≤ tec z
+    pub only : Centre z → (w : ℕ) → 1 ≤ w → w < z → Centre w → ⊥
+    -- a chain that circles never comes to its end
+    pub ends : Passes next z 0
+
+-- a share file of a case in edition 2: "for each generation zone the next one inward"
+pub record SoundShare (G : Grid) (share : List ℕ) : Type 0 where
+  pub frame : SoundShareFrame share (zones G Generation)
+  pub zone : (z : ℕ) → 1 ≤ z → z ≤ zones G Generation → SoundZone (zones G Generation) (zoneWeight G Generation) (nextInward share (zones G Generation)) z
+
 -- step 2, for any network, supply and offset, potentials and flows, and a bound on the sum of misses
 pub record Solves (N : Network) (bound : ℕ) (supply offset potential flow : ℕ → ℤ) : Type 0 where
   pub ground : potential (N .reference) ≡ pos 0
@@ -171,10 +198,11 @@ pub record NoDoubt (G : Grid) (runs : Runs) : Type 0 where
   pub decided : (c : ℕ) → c < length (G .circuits) → Decided G runs c
   pub clear : (c : ℕ) → c < length (G .circuits) → Clear G runs c
 
--- not 1 to 11, and not 13 to 15
-pub record Acceptable (file : List ℕ) (runs : Runs) : Type 0 where
+-- not 1 to 11, and not 13 to 16; "absent, empty or in edition 1, nothing changes"
+pub record Acceptable (file : List ℕ) (runs : Runs) (share : List ℕ) : Type 0 where
   pub whole : WholeFile file runs
   pub study : SoundStudy (studyOf file)
+  pub shared : studyOf file .settings .edition ≡ Second → share ≢ [] → SoundShare (gridOf (studyOf file)) share
   pub solved : (system : System) → HasSystem (studyOf file .settings .edition) system
       → SolvesSystem (networkOf (gridOf (studyOf file))) (proposed (gridOf (studyOf file)) runs system)
   pub directions : NoDoubt (gridOf (studyOf file)) runs

@@ -14,6 +14,7 @@ pub mod Generation
 pub mod Direction
 pub mod Proposal
 pub mod Systems
+pub mod Sharing
 pub mod Charging
 pub mod Figures
 pub mod Text
@@ -28,6 +29,7 @@ pub mod Demands
 pub mod Mirror
 pub mod Versions
 pub mod Backgrounds
+pub mod Shares
 pub mod OnlyDirections
 pub mod Calls
 -- no words of 01: arrays and searches as code has them

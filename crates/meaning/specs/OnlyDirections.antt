@@ -51,12 +51,12 @@ Holds sameDirections S S′ runs runs′ = SameDirections HasLength S S′ runs 
 -- "two accepted cases" of which all this holds "differ by at most one metre in every nodal distance, whatever their demand and TEC"
 abbrev pub OnlyDirectionsCount : Type 0
 OnlyDirectionsCount =
-    (file file′ : List ℕ) (runs runs′ : Runs)
-    → Acceptable file runs
-    → Acceptable file′ runs′
+    (file file′ : List ℕ) (runs runs′ : Runs) (share share′ : List ℕ)
+    → Acceptable file runs share
+    → Acceptable file′ runs′ share′
     → BothFirst (studyOf file) (studyOf file′)
     → ((a : Asked) → Holds a (studyOf file) (studyOf file′) runs runs′)
-    → DistancesWithin 1 (gridOf (studyOf file)) (gridOf (studyOf file′)) runs runs′ (sheetOf file runs) (sheetOf file′ runs′)
+    → DistancesWithin 1 (gridOf (studyOf file)) (gridOf (studyOf file′)) runs runs′ share share′ (sheetOf file runs share) (sheetOf file′ runs′ share′)
 
 -- ---- and more: a distance is said by the directions of its own system's circuits, a wider one by those without local mark, a local one by those with it
 abbrev pub Own : System → Circuit → Type 0
@@ -66,9 +66,9 @@ Own Local c = c .localMark ≢ 0
 
 abbrev pub OwnDirectionsCount : Type 0
 OwnDirectionsCount =
-    (file file′ : List ℕ) (runs runs′ : Runs)
-    → Acceptable file runs
-    → Acceptable file′ runs′
+    (file file′ : List ℕ) (runs runs′ : Runs) (share share′ : List ℕ)
+    → Acceptable file runs share
+    → Acceptable file′ runs′ share′
     → BothFirst (studyOf file) (studyOf file′)
     → ((a : Asked) → a ≢ sameDirections → Holds a (studyOf file) (studyOf file′) runs runs′)
     → (s : System) → OfDistances s → HasSystem First s → SameDirections (λ c. HasLength c × Own s c) (studyOf file) (studyOf file′) runs runs′
@@ -94,8 +94,8 @@ pub record FarApart (t : Two) : Type 0 where
 -- two accepted cases of which all but this is so; and two of which all is so, the first accepted
 pub record Needed (a : Asked) : Type 0 where
   pub two : Two
-  pub accepted : Acceptable (two .file) (two .runs)
-  pub accepted′ : Acceptable (two .file′) (two .runs′)
+  pub accepted : Acceptable (two .file) (two .runs) []
+  pub accepted′ : Acceptable (two .file′) (two .runs′) []
   pub others : (b : Asked) → b ≢ a → HoldsOf two b
   pub apart : FarApart two
 
@@ -104,15 +104,15 @@ EachIsNeeded = (a : Asked) → Needed a
 
 pub record AcceptedIsNeeded : Type 0 where
   pub two : Two
-  pub accepted : Acceptable (two .file) (two .runs)
+  pub accepted : Acceptable (two .file) (two .runs) []
   pub all : (a : Asked) → HoldsOf two a
   pub apart : FarApart two
 
 -- and two accepted cases of which all is so, with a wider and a local distance that differ by a metre
 pub record MetreIsReached : Type 0 where
   pub two : Two
-  pub accepted : Acceptable (two .file) (two .runs)
-  pub accepted′ : Acceptable (two .file′) (two .runs′)
+  pub accepted : Acceptable (two .file) (two .runs) []
+  pub accepted′ : Acceptable (two .file′) (two .runs′) []
   pub all : (a : Asked) → HoldsOf two a
   pub wider : (v : ℕ) × (v < length (studyOf (two .file) .nodes)) × (apart (widerMetres (two .runs) YearRound v) (widerMetres (two .runs′) YearRound v) ≡ 1)
   pub local : (v : ℕ) × (v < length (studyOf (two .file) .nodes)) × (apart (localMetres (two .runs) v) (localMetres (two .runs′) v) ≡ 1)

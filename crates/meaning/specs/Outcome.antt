@@ -1,4 +1,4 @@
--- 01, What stops a case ("Order") and What each entry settles: from the bytes of a file, its runs and a buffer to the answer.
+-- 01, What stops a case ("Order") and What each entry settles: from the bytes of a file, its runs, a share file (02, request 6; no bytes for none) and a buffer to the answer.
 use mathlib.Core.List.{List, [], _∷_, _++_}
 use Prim.Native.Nat.{ℕ}
 use lib.Dec.{leb}
@@ -19,6 +19,7 @@ use Rattle.meaning.specs.Grid.{Grid, gridOf, totalsStage, chargeableStag
 use Rattle.meaning.specs.Network.{networkOf, reachStage}
 use Rattle.meaning.specs.Generation.{scalingStage}
 use Rattle.meaning.specs.Systems.{proposalsStage}
+use Rattle.meaning.specs.Figures.{shareStage}
 use Rattle.meaning.specs.Text.{text, natural, line}
 use Rattle.meaning.specs.Sheet.{sheet}
 
@@ -42,21 +43,22 @@ unfoldable pub tablesStage : (file : List ℕ) → (long : System → ℕ) → J
 tablesStage file long =
     fileStage file orElse runsStage file long orElse rowsStage (studyOf file) orElse gridStage (gridOf (studyOf file))
 
--- "Order: 1 to 7; 8, 9, 10 for system 1 (base); 11; 8, 9, 10 for system 2 (wider), then 3 (local)"; 13 after 7, and 14
-unfoldable pub judged : (file : List ℕ) → Runs → Judgement
-judged file runs = tablesStage file (λ s. length (runs s)) orElse proposalsStage (gridOf (studyOf file)) runs
+-- "Order: 1 to 7; 8, 9, 10 for system 1 (base); 11; 8, 9, 10 for system 2 (wider), then 3 (local)"; 13 after 7, then 14, then 16
+unfoldable pub judged : (file : List ℕ) → Runs → (share : List ℕ) → Judgement
+judged file runs share =
+    tablesStage file (λ s. length (runs s)) orElse shareStage (gridOf (studyOf file)) share orElse proposalsStage (gridOf (studyOf file)) runs
 
--- the sheet of a file and its runs
-abbrev pub sheetOf : List ℕ → Runs → List ℕ
-sheetOf file runs = sheet (gridOf (studyOf file)) runs
+-- the sheet of a file, its runs and a share file
+abbrev pub sheetOf : (file : List ℕ) → Runs → (share : List ℕ) → List ℕ
+sheetOf file runs share = sheet (gridOf (studyOf file)) runs share
 
 -- what an entry answers with room enough for the sheet: "Acceptance carries the sheet's length"
 unfoldable pub answeredBy : Judgement → (sheet : List ℕ) → Answer
 answeredBy Passes sheet = Accepted (length sheet)
 answeredBy (Stops r) sheet = Refused r
 
-unfoldable pub answerOf : (file : List ℕ) → Runs → Answer
-answerOf file runs = answeredBy (judged file runs) (sheetOf file runs)
+unfoldable pub answerOf : (file : List ℕ) → Runs → (share : List ℕ) → Answer
+answerOf file runs share = answeredBy (judged file runs share) (sheetOf file runs share)
 
 -- ---- what an entry answers, and the lent buffer afterwards
 pub record Settled : Type 0 where
@@ -80,11 +82,11 @@ unfoldable pub settledBy : Judgement → (sheet buffer : List ℕ) → Settled
 settledBy Passes sheet buffer = written sheet buffer
 settledBy (Stops r) sheet buffer = refused r buffer
 
--- 1 to 11 and 13 to 15, then 12
-unfoldable pub settle : (file : List ℕ) → Runs → (buffer : List ℕ) → Settled
-settle file runs buffer =
-    let sheet = sheetOf file runs in
-    settledBy (judged file runs orElse bufferStage sheet buffer) sheet buffer
+-- 1 to 11 and 13 to 16, then 12
+unfoldable pub settle : (file : List ℕ) → Runs → (share buffer : List ℕ) → Settled
+settle file runs share buffer =
+    let sheet = sheetOf file runs share in
+    settledBy (judged file runs share orElse bufferStage sheet buffer) sheet buffer
 
 -- ---- the program: "It prints the sheet, or `refused`, number, system and row."
 unfoldable pub refusedFields : Values → List (List ℕ)
@@ -97,6 +99,6 @@ unfoldable pub printedBy : Judgement → (sheet : List ℕ) → List ℕ
 printedBy Passes sheet = sheet
 printedBy (Stops r) sheet = refusedLine r
 
--- one case on standard input; "it never prints 12"
-unfoldable pub prints : (file : List ℕ) → List ℕ
-prints file = printedBy (judged file (runsIn file)) (sheetOf file (runsIn file))
+-- one case on standard input, and the bytes of `share.bin`; "it never prints 12"
+unfoldable pub prints : (file share : List ℕ) → List ℕ
+prints file share = printedBy (judged file (runsIn file) share) (sheetOf file (runsIn file) share)

@@ -1,4 +1,4 @@
--- A sheet read back from its bytes, by someone who has the node totals: what its lines bring in.
+-- A sheet read back from its bytes, by someone who has the node totals and the share file: what its lines bring in.
 use mathlib.Core.Bool.{Bool, cond}
 use mathlib.Core.List.{List, [], _∷_, _++_}
 use Prim.Native.Nat.{ℕ, _+_, _*_, _-_}
@@ -8,14 +8,16 @@ use lib.ListN.{getD, take, replicate}
 use Rattle.meaning.specs.Text.{text}
 use Rattle.meaning.specs.Name.{Name, sameName}
 use Rattle.meaning.specs.declared.Edition.{Edition}
-use Rattle.meaning.specs.declared.Edition.the-variants.{First, Second}
+use Rattle.meaning.specs.declared.Form.{Form}
+use Rattle.meaning.specs.declared.Form.the-variants.{OneBackground, TwoBackgrounds, Sharing}
 use Rattle.meaning.specs.declared.Background.{Background}
 use Rattle.meaning.specs.declared.Background.the-variants.{YearRound, Peak}
 use Rattle.meaning.specs.declared.Side.{Side}
 use Rattle.meaning.specs.Editions.{overBackgrounds}
 use Rattle.meaning.specs.declared.Side.the-variants.{Generation, Demand}
 use Rattle.meaning.specs.Grid.{Grid, payingTec, place}
-use Rattle.meaning.specs.Figures.{zonePaying, zonePayingIn}
+use Rattle.meaning.specs.Sharing.{sharedKw, sharingOn}
+use Rattle.meaning.specs.Figures.{zonePaying, zonePayingIn, sharing, formOf}
 use Rattle.meaning.specs.Sheet.{letter}
 
 -- a byte in front of the first piece
@@ -59,35 +61,52 @@ overLines f [] = pos 0
 overLines f (line ∷ lines) = f line +ℤ overLines f lines
 
 -- where a zone's line has a background's metres, metres after C and tariff, the residual and the total, by number from 0
-unfoldable pub metresField : Edition → Background → ℕ
-metresField First b = 2
-metresField Second Peak = 2
-metresField Second YearRound = 5
+unfoldable pub metresField : Form → Background → ℕ
+metresField OneBackground b = 2
+metresField TwoBackgrounds Peak = 2
+metresField TwoBackgrounds YearRound = 5
+metresField Sharing Peak = 2
+metresField Sharing YearRound = 5
 
-abbrev pub tariffField : Edition → Background → ℕ
-tariffField e b = metresField e b + 2
+abbrev pub tariffField : Form → Background → ℕ
+tariffField form b = metresField form b + 2
 
-unfoldable pub residualField : Edition → ℕ
-residualField First = 5
-residualField Second = 8
+unfoldable pub residualField : Form → ℕ
+residualField OneBackground = 5
+residualField TwoBackgrounds = 8
+residualField Sharing = 10
 
-abbrev pub totalField : Edition → ℕ
-totalField e = residualField e + 1
+abbrev pub totalField : Form → ℕ
+totalField form = residualField form + 1
 
--- the tariffs of a zone's line, added up
-abbrev pub printedTariffs : Edition → (line : List ℕ) → ℤ
-printedTariffs e line = overBackgrounds e (λ b. readWhole (field (tariffField e b) line))
+-- 02, request 6: the shared metres and the shared tariff that a line has; none where nothing is shared
+unfoldable pub printedSharedMetres : Form → (line : List ℕ) → ℤ
+printedSharedMetres OneBackground line = pos 0
+printedSharedMetres TwoBackgrounds line = pos 0
+printedSharedMetres Sharing line = readWhole (field 8 line)
 
-module _ (G : Grid) where
+unfoldable pub printedSharedTariff : Form → (line : List ℕ) → ℤ
+printedSharedTariff OneBackground line = pos 0
+printedSharedTariff TwoBackgrounds line = pos 0
+printedSharedTariff Sharing line = readWhole (field 9 line)
+
+-- the tariffs of a zone's line that its total has, added up: "the total leaves the shared tariff out"
+abbrev pub printedTariffs : Edition → Form → (line : List ℕ) → ℤ
+printedTariffs e form line = overBackgrounds e (λ b. readWhole (field (tariffField form b) line))
+
+module _ (G : Grid) (share : List ℕ) where
   open Grid G using (settings, nodes)
 
-  -- a zone's line: each background's tariff times the zone's kilowatts that pay in it, and the residual times those that pay; a line with `-` has none of these, and they read as 0
+  -- a zone's line: each background's tariff times the zone's kilowatts that pay in it, the shared tariff times those that the load factors leave,
+  -- and the residual times those that pay; a line with `-` has none of these, and they read as 0
   unfoldable pub zoneIncome : Side → (line : List ℕ) → ℤ
   zoneIncome side line =
       let zone = readNatural 0 (field 1 line) in
+      let form = formOf G share side in
       cond (hasLetter (letter side) line) (
-      overBackgrounds (settings .edition) (λ b. readWhole (field (tariffField (settings .edition) b) line) *ℤ pos (zonePayingIn G b side zone))
-      +ℤ readWhole (field (residualField (settings .edition)) line) *ℤ pos (zonePaying G side zone)) (pos 0)
+      overBackgrounds (settings .edition) (λ b. readWhole (field (tariffField form b) line) *ℤ pos (zonePayingIn G b side zone))
+      +ℤ printedSharedTariff form line *ℤ pos (sharedKw (sharingOn side (sharing G share)) zone)
+      +ℤ readWhole (field (residualField form) line) *ℤ pos (zonePaying G side zone)) (pos 0)
 
   -- a node's line: its local tariff times the node's kilowatts that pay
   unfoldable pub nodeIncome : (line : List ℕ) → ℤ

@@ -13,13 +13,16 @@ use Rattle.meaning.specs.Study.{Study, Runs}
 use Rattle.meaning.specs.File.{studyOf}
 use Rattle.meaning.specs.declared.System.{System}
 use Rattle.meaning.specs.declared.Refusal.{Refusal}
-use Rattle.meaning.specs.declared.Refusal.the-variants.{BadFile, BadSetting, BadNode, BadCircuit, BadStation, Unreached, BadTotal, BadNumber, Unbalanced, MissesTooHigh, DirectionInDoubt, ShortBuffer, NoChargeableTec, Unscalable, BackgroundInDoubt}
+use Rattle.meaning.specs.declared.Refusal.the-variants.{BadFile, BadSetting, BadNode, BadCircuit, BadStation, Unreached, BadTotal, BadNumber, Unbalanced, MissesTooHigh, DirectionInDoubt, ShortBuffer, NoChargeableTec, Unscalable, BackgroundInDoubt, BadShare}
 use Rattle.meaning.specs.Grid.{Grid, gridOf}
 use Rattle.meaning.specs.Network.{Network, networkOf, Reached}
 use Rattle.meaning.specs.Proposal.{potential, flow, flowOut, flowIn, missSum, Proposed}
 use Rattle.meaning.specs.Systems.{backgroundOf, proposed}
+use Rattle.meaning.specs.declared.Side.the-variants.{Generation}
+use Rattle.meaning.specs.Sharing.{nextInward}
+use Rattle.meaning.specs.Figures.{zones, zoneWeight}
 use Rattle.meaning.specs.Outcome.{sheetOf}
-use Rattle.meaning.specs.Conditions.{WholeFile, SoundSettings, SoundNode, SoundCircuit, SoundStation, SoundTotals, Chargeable, Scalable, Decided, Clear}
+use Rattle.meaning.specs.Conditions.{WholeFile, SoundSettings, SoundNode, SoundCircuit, SoundStation, SoundTotals, Chargeable, Scalable, SoundShareFrame, SoundZone, Decided, Clear}
 
 -- ---- what 8, 9 and 10 ask, each by itself; the others are in Conditions
 -- not 8 at row i: "circuits after nodes"; "The reference node's potential is 0."
@@ -91,6 +94,19 @@ gridOrder G =
     ∷ whole (Chargeable G) NoChargeableTec
     ∷ scalingOrder G
 
+-- 16, which edition 2 alone asks, and only of a file that is there
+abbrev pub onlyOf : (share : List ℕ) → List Condition → List Condition
+onlyOf [] cs = []
+onlyOf (b ∷ bs) cs = cs
+
+abbrev pub shareOrder : Grid → (share : List ℕ) → List Condition
+shareOrder G share =
+    let n = zones G Generation in
+    onlySecond (G .settings .edition) (onlyOf share (
+    whole (SoundShareFrame share n) (BadShare 0)
+    ∷ eachRow n (λ i. SoundZone n (zoneWeight G Generation) (nextInward share n) (suc i)) BadShare
+    ∷ []))
+
 -- "8, 9, 10" of a system; 15; and 11, "with the system whose flow is in doubt"
 abbrev pub systemOrder : Grid → Runs → System → List Condition
 systemOrder G runs s =
@@ -116,17 +132,17 @@ proposalsOrder G runs =
     let e = G .settings .edition in
     systemsOrder G runs (flowSystems e) (countingOrder G runs ++ (directionOrder G runs ++ systemsOrder G runs (distanceSystems e) []))
 
--- "Order: 1 to 7;" 13, 14, and these
-abbrev pub caseOrder : (file : List ℕ) → Runs → List Condition
-caseOrder file runs =
+-- "Order: 1 to 7;" 13, 14, 16, and these
+abbrev pub caseOrder : (file : List ℕ) → Runs → (share : List ℕ) → List Condition
+caseOrder file runs share =
     let S = studyOf file in
     let G = gridOf S in
-    whole (WholeFile file runs) BadFile ∷ (rowsOrder S ++ (gridOrder G ++ proposalsOrder G runs))
+    whole (WholeFile file runs) BadFile ∷ (rowsOrder S ++ (gridOrder G ++ (shareOrder G share ++ proposalsOrder G runs)))
 
 -- then 12
-abbrev pub order : (file : List ℕ) → Runs → (buffer : List ℕ) → List Condition
-order file runs buffer = caseOrder file runs ++ (whole (length (sheetOf file runs) ≤ length buffer) ShortBuffer ∷ [])
+abbrev pub order : (file : List ℕ) → Runs → (share buffer : List ℕ) → List Condition
+order file runs share buffer = caseOrder file runs share ++ (whole (length (sheetOf file runs share) ≤ length buffer) ShortBuffer ∷ [])
 
 -- a case is refused so: what this number asks is not so at this row, it is so at every lower row, and everything before it in the order is met
-abbrev pub Stopped : (file : List ℕ) → Runs → (buffer : List ℕ) → Refusal → Type 0
-Stopped file runs buffer cause = FirstUnmet (order file runs buffer) cause
+abbrev pub Stopped : (file : List ℕ) → Runs → (share buffer : List ℕ) → Refusal → Type 0
+Stopped file runs share buffer cause = FirstUnmet (order file runs share buffer) cause

@@ -13,13 +13,15 @@ use Rattle.meaning.specs.Grid.{Grid}
 use Rattle.meaning.specs.declared.Edition.{Edition}
 use Rattle.meaning.specs.declared.Edition.the-variants.{First, Second}
 use Rattle.meaning.specs.declared.Background.the-variants.{YearRound, Peak}
+use Rattle.meaning.specs.declared.Form.{Form}
+use Rattle.meaning.specs.declared.Form.the-variants.{OneBackground, TwoBackgrounds, Sharing}
 use Rattle.meaning.specs.declared.Side.{Side}
 use Rattle.meaning.specs.declared.Side.the-variants.{Generation, Demand}
 use Rattle.meaning.specs.declared.WiderFigures.{WiderFigures}
 use Rattle.meaning.specs.declared.ZoneFigures.{ZoneFigures}
 use Rattle.meaning.specs.Editions.{byEdition}
 use Rattle.meaning.specs.declared.LocalFigures.{LocalFigures}
-use Rattle.meaning.specs.Figures.{zones, C, residual, remainder, zoneFigures, localFigures}
+use Rattle.meaning.specs.Figures.{zones, formOf, C, residual, remainder, zoneFigures, localFigures}
 
 -- "`C` and C."; 02, request 5: "the `C` line prints peak's C before year round's"
 abbrev pub constantNumbers : Edition → (c peakC : Metres) → List ℤ
@@ -38,15 +40,16 @@ letter Demand = text "D"
 abbrev pub widerThen : WiderFigures → List ℤ → List ℤ
 widerThen w after = w .metres .0 ∷ w .«after_c» .0 ∷ w .tariff .0 ∷ after
 
--- 02, request 5: "`G` and `D` lines peak's metres, metres after C and tariff before year round's"
-unfoldable pub zoneNumbers : Edition → (residual : MicroPerKw) → ZoneFigures → List ℤ
-zoneNumbers First residual z = widerThen (z .«year_round») (residual ∷ z .total .0 ∷ [])
-zoneNumbers Second residual z = widerThen (z .peak) (widerThen (z .«year_round») (residual ∷ z .total .0 ∷ []))
+-- 02, request 5: "`G` and `D` lines peak's metres, metres after C and tariff before year round's"; request 6: "with shared metres and tariff after them"
+unfoldable pub zoneNumbers : Form → (residual : MicroPerKw) → ZoneFigures → List ℤ
+zoneNumbers OneBackground residual z = widerThen (z .«year_round») (residual ∷ z .total .0 ∷ [])
+zoneNumbers TwoBackgrounds residual z = widerThen (z .peak) (widerThen (z .«year_round») (residual ∷ z .total .0 ∷ []))
+zoneNumbers Sharing residual z = widerThen (z .peak) (widerThen (z .«year_round») (z .shared .metres .0 ∷ z .shared .tariff .0 ∷ residual ∷ z .total .0 ∷ []))
 
 -- "`G`, zone" and these. "`D`, the same for demand." "A zone with no kilowatts prints its letter, number and `-`."
-unfoldable pub zoneFields : Edition → Side → (zone : ℕ) → (residual : MicroPerKw) → ZoneFigures → List (List ℕ)
-zoneFields e side zone residual z =
-    letter side ∷ natural zone ∷ cond (eqb (z .weight .0) 0) (text "-" ∷ []) (decimals (zoneNumbers e residual z))
+unfoldable pub zoneFields : Form → Side → (zone : ℕ) → (residual : MicroPerKw) → ZoneFigures → List (List ℕ)
+zoneFields form side zone residual z =
+    letter side ∷ natural zone ∷ cond (eqb (z .weight .0) 0) (text "-" ∷ []) (decimals (zoneNumbers form residual z))
 
 -- "`L`, node name without padding, local metres, local tariff, for nodes with TEC above zero"
 unfoldable pub nodeFields : (name : List ℕ) → LocalFigures → List (List ℕ)
@@ -61,6 +64,7 @@ remainderFields generation demand = text "R" ∷ decimals (generation ∷ demand
 
 -- what a sheet prints of a side, zone k + 1 in row k, and in all
 pub record SideShown : Type 0 where
+  pub form : Form
   pub zones : ℕ
   pub residual : MicroPerKw
   pub remainder : ℤ
@@ -75,12 +79,12 @@ pub record Shown : Type 0 where
   pub name : ℕ → List ℕ
   pub local : ℕ → LocalFigures
 
-abbrev pub zoneRow : Edition → Side → SideShown → ℕ → List (List ℕ)
-zoneRow e side s k = zoneFields e side (suc k) (s .residual) (s .zone k)
+abbrev pub zoneRow : Side → SideShown → ℕ → List (List ℕ)
+zoneRow side s k = zoneFields (s .form) side (suc k) (s .residual) (s .zone k)
 
 -- "Zones stand in rising order."
-unfoldable pub zoneLines : Edition → Side → SideShown → List ℕ
-zoneLines e side s = joined (s .zones) (λ k. line (zoneRow e side s k))
+unfoldable pub zoneLines : Side → SideShown → List ℕ
+zoneLines side s = joined (s .zones) (λ k. line (zoneRow side s k))
 
 -- "in table order"
 unfoldable pub nodeLines : (nodes : ℕ) → (name : ℕ → List ℕ) → (local : ℕ → LocalFigures) → List ℕ
@@ -90,16 +94,22 @@ nodeLines nodes name local = joined nodes (λ v. nodeLine (name v) (local v))
 unfoldable pub sheetText : Shown → List ℕ
 sheetText s =
     line (constantFields (s .edition) (s .c) (s .peakC))
-    ++ (zoneLines (s .edition) Generation (s .side Generation)
-    ++ (zoneLines (s .edition) Demand (s .side Demand)
+    ++ (zoneLines Generation (s .side Generation)
+    ++ (zoneLines Demand (s .side Demand)
     ++ (nodeLines (s .nodes) (s .name) (s .local)
     ++ line (remainderFields (s .side Generation .remainder) (s .side Demand .remainder)))))
 
 -- ---- of a case
-module _ (G : Grid) (runs : Runs) where
+module _ (G : Grid) (runs : Runs) (share : List ℕ) where
   abbrev pub sideOf : Side → SideShown
   sideOf side =
-      record { zones = zones G side; residual = residual G runs side; remainder = remainder G runs side; zone = λ k. zoneFigures G runs side (suc k) }
+      record {
+        form = formOf G share side;
+        zones = zones G side;
+        residual = residual G runs share side;
+        remainder = remainder G runs share side;
+        zone = λ k. zoneFigures G runs share side (suc k);
+      }
 
   abbrev pub shownOf : Shown
   shownOf =

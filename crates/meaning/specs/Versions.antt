@@ -21,11 +21,11 @@ pub record SayTheSame (file file′ : List ℕ) : Type 0 where
   pub circuits : studyOf file .circuits ≡ studyOf file′ .circuits
   pub stations : studyOf file .stations ≡ studyOf file′ .stations
 
--- are settled alike with any runs and buffer, refusals included, judged alike, and with equal solutions print alike
+-- are settled alike with any runs, share file and buffer, refusals included, judged alike, and with equal solutions print alike
 pub record OneCase (file file′ : List ℕ) : Type 0 where
-  pub settled : (runs : Runs) (buffer : List ℕ) → settle file runs buffer ≡ settle file′ runs buffer
-  pub judged : (runs : Runs) → answerOf file runs ≡ answerOf file′ runs
-  pub printed : runsIn file ≡ runsIn file′ → prints file ≡ prints file′
+  pub settled : (runs : Runs) (share buffer : List ℕ) → settle file runs share buffer ≡ settle file′ runs share buffer
+  pub judged : (runs : Runs) (share : List ℕ) → answerOf file runs share ≡ answerOf file′ runs share
+  pub printed : runsIn file ≡ runsIn file′ → (share : List ℕ) → prints file share ≡ prints file′ share
 
 abbrev pub OneSheetInEitherVersion : Type 0
 OneSheetInEitherVersion = (file file′ : List ℕ) → SayTheSame file file′ → OneCase file file′
@@ -54,7 +54,7 @@ FactorLast =
 -- an accepted case with a circuit at 320 or 525 is of version 2
 abbrev pub NewVoltagesInVersionTwo : Type 0
 NewVoltagesInVersionTwo =
-    (file : List ℕ) (runs : Runs) → Acceptable file runs → (c : ℕ) → c < length (studyOf file .circuits) → NewVoltage (circuit (studyOf file .circuits) c .voltage)
+    (file : List ℕ) (runs : Runs) (share : List ℕ) → Acceptable file runs share → (c : ℕ) → c < length (studyOf file .circuits) → NewVoltage (circuit (studyOf file .circuits) c .voltage)
     → versionOf file ≡ 2
 
 -- ---- "otherwise 1,000 to 30,000 for both lengths of the row": nothing of the voltage's factors is left in it

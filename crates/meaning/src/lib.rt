@@ -108,6 +108,7 @@ pub enum Refusal {
     NoChargeableTec,
     Unscalable,
     BackgroundInDoubt(usize),
+    BadShare(usize),
 }
 
 // What a stage of 01's order makes of a case: it goes on to the next stage, or it is refused.
@@ -137,16 +138,31 @@ pub struct WiderFigures {
     pub tariff: MicroPerKw,
 }
 
-// What a line of a zone says. In edition 1 peak's figures are 0, and not printed.
+// 02, request 6: what it says of the shared metres.
+pub struct SharedFigures {
+    pub metres: Metres,
+    pub tariff: MicroPerKw,
+}
+
+// What a line of a zone says. In edition 1 peak's figures are 0, and not printed; and so are shared ones where nothing is shared.
 pub struct ZoneFigures {
     pub weight: Kw,
     pub year_round: WiderFigures,
     pub peak: WiderFigures,
+    pub shared: SharedFigures,
     pub total: MicroPerKw,
+}
+
+// What the lines of a side's zones have of metres and tariffs: edition 1's one background, edition 2's two, and these with the shared metres (02, request 6).
+pub enum Form {
+    OneBackground,
+    TwoBackgrounds,
+    Sharing,
 }
 
 // The lines of a side: its zones 1, 2, .. in order, and no kilowatts past their number.
 pub struct SideFigures {
+    pub form: Form,
     pub zones: usize,
     pub residual: MicroPerKw,
     pub remainder: i64,
@@ -171,8 +187,8 @@ pub struct Figures {
     pub local: [LocalFigures; 256],
 }
 
-// 01, The sheet: what the program prints, the first `length` of these bytes. No sheet is longer than 16,362.
+// 01, The sheet: what the program prints, the first `length` of these bytes. No sheet is longer than 17,258.
 pub struct Printed {
     pub length: usize,
-    pub bytes: [u8; 16384],
+    pub bytes: [u8; 17408],
 }

@@ -22,12 +22,12 @@ long-not-whole file h = go (fileWhole file) refl
     go false e = e
 
 -- 01, The sheet: "The program reads one case from standard input."
-pub input-cut : (input : List ℕ) → prints (take 65536 input) ≡ prints input
-input-cut input = go (decLt 65536 (length input))
+pub input-cut : (input share : List ℕ) → prints (take 65536 input) share ≡ prints input share
+input-cut input share = go (decLt 65536 (length input))
   where
-    go : Dec (65536 < length input) → prints (take 65536 input) ≡ prints input
+    go : Dec (65536 < length input) → prints (take 65536 input) share ≡ prints input share
     go (yes h) =
         let l : length (take 65536 input) ≡ 65536 = length-take-le 65536 input (omega arith) in
-        sym (not-whole (take 65536 input) (long-not-whole (take 65536 input) (omega arith)))
-        ∙ not-whole input (long-not-whole input (omega arith))
-    go (no h) = ap prints (take-all 65536 input (omega arith))
+        sym (not-whole (take 65536 input) share (long-not-whole (take 65536 input) (omega arith)))
+        ∙ not-whole input share (long-not-whole input (omega arith))
+    go (no h) = ap (λ (l : List ℕ). prints l share) (take-all 65536 input (omega arith))

@@ -22,7 +22,7 @@ struct Run {
 fn refused(cause: Refusal) -> Printed
     ensures { λ r. ⌜ Prints (refusedLine cause) r ⌝ }
 {
-    let mut bytes = [0u8; 16384];
+    let mut bytes = [0u8; 17408];
     let length = text::refuse(cause, &mut bytes);
     Printed { length, bytes }
 }
@@ -35,12 +35,22 @@ fn with_runs(
     local: &[i64],
     peak_base: &[i64],
     peak_wider: &[i64],
+    share: &[u8],
 ) -> Printed
     requires { ⌜ runsOf (now base) (now wider) (now local) (now «peak_base») (now «peak_wider») ≡ runsIn (now file) ⌝ }
-    ensures { λ r. ⌜ Prints (prints (now (file .entry))) r ⌝ }
+    ensures { λ r. ⌜ Prints (prints (now (file .entry)) (now (share .entry))) r ⌝ }
 {
-    let mut bytes = [0u8; 16384];
-    let answer = sheet::write(file, base, wider, local, peak_base, peak_wider, &mut bytes);
+    let mut bytes = [0u8; 17408];
+    let answer = sheet::write(
+        file,
+        base,
+        wider,
+        local,
+        peak_base,
+        peak_wider,
+        share,
+        &mut bytes,
+    );
     match answer {
         Answer::Refused(cause) => refused(cause),
         Answer::Accepted(length) => Printed { length, bytes },
@@ -48,9 +58,9 @@ fn with_runs(
 }
 
 // What is printed for a whole file: its solutions are copied out; those of a system that its edition has not are empty.
-fn of_whole_file(file: &[u8]) -> Printed
+fn of_whole_file(file: &[u8], share: &[u8]) -> Printed
     requires { ⌜ fileWhole (now file) ≡ true ⌝ }
-    ensures { λ r. ⌜ Prints (prints (now (file .entry))) r ⌝ }
+    ensures { λ r. ⌜ Prints (prints (now (file .entry)) (now (share .entry))) r ⌝ }
 {
     let base = runs::run_of(file, layout::BASE);
     let wider = runs::run_of(file, layout::WIDER);
@@ -74,26 +84,40 @@ fn of_whole_file(file: &[u8]) -> Printed
         &local_run[0..local_count],
         &peak_base_run[0..peak_base_count],
         &peak_wider_run[0..peak_wider_count],
+        share,
     )
 }
 
-// What is printed for an input, of any bytes.
-fn of_input(input: &[u8]) -> Printed
-    ensures { λ r. ⌜ Prints (prints (now (input .entry))) r ⌝ }
+// What is printed for an input and a share file, of any bytes.
+fn of_input(input: &[u8], share: &[u8]) -> Printed
+    ensures { λ r. ⌜ Prints (prints (now (input .entry)) (now (share .entry))) r ⌝ }
 {
     if layout::whole(input) {
-        return of_whole_file(input);
+        return of_whole_file(input, share);
     }
     refused(Refusal::BadFile)
 }
 
-// What the program prints when it has read `count` bytes into its buffer; a count past the buffer's end is all of it.
-pub fn print(buffer: &[u8; 65536], count: usize) -> Printed
-    ensures { λ r. ⌜ Prints (prints (take count (now (buffer .entry)))) r ⌝ }
+// The front of what was read into a buffer; a count past its end is all of it.
+fn front(buffer: &[u8], count: usize) -> &[u8]
+    ensures { λ r. ⌜ now r ≡ take count (now (buffer .entry)) ⌝ }
+{
+    if count < buffer.len() {
+        return &buffer[0..count];
+    }
+    buffer
+}
+
+// What the program prints when it has read `count` bytes of the case and `share_count` of the share file into its buffers; none of an absent file.
+pub fn print<'a>(
+    buffer: &'a [u8; 65536],
+    count: usize,
+    share: &'a [u8; 256],
+    share_count: usize,
+) -> Printed
+    ensures { λ r. ⌜ Prints (prints (take count (now (buffer .entry))) (take «share_count» (now (share .entry)))) r ⌝ }
 {
     let all: &[u8] = buffer;
-    if count < all.len() {
-        return of_input(&all[0..count]);
-    }
-    of_input(all)
+    let all_share: &[u8] = share;
+    of_input(front(all, count), front(all_share, share_count))
 }

@@ -1,9 +1,10 @@
 -- A percentage in two parts, and the columns of a grid by what counts.
 use mathlib.Core.Path.{_≡_, refl, _∙_, ap}
-use mathlib.Core.Bool.{Bool, true, false, cond}
-use Prim.Native.Nat.{ℕ, _+_, _*_, _/_, _%_, _≤_}
+use mathlib.Core.Bool.{Bool, true, false, not, cond}
+use Prim.Native.Nat.{ℕ, zero, suc, _+_, _*_, _/_, _%_, _≤_, _<_}
 use native.Mathlib.Nat.{mul-le-mul-right}
 use native.Mathlib.Omega.{arith}
+use Rattle.integers.specs.Numbers.{sum}
 use Rattle.meaning.specs.declared.Edition.{Edition}
 use Rattle.meaning.specs.declared.Edition.the-variants.{First, Second}
 use Rattle.meaning.specs.declared.Background.{Background}
@@ -12,10 +13,13 @@ use Rattle.meaning.specs.declared.Plant.{Plant}
 use Rattle.meaning.specs.declared.Plant.the-variants.{Intermittent, NuclearAndCcs, Interconnector, Hydro, PumpedStorage, Peaking, Other}
 use Rattle.meaning.specs.declared.Running.{Running}
 use Rattle.meaning.specs.declared.Running.the-variants as runs
-use Rattle.meaning.specs.Grid.{Grid, pays, paysIn, overTypes, nodeTec, payingTec, payingTecIn}
+use Rattle.meaning.specs.Grid.{Grid, plantOf, pays, paysIn, overTypes, tecOf, nodeTec, payingTec, payingTecIn}
 use Rattle.meaning.specs.Generation.{runsAs, fixedPart, isVariable, fixedKw, variableTec}
+use Rattle.meaning.specs.Figures.{lowCarbon}
+use Rattle.meaning.proofs.Plants.{capacityAt}
 use Rattle.plants.specs.declared.Counted.{Counted}
-use Rattle.plants.specs.declared.Counted.the-variants.{All, Paying, PayingAtPeak, Fixed, Variable}
+use Rattle.plants.specs.declared.Counted.the-variants.{All, Paying, PayingAtPeak, Fixed, Variable, LowCarbon, Carbon, Of}
+use Rattle.plants.specs.Kind.{typeOf, samePlant}
 use Rattle.plants.specs.Counted.{partOf}
 use Rattle.plants.specs.Running.{Percentage}
 
@@ -65,6 +69,9 @@ part-low Paying plant kw = kept-low (pays plant) kw
 part-low PayingAtPeak plant kw = kept-low (paysIn Peak plant) kw
 part-low (Fixed e b) plant kw = fixed-low (runsAs e b plant) (low-percentage e b plant) kw
 part-low (Variable e b) plant kw = kept-low (isVariable (runsAs e b plant)) kw
+part-low LowCarbon plant kw = kept-low (lowCarbon plant) kw
+part-low Carbon plant kw = kept-low (not (lowCarbon plant)) kw
+part-low (Of one) plant kw = kept-low (samePlant one plant) kw
 
 -- ---- of a grid
 module _ (G : Grid) where
@@ -79,6 +86,26 @@ module _ (G : Grid) where
   pub peak-tec : overTypes (partOf PayingAtPeak) G ≡ payingTecIn Peak G
   unfolding partOf
   peak-tec = refl
+
+  pub low-tec : overTypes (partOf LowCarbon) G ≡ tecOf lowCarbon G
+  unfolding partOf
+  low-tec = refl
+
+  pub carbon-tec : overTypes (partOf Carbon) G ≡ tecOf (λ plant. not (lowCarbon plant)) G
+  unfolding partOf
+  carbon-tec = refl
+
+  -- of the types one alone counts
+  pub type-tec : (v t : ℕ) → t < 7 → overTypes (partOf (Of (plantOf (suc t)))) G v ≡ capacityAt G v t
+  unfolding overTypes sum partOf plantOf samePlant typeOf
+  type-tec v zero h = omega arith
+  type-tec v (suc zero) h = omega arith
+  type-tec v (suc (suc zero)) h = omega arith
+  type-tec v (suc (suc (suc zero))) h = omega arith
+  type-tec v (suc (suc (suc (suc zero)))) h = omega arith
+  type-tec v (suc (suc (suc (suc (suc zero))))) h = omega arith
+  type-tec v (suc (suc (suc (suc (suc (suc zero)))))) h = omega arith
+  type-tec v (suc (suc (suc (suc (suc (suc (suc t))))))) h = absurd (omega arith)
 
   module _ (b : Background) where
     pub fixed-tec : overTypes (partOf (Fixed (G .settings .edition) b)) G ≡ fixedKw G b

@@ -1,4 +1,6 @@
-// Plant types: what counts of the TEC of one: all that weighs, what pays, what is fixed or variable in a background.
+// Plant types: what counts of the TEC of one: all that weighs, what pays, what is fixed or variable in a background, what is low carbon or carbon.
+mod carbon;
+mod kind;
 mod peak;
 mod running;
 mod share;
@@ -11,13 +13,17 @@ use meaning::Edition;
 use meaning::Kw;
 use meaning::Plant;
 
-// What counts of TEC: all of it, what pays, what of this pays at peak; and in a background of an edition what is fixed, and the TEC of the variable types.
+// What counts of TEC: all of it, what pays, what of this pays at peak; in a background of an edition what is fixed, and the TEC of the variable types;
+// low carbon TEC, carbon TEC, and the TEC of one plant type.
 pub enum Counted {
     All,
     Paying,
     PayingAtPeak,
     Fixed(Edition, Background),
     Variable(Edition, Background),
+    LowCarbon,
+    Carbon,
+    Of(Plant),
 }
 
 // Whether the TEC of a plant type pays: interconnectors don't.
@@ -51,5 +57,8 @@ pub fn part(counted: Counted, plant: Plant, kw: Kw) -> Kw
             running::runs_as(edition, background, plant),
             kw,
         ),
+        Counted::LowCarbon => share::kept(carbon::low(plant), kw),
+        Counted::Carbon => share::kept(!carbon::low(plant), kw),
+        Counted::Of(one) => share::kept(kind::same(one, plant), kw),
     }
 }

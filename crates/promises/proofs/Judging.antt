@@ -20,7 +20,7 @@ use Rattle.claims.proofs.Accepted.{refused-same, accepted≢refused}
 use Rattle.claims.proofs.Listed.{case-listed, case-number}
 use Rattle.claims.proofs.Hidden.{judged-alike}
 use Rattle.claims.proofs.Same.{same-grid}
-use Rattle.claims.proofs.Theorems.{judge-is-write, one-sheet-in-either-version}
+use Rattle.claims.proofs.Theorems.{judge-is-write, one-sheet-in-either-version, no-file-no-change}
 use Rattle.promises.specs.Judging.{RefusalJudged, EveryJudgePromised, JudgesHideStations, JudgesInEitherVersion}
 
 -- ---- what is answered by a judgement: accepted exactly when it passes, a refusal exactly when it stops so
@@ -35,37 +35,37 @@ module _ (sheet : List ℕ) where
   refused-by Passes r = (λ e. absurd (accepted≢refused e), λ e. absurd (stops≢passes (sym e)))
   refused-by (Stops q) r = (λ e. ap Stops (refused-same e), λ e. ap Refused (stops-same e))
 
-module _ (file : List ℕ) (runs : Runs) where
-  accepted : (answerOf file runs ≡ Accepted (length (sheetOf file runs))) ↔ Acceptable file runs
+module _ (file : List ℕ) (runs : Runs) (share : List ℕ) where
+  accepted : (answerOf file runs share ≡ Accepted (length (sheetOf file runs share))) ↔ Acceptable file runs share
   unfolding answerOf
   accepted =
-      let a = accepted-by (sheetOf file runs) (judged file runs) in
-      let p = judged-pass file runs in
+      let a = accepted-by (sheetOf file runs share) (judged file runs share) in
+      let p = judged-pass file runs share in
       (λ e. p .0 (a .0 e), λ t. a .1 (p .1 t))
 
-  refused : (r : Refusal) → (answerOf file runs ≡ Refused r) ↔ FirstUnmet (caseOrder file runs) r
+  refused : (r : Refusal) → (answerOf file runs share ≡ Refused r) ↔ FirstUnmet (caseOrder file runs share) r
   unfolding answerOf
   refused r =
-      let a = refused-by (sheetOf file runs) (judged file runs) r in
-      let s = judge-case file runs .stops r in
+      let a = refused-by (sheetOf file runs share) (judged file runs share) r in
+      let s = judge-case file runs share .stops r in
       (λ e. s .0 (a .0 e), λ f. a .1 (s .1 f))
 
-  otherwise : (Acceptable file runs → ⊥) → RefusalJudged file (answerOf file runs)
-  otherwise h = go (judged file runs) refl
+  otherwise : (Acceptable file runs share → ⊥) → RefusalJudged file (answerOf file runs share)
+  otherwise h = go (judged file runs share) refl
     where
-      go : (j : Judgement) → judged file runs ≡ j → RefusalJudged file (answerOf file runs)
-      go Passes e = absurd (h (judged-pass file runs .0 e))
+      go : (j : Judgement) → judged file runs share ≡ j → RefusalJudged file (answerOf file runs share)
+      go Passes e = absurd (h (judged-pass file runs share .0 e))
       go (Stops r) e =
-          let f = judge-case file runs .stops r .0 e in
-          record { cause = r; answered = refused r .1 f; listed = case-listed file runs r f; number = case-number file runs r f }
+          let f = judge-case file runs share .stops r .0 e in
+          record { cause = r; answered = refused r .1 f; listed = case-listed file runs share r f; number = case-number file runs share r f }
 
 pub every-judge-promised : EveryJudgePromised
-every-judge-promised file runs = record { accepted = accepted file runs; refused = refused file runs; otherwise = otherwise file runs; withRoom = judge-is-write file runs }
+every-judge-promised file runs share = record { accepted = accepted file runs share; refused = refused file runs share; otherwise = otherwise file runs share; withRoom = judge-is-write file runs share; unshared = λ h. no-file-no-change file share h .judged runs }
 
 pub judges-hide-stations : JudgesHideStations
 unfolding answerOf
-judges-hide-stations file file′ runs p q same =
-    ap₂ answeredBy (judged-alike file file′ runs p q same) (ap (λ (G : Grid). sheet G runs) (same-grid same))
+judges-hide-stations file file′ runs share p q same =
+    ap₂ answeredBy (judged-alike file file′ runs share p q same) (ap (λ (G : Grid). sheet G runs share) (same-grid same))
 
 pub judges-in-either-version : JudgesInEitherVersion
-judges-in-either-version file file′ runs same = one-sheet-in-either-version file file′ same .judged runs
+judges-in-either-version file file′ runs share same = one-sheet-in-either-version file file′ same .judged runs share

@@ -26,6 +26,7 @@ use Rattle.numbers.specs.Numbers.{noHeading, decidedBy, clearBy}
 use Rattle.station_table.specs.Tec.{byNode}
 use Rattle.tables.specs.declared.Opened.{Opened}
 use Rattle.supply.specs.Supply.{baseSupply, supplyIn}
+use Rattle.shares.specs.OfCase.{stageOf}
 use Rattle.flows.specs.declared.Case.{Case}
 use Rattle.flows.specs.Flows.{number, circuitsIn, netIn, headingsIn, offsetAt}
 
@@ -36,6 +37,10 @@ backgroundSupply e b n byType demand = baseSupply n (byNode byType (Fixed e b)) 
 -- 02, request 5: edition 1 has no peak
 unfoldable pub peakSupply : Edition → (n : ℕ) (byType demand : List Kw) → List ℤ
 peakSupply e n byType demand = byEdition (replicate 256 (pos 0)) (backgroundSupply e Peak n byType demand) e
+
+-- 02, request 6: 16 of a file that was opened
+abbrev pub shareIn : Opened → (share : List ℕ) → Judgement
+shareIn o share = stageOf (o .settings .edition) (o .settings .«generation_zones») (o .counts .nodes) (o .nodes .«generation_zone») (o .«by_type») share
 
 -- the case of a file that was opened: the reference counted from 0, and the supplies of step 3
 unfoldable pub caseOf : Opened → Case

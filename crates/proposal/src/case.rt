@@ -2,12 +2,13 @@
 use flows::Case;
 use meaning::Background;
 use meaning::Edition;
+use meaning::Judgement;
 use meaning::Kw;
 use plants::Counted;
 use tables::Opened;
 ghost use mathlib.Core.Path.{_≡_};
 ghost use Prim.Native.Nat.{_≤_};
-ghost use Rattle.proposal.specs.Case.{backgroundSupply, peakSupply, caseOf};
+ghost use Rattle.proposal.specs.Case.{backgroundSupply, peakSupply, shareIn, caseOf};
 
 // The supply of each node in a background of an edition, from TEC by node and plant type.
 pub fn background_supply(
@@ -32,6 +33,18 @@ pub fn peak_supply(edition: Edition, n: usize, by_type: [Kw; 1792], demand: [Kw;
         Edition::First => [0i64; 256],
         Edition::Second => background_supply(edition, Background::Peak, n, by_type, demand),
     }
+}
+
+// 16 of a file that was opened: 02, request 6.
+pub fn share_stage(read: Opened, share: &[u8]) -> Judgement
+    ensures { λ r. ⌜ r ≡ shareIn read (now (share .entry)) ⌝ }
+{
+    let settings = read.settings;
+    let edition = settings.edition;
+    let n = read.counts.nodes;
+    let zone = read.nodes.generation_zone;
+    let by_type = read.by_type;
+    shares::stage(edition, settings.generation_zones, n, zone, by_type, share)
 }
 
 // The case of a file that was opened.

@@ -1,4 +1,4 @@
-// A case judged: refusals 1 to 11 of document 01 and 13 to 15 of 02, in their order. Proposed solutions are judged once over supply and offset.
+// A case judged: refusals 1 to 11 of document 01 and 13 to 16 of 02, in their order. Proposed solutions are judged once over supply and offset.
 mod case;
 mod doubt;
 mod kernel;
@@ -10,7 +10,7 @@ ghost use Rattle.proposal.specs.Judges.{Judges};
 use meaning::Judgement;
 use tables::Opened;
 
-// Reads a file once, judges its tables and then the runs of its edition: what stops the case first, and the columns.
+// Reads a file once, judges its tables, then the share file and then the runs of its edition: what stops the case first, and the columns.
 pub fn open(
     file: &[u8],
     base: &[i64],
@@ -18,8 +18,9 @@ pub fn open(
     local: &[i64],
     peak_base: &[i64],
     peak_wider: &[i64],
+    share: &[u8],
 ) -> Opened
-    ensures { λ r. ⌜ Judges (now (file .entry)) (runsOf (now (base .entry)) (now (wider .entry)) (now (local .entry)) (now («peak_base» .entry)) (now («peak_wider» .entry))) r ⌝ }
+    ensures { λ r. ⌜ Judges (now (file .entry)) (runsOf (now (base .entry)) (now (wider .entry)) (now (local .entry)) (now («peak_base» .entry)) (now («peak_wider» .entry))) (now (share .entry)) r ⌝ }
 {
     let read = tables::open(
         file,
@@ -31,7 +32,12 @@ pub fn open(
     );
     let judgement = read.judgement;
     match judgement {
-        Judgement::Stops(_) => read,
+        Judgement::Stops(_) => return read,
+        Judgement::Passes => (),
+    }
+    let of_share = case::share_stage(read, share);
+    match of_share {
+        Judgement::Stops(_) => tables::with_judgement(read, of_share),
         Judgement::Passes => tables::with_judgement(
             read,
             order::proposals(

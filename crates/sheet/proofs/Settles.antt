@@ -18,7 +18,7 @@ use Rattle.meaning.specs.Conditions.{Acceptable}
 use Rattle.meaning.proofs.Judged.{judged-pass}
 use Rattle.charges.specs.declared.Charged.{Charged}
 use Rattle.charges.specs.Charged.{figuresBy, chargedOf}
-use Rattle.meaning.specs.Figures.{basis}
+use Rattle.meaning.specs.Figures.{sharing, basis}
 use Rattle.tariffs.specs.Case.{figuresOf}
 use Rattle.layout.specs.Readable.{sectionIn}
 use Rattle.text.specs.SheetText.{textOf, Sized}
@@ -41,48 +41,48 @@ module _ (text before after : List ℕ) (n : ℕ) (w : Fitted text before after 
       rw (w .answer, w .buffer, l) refl
 
 -- ---- a case that was charged
-module _ (file : List ℕ) (runs : Runs) (r : Charged) (made : r ≡ chargedOf file runs) where
-  judged-is : r .judgement ≡ judged file runs
+module _ (file : List ℕ) (runs : Runs) (share : List ℕ) (r : Charged) (made : r ≡ chargedOf file runs share) where
+  judged-is : r .judgement ≡ judged file runs share
   unfolding chargedOf
   judged-is = ap (λ (x : Charged). x .judgement) made
 
   -- stopped: the refusal, and the buffer as it was
   module _ {cause : Refusal} (stops : r .judgement ≡ Stops cause) where
-    pub refusal-settled : (buffer : List ℕ) → _≡_ {A = Settled} (record { answer = Refused cause; buffer = buffer }) (settle file runs buffer)
+    pub refusal-settled : (buffer : List ℕ) → _≡_ {A = Settled} (record { answer = Refused cause; buffer = buffer }) (settle file runs share buffer)
     unfolding settle settledBy _orElse_ refused
     refusal-settled buffer = rw (sym judged-is ∙ stops) refl
 
-    pub refusal-answered : Refused cause ≡ answerOf file runs
+    pub refusal-answered : Refused cause ≡ answerOf file runs share
     unfolding answerOf answeredBy
     refusal-answered = rw (sym judged-is ∙ stops) refl
 
   -- not stopped: the text of the figures is the sheet
   module _ (passes : r .judgement ≡ Passes) where
-    judged-passes : judged file runs ≡ Passes
+    judged-passes : judged file runs share ≡ Passes
     judged-passes = sym judged-is ∙ passes
 
-    figures-are : r .figures ≡ figuresOf (basis (gridOf (studyOf file)) runs)
+    figures-are : r .figures ≡ figuresOf (basis (gridOf (studyOf file)) runs) (sharing (gridOf (studyOf file)) share)
     unfolding chargedOf figuresBy
     figures-are = ap (λ (x : Charged). x .figures) made ∙ rw judged-passes refl
 
-    acceptable : Acceptable file runs
-    acceptable = judged-pass file runs .0 judged-passes
+    acceptable : Acceptable file runs share
+    acceptable = judged-pass file runs share .0 judged-passes
 
     abbrev text : List ℕ
     text = textOf (r .figures) file (sectionIn file 1)
 
     figures-sized : Sized (r .figures) file (sectionIn file 1)
-    figures-sized = rw figures-are (case-sized file runs (acceptable .whole) (acceptable .study .tables .settings))
+    figures-sized = rw figures-are (case-sized file runs share (acceptable .whole) (acceptable .study .tables .settings))
 
-    figures-text : text ≡ sheetOf file runs
+    figures-text : text ≡ sheetOf file runs share
     figures-text =
         text-sized (r .figures) file (sectionIn file 1) (says-sized (r .figures) file (sectionIn file 1) .1 figures-sized)
-        ∙ rw figures-are (case-sheet file runs (acceptable .whole) (acceptable .study .tables .settings))
+        ∙ rw figures-are (case-sheet file runs share (acceptable .whole) (acceptable .study .tables .settings))
 
-    pub sheet-settled : (before : List ℕ) (s : Settled) → s ≡ settledBy (bufferStage text before) text before → s ≡ settle file runs before
+    pub sheet-settled : (before : List ℕ) (s : Settled) → s ≡ settledBy (bufferStage text before) text before → s ≡ settle file runs share before
     unfolding settle _orElse_
     sheet-settled before s e = e ∙ rw (figures-text, judged-passes) refl
 
-    pub sheet-answered : {n : ℕ} → n ≡ length text → Accepted n ≡ answerOf file runs
+    pub sheet-answered : {n : ℕ} → n ≡ length text → Accepted n ≡ answerOf file runs share
     unfolding answerOf answeredBy
     sheet-answered e = ap Accepted (e ∙ ap length figures-text) ∙ rw judged-passes refl

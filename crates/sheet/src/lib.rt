@@ -23,7 +23,7 @@ fn written(figures: Figures, file: &[u8], out: &mut [u8]) -> Answer
     Answer::Accepted(length)
 }
 
-// Judges a case and writes its sheet: the answer, and the buffer afterwards, of any bytes, runs and buffer. Nothing is written before all is judged
+// Judges a case and writes its sheet: the answer, and the buffer afterwards, of any bytes, runs, share file (no bytes for none) and buffer. Nothing is written before all is judged
 // and the sheet's length known.
 pub fn write(
     file: &[u8],
@@ -32,11 +32,12 @@ pub fn write(
     local: &[i64],
     peak_base: &[i64],
     peak_wider: &[i64],
+    share: &[u8],
     out: &mut [u8],
 ) -> Answer
-    ensures { λ r. ⌜ Kept (record { file = now (file .entry); runs = runsOf (now (base .entry)) (now (wider .entry)) (now (local .entry)) (now («peak_base» .entry)) (now («peak_wider» .entry)); before = now (out .entry); answer = r; after = now (out .exit) }) ⌝ }
+    ensures { λ r. ⌜ Kept (record { file = now (file .entry); runs = runsOf (now (base .entry)) (now (wider .entry)) (now (local .entry)) (now («peak_base» .entry)) (now («peak_wider» .entry)); share = now (share .entry); before = now (out .entry); answer = r; after = now (out .exit) }) ⌝ }
 {
-    let charged = charges::charge(file, base, wider, local, peak_base, peak_wider);
+    let charged = charges::charge(file, base, wider, local, peak_base, peak_wider, share);
     let judgement = charged.judgement;
     match judgement {
         Judgement::Stops(cause) => Answer::Refused(cause),
@@ -61,10 +62,11 @@ pub fn judge(
     local: &[i64],
     peak_base: &[i64],
     peak_wider: &[i64],
+    share: &[u8],
 ) -> Answer
-    ensures { λ r. ⌜ r ≡ answerOf (now (file .entry)) (runsOf (now (base .entry)) (now (wider .entry)) (now (local .entry)) (now («peak_base» .entry)) (now («peak_wider» .entry))) ⌝ }
+    ensures { λ r. ⌜ r ≡ answerOf (now (file .entry)) (runsOf (now (base .entry)) (now (wider .entry)) (now (local .entry)) (now («peak_base» .entry)) (now («peak_wider» .entry))) (now (share .entry)) ⌝ }
 {
-    let charged = charges::charge(file, base, wider, local, peak_base, peak_wider);
+    let charged = charges::charge(file, base, wider, local, peak_base, peak_wider, share);
     let judgement = charged.judgement;
     match judgement {
         Judgement::Stops(cause) => Answer::Refused(cause),

@@ -22,8 +22,10 @@ pub solved-in-range : (S : Study) (runs : Runs)
 unfolding gridOf networkOf proposed
 solved-in-range S runs solved = λ system h. solved system h .potentials
 
-few-nodes : (file : List ℕ) (runs : Runs) → Acceptable file runs → length (studyOf file .nodes) ≤ 256
-few-nodes file runs a = omega (arith, counts file runs (a .whole) .0, a .whole .nodes .most)
+few-nodes : (file : List ℕ) (runs : Runs) (share : List ℕ) → Acceptable file runs share → length (studyOf file .nodes) ≤ 256
+few-nodes file runs share a = omega (arith, counts file runs (a .whole) .0, a .whole .nodes .most)
 
 pub sheets-fit : SheetsFit
-sheets-fit file runs a = sheet-fits (studyOf file) (a .study) (few-nodes file runs a) runs (solved-in-range (studyOf file) runs (a .solved))
+unfolding gridOf
+sheets-fit file runs share a =
+    sheet-fits (studyOf file) (a .study) (few-nodes file runs share a) runs (solved-in-range (studyOf file) runs (a .solved)) share (a .shared)

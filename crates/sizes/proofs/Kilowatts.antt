@@ -8,9 +8,13 @@ use lib.Dec.{eqb}
 use lib.ListN.{length}
 use Rattle.integers.specs.Numbers.{sum}
 use Rattle.meaning.specs.declared.Background.{Background}
-use Rattle.meaning.specs.Grid.{Grid, gridOf}
+use Rattle.meaning.specs.declared.Plant.{Plant}
+use Rattle.meaning.specs.Grid.{Grid, gridOf, tecOf}
 use Rattle.meaning.specs.declared.Side.{Side}
-use Rattle.meaning.specs.Figures.{zones, zoneOf, weight, paying, payingIn, zoneWeight, zonePaying, zonePayingIn, totalPaying, totalPayingIn}
+use Rattle.meaning.specs.declared.Side.the-variants.{Generation}
+use Rattle.meaning.specs.Sharing.{passes, behind}
+use Rattle.meaning.specs.Figures.{zones, zoneOf, weight, paying, payingIn, zoneWeight, zonePaying, zonePayingIn, totalPaying, totalPayingIn, zoneTecOf}
+use Rattle.meaning.proofs.Plants.{types-le}
 use Rattle.sizes.specs.Bounds.{KilowattsFit, KilowattsAlwaysFit}
 use Rattle.integers.proofs.Sum.{sum-le, sum-part, sum-item}
 use Rattle.integers.proofs.Group.{sum-groups, sum-of-le}
@@ -48,9 +52,32 @@ module _ (G : Grid) (r : Ranged G) where
   unfolding totalPaying
   pays-most side = r .payers side .most
 
-  zone-pays : (side : Side) (zone : ℕ) → zonePaying G side zone ≤ 100000000
-  unfolding zonePaying
-  zone-pays side zone = le-trans (sum-of-le (length (G .nodes)) (λ v. eqb (zoneOf G side v) zone) (paying G side)) (pays-most side)
+  zone-part : (side : Side) (zone : ℕ) → zonePaying G side zone ≤ totalPaying G side
+  unfolding zonePaying totalPaying
+  zone-part side zone = sum-of-le (length (G .nodes)) (λ v. eqb (zoneOf G side v) zone) (paying G side)
+
+  -- 02, request 6: TEC of the plant types that pass a test
+  module _ (test : Plant → Bool) where
+    some-types : (v : ℕ) → tecOf test G v ≤ weight G Generation v
+    unfolding weight
+    some-types v = types-le _ _ (λ plant kw. go (test plant) kw) G v
+      where
+        go : (t : Bool) (kw : ℕ) → cond t kw 0 ≤ kw
+        go true kw = omega arith
+        go false kw = omega arith
+
+    types-most : sum (length (G .nodes)) (tecOf test G) ≤ 100000000
+    types-most = le-trans (sum-le (length (G .nodes)) _ _ (λ v h. some-types v)) (r .weighing Generation)
+
+    zone-types : (zone : ℕ) → zoneTecOf G test zone ≤ 100000000
+    unfolding zoneTecOf
+    zone-types zone = le-trans (sum-of-le (length (G .nodes)) (λ v. eqb (zoneOf G Generation v) zone) (tecOf test G)) types-most
+
+    behind-most : (next : ℕ → ℕ) (z : ℕ) → behind (zones G Generation) next (zoneTecOf G test) z ≤ 100000000
+    unfolding behind zoneTecOf
+    behind-most next z =
+        le-trans (sum-of-le (zones G Generation) (λ i. passes next (zones G Generation) (suc i) z) (λ i. zoneTecOf G test (suc i)))
+        (rw (cover Generation (tecOf test G)) types-most)
 
   pub kilowatts : KilowattsFit G
   kilowatts = record {
@@ -61,11 +88,15 @@ module _ (G : Grid) (r : Ranged G) where
     nodePays = λ side v h. le-trans (sum-item (length (G .nodes)) v (paying G side) h) (pays-most side);
     nodePaysIn = λ b side v h. le-trans (node-in G b side v) (le-trans (sum-item (length (G .nodes)) v (paying G side) h) (pays-most side));
     zoneWeighs = zone-weighs;
-    zonePays = zone-pays;
+    zonePays = λ side zone. le-trans (zone-part side zone) (r .payers side .most);
+    zonePart = zone-part;
     zonePaysIn = zone-in G;
     zonesTo = zones-to;
     zonesAll = zones-all;
     zonesAllIn = zones-cover;
+    nodeTypes = λ test v h. le-trans (sum-item (length (G .nodes)) v (tecOf test G) h) (types-most test);
+    zoneTypes = zone-types;
+    behindMost = behind-most;
   }
 
 pub kilowatts-fit : KilowattsAlwaysFit

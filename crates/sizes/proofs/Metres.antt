@@ -7,7 +7,7 @@ use lib.Dec.{eqb}
 use lib.IntN.{ℤ, pos, natAbs, _-ℤ_, _*ℤ_}
 use lib.ListN.{length}
 use Rattle.integers.specs.Numbers.{sum, Σ, nearest}
-use Rattle.integers.proofs.Laws.{abs-add, abs-sub, abs-neg, abs-mul-le}
+use Rattle.integers.proofs.Laws.{abs-sub, abs-neg, abs-mul-le}
 use Rattle.meaning.specs.Study.{Runs}
 use Rattle.meaning.specs.declared.Edition.{Edition}
 use Rattle.meaning.specs.declared.Background.{Background}
@@ -20,7 +20,7 @@ use Rattle.meaning.specs.declared.Side.{Side}
 use Rattle.meaning.specs.declared.Side.the-variants.{Generation, Demand}
 use Rattle.meaning.specs.Charging.{metres}
 use Rattle.meaning.specs.Charging as charging
-use Rattle.meaning.specs.Figures.{widerMetres, localMetres, distance, zones, zoneOf, weight, zoneWeight, zonePayingIn, totalPayingIn, overZones, zonalMetres, C, afterC, basis}
+use Rattle.meaning.specs.Figures.{widerMetres, localMetres, distance, zones, zoneOf, weight, zoneWeight, zonePayingIn, totalPayingIn, overZones, zonalMetres, C, basis}
 use Rattle.meaning.specs.Conditions.{InRange}
 use Rattle.sizes.specs.Bounds.{PotentialsInRange, MetresFit, zoneShare, aboveOfC, belowOfC}
 use Rattle.integers.proofs.Sum.{sum-part, Σ-weighted}
@@ -99,11 +99,6 @@ module _ (G : Grid) (runs : Runs) (r : Ranged G) (u : PotentialsInRange (G .sett
   unfolding charging.C basis
   centre = nearest-within (aboveOfC G runs b) 10000000 (belowOfC G b) above-within
 
-  with-C : (side : Side) (zone : ℕ) → natAbs (afterC G runs b side zone) ≤ 20000000
-  unfolding charging.afterC charging.priced basis
-  with-C Generation zone = omega (arith, abs-add (zonalMetres G runs b Generation zone) (C G runs b), zonal Generation zone, centre)
-  with-C Demand zone = omega (arith, abs-sub (zonalMetres G runs b Demand zone) (C G runs b), zonal Demand zone, centre)
-
   pub metres-fit : MetresFit G runs b
   metres-fit = record {
     widerNode = wider-node;
@@ -119,5 +114,4 @@ module _ (G : Grid) (runs : Runs) (r : Ranged G) (u : PotentialsInRange (G .sett
     above = omega (arith, above-within, below-range .most);
     below = below-range;
     centre = centre;
-    withC = with-C;
   }

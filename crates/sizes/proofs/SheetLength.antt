@@ -1,8 +1,8 @@
 -- 01, The sheet: no sheet is longer than 14,240 bytes. A zone line takes at most 74, a node line 37, the C line 12, the R line 20.
--- 02, request 5: in edition 2 a zone line takes at most 107 and the C line 22, so no sheet is longer than 16,362.
+-- 02, request 5: in edition 2 a zone line takes at most 107 and the C line 22, so no sheet is longer than 16,362; request 6: with a share file a `G` line takes at most 135, and a sheet 17,258.
 use mathlib.Core.Path.{_≡_, refl}
 use mathlib.Core.Bool.{Bool, true, false, cond}
-use mathlib.Core.List.{[], _∷_}
+use mathlib.Core.List.{List, [], _∷_}
 use Prim.Native.Nat.{ℕ, suc, _+_, _*_, _^_, _≤_, _<_}
 use native.Mathlib.Nat.{le-trans, mul-le-mul-right}
 use native.Mathlib.Omega.{arith}
@@ -17,17 +17,20 @@ use Rattle.meaning.specs.declared.Edition.{Edition}
 use Rattle.meaning.specs.declared.Edition.the-variants.{First, Second}
 use Rattle.meaning.specs.declared.Background.{Background}
 use Rattle.meaning.specs.declared.Background.the-variants.{YearRound, Peak}
+use Rattle.meaning.specs.declared.Form.{Form}
+use Rattle.meaning.specs.declared.Form.the-variants.{OneBackground, TwoBackgrounds, Sharing}
 use Rattle.meaning.specs.declared.WiderFigures.{WiderFigures}
 use Rattle.meaning.specs.declared.ZoneFigures.{ZoneFigures}
 use Rattle.meaning.specs.Editions.{byEdition, Of}
 use Rattle.meaning.specs.Demands.{longestSheet}
+use Rattle.meaning.specs.Sharing.{inForce}
 use Rattle.meaning.specs.declared.Side.{Side}
 use Rattle.meaning.specs.declared.Side.the-variants.{Generation, Demand}
-use Rattle.meaning.specs.Figures.{zones, zonalMetres, C, afterC, zoneTariff, residual, zoneTotal, localMetres, localTariff, remainder, totalPaying, zoneFigures, localFigures, priced, basis}
+use Rattle.meaning.specs.Figures.{zones, formOf, C, residual, zoneTotal, localMetres, localTariff, remainder, totalPaying, zoneFigures, localFigures, priced, basis}
 use Rattle.meaning.specs.Charging as charging
 use Rattle.meaning.specs.Text.{text, decimal, decimals, line}
 use Rattle.meaning.specs.Sheet.{constantNumbers, constantFields, letter, widerThen, zoneNumbers, zoneFields, nodeFields, nodeLine, remainderFields, Shown, zoneRow, sideOf, shownOf, zoneLines, nodeLines, sheetText, sheet}
-use Rattle.sizes.specs.Bounds.{FiguresFit, SheetAlwaysFits}
+use Rattle.sizes.specs.Bounds.{ownMost, withCMost, sharedMost, tariffMost, sharedTariffMost, chargedMost, totalMost, FiguresFit, SheetAlwaysFits}
 use Rattle.sizes.proofs.Ranges.{Ranged, ranged}
 use Rattle.sizes.proofs.Figures.{figures-fit}
 use Rattle.sizes.proofs.Widths.{taken, natural-length, decimal-length, unpadded-length, line-length, joined-length}
@@ -36,12 +39,17 @@ use Rattle.sizes.proofs.Widths.{taken, natural-length, decimal-length, 
 within-length : (k : ℕ) (z : ℤ) → natAbs z < 10 ^ suc k → length (decimal z) ≤ suc (suc k)
 within-length k z h = decimal-length k k (suc (suc k)) z (omega arith) (omega arith) (simp Z (omega (arith, simp Z at h))) (simp Z (omega (arith, simp Z at h)))
 
--- residual and total: above zero 17 digits, below it at most 11 and a sign
-rest-length : (z : ℤ) → (negℤ (pos 45000000000) ≤ℤ z) × (z ≤ℤ pos 10000045000000000) → length (decimal z) ≤ 17
-rest-length z h = decimal-length 10 16 17 z (omega arith) (omega arith) (simp Z (omega (arith, simp Z at (h .0)))) (simp Z (omega (arith, simp Z at (h .1))))
+-- residual and total: above zero 17 digits, below it at most 12 and a sign
+rest-length : (form : Form) (z : ℤ) (c : ℕ) → c ≤ totalMost form → (negℤ (pos c) ≤ℤ z) × (z ≤ℤ pos (10000000000000000 + c)) → length (decimal z) ≤ 17
+rest-length form z c m h = go (charged form)
+  where
+    charged : (form : Form) → totalMost form ≤ 975000000000
+    charged OneBackground = omega arith
+    charged TwoBackgrounds = omega arith
+    charged Sharing = omega arith
 
-residual-length : (z : ℤ) → (negℤ (pos 25000000000) ≤ℤ z) × (z ≤ℤ pos 10000025000000000) → length (decimal z) ≤ 17
-residual-length z h = rest-length z (simp Z (omega (arith, simp Z at (h .0))), simp Z (omega (arith, simp Z at (h .1))))
+    go : totalMost form ≤ 975000000000 → length (decimal z) ≤ 17
+    go k = decimal-length 11 16 17 z (omega arith) (omega arith) (simp Z (omega (arith, simp Z at (h .0)))) (simp Z (omega (arith, simp Z at (h .1))))
 
 remainder-length : (z : ℤ) (k : ℕ) → k ≤ 100000000 → (pos 0 ≤ℤ z) × (z <ℤ pos k) → length (decimal z) ≤ 8
 remainder-length z k m h = decimal-length 0 7 8 z (omega arith) (omega arith) (simp Z (omega (arith, simp Z at (h .0)))) (simp Z (omega (arith, simp Z at (h .1))))
@@ -72,76 +80,132 @@ in-peak : {A : Type 0} (x y : A) (e : Edition) → Of Peak e → byEdition x y e
 in-peak x y First h = absurd h
 in-peak x y Second h = refl
 
-numbers-taken : (e : Edition) (residual : ℤ) (z : ZoneFigures) → ((b : Background) → Of b e → taken (decimals (widerThen (figuresIn b z) [])) ≤ 33)
-    → taken (decimals (residual ∷ z .total .0 ∷ [])) ≤ 36 → taken (decimals (zoneNumbers e residual z)) ≤ 36 + 33 * backgrounds e
-unfolding zoneNumbers decimals taken backgrounds
-numbers-taken First residual z w l = omega (arith, w YearRound tt)
-numbers-taken Second residual z w l = omega (arith, w YearRound tt, w Peak tt)
+-- the forms of an edition's lines
+pub data FormIn : Edition → Form → Type 0 where
+  one : FormIn First OneBackground
+  two : FormIn Second TwoBackgrounds
+  sharing : FormIn Second Sharing
+
+-- of a demand line, and of any where nothing is shared
+plain : (e : Edition) → FormIn e (byEdition OneBackground TwoBackgrounds e)
+plain First = one
+plain Second = two
+
+pub form-in : (G : Grid) (share : List ℕ) (side : Side) → FormIn (G .settings .edition) (formOf G share side)
+unfolding formOf inForce
+form-in G share Generation = go (G .settings .edition) share
+  where
+    go : (e : Edition) (share : List ℕ) → FormIn e (cond (inForce e share) Sharing (byEdition OneBackground TwoBackgrounds e))
+    go First share = one
+    go Second [] = two
+    go Second (b ∷ bs) = sharing
+form-in G share Demand = plain (G .settings .edition)
+
+-- bytes of a background's three numbers, each with one byte more; and of a zone's line
+threeMost : Form → Background → ℕ
+threeMost OneBackground b = 33
+threeMost TwoBackgrounds b = 33
+threeMost Sharing Peak = 33
+threeMost Sharing YearRound = 36
+
+zoneLineMost : Form → ℕ
+zoneLineMost OneBackground = 74
+zoneLineMost TwoBackgrounds = 107
+zoneLineMost Sharing = 135
+
+-- a zone with no kilowatts
+none-taken : (form : Form) → taken (text "-" ∷ []) + 5 ≤ zoneLineMost form
+unfolding taken zoneLineMost
+none-taken OneBackground = omega arith
+none-taken TwoBackgrounds = omega arith
+none-taken Sharing = omega arith
+
+small-taken : (m a t : ℤ) → natAbs m ≤ 10000000 → natAbs a ≤ 20000000 → natAbs t ≤ 10000000000 → taken (decimals (m ∷ a ∷ t ∷ [])) ≤ 33
+unfolding decimals taken
+small-taken m a t h k l = omega (arith, within-length 7 m (omega arith), within-length 7 a (omega arith), within-length 10 t (omega arith))
+
+wider-taken : (form : Form) (b : Background) (m a t : ℤ) → natAbs m ≤ ownMost form b → natAbs a ≤ withCMost form b → natAbs t ≤ tariffMost form b → taken (decimals (m ∷ a ∷ t ∷ [])) ≤ threeMost form b
+unfolding decimals taken threeMost
+wider-taken OneBackground b m a t h k l = small-taken m a t h k l
+wider-taken TwoBackgrounds b m a t h k l = small-taken m a t h k l
+wider-taken Sharing Peak m a t h k l = small-taken m a t h k l
+wider-taken Sharing YearRound m a t h k l = omega (arith, within-length 8 m (omega arith), within-length 8 a (omega arith), within-length 11 t (omega arith))
+
+numbers-taken : (e : Edition) (form : Form) → FormIn e form → (residual : ℤ) (z : ZoneFigures) → ((b : Background) → Of b e → taken (decimals (widerThen (figuresIn b z) [])) ≤ threeMost form b)
+    → natAbs (z .shared .metres .0) ≤ sharedMost form → natAbs (z .shared .tariff .0) ≤ sharedTariffMost form
+    → taken (decimals (residual ∷ z .total .0 ∷ [])) ≤ 36 → taken (decimals (zoneNumbers form residual z)) + 5 ≤ zoneLineMost form
+unfolding zoneNumbers decimals taken threeMost zoneLineMost
+numbers-taken First OneBackground one residual z w m t l = omega (arith, w YearRound tt)
+numbers-taken Second TwoBackgrounds two residual z w m t l = omega (arith, w YearRound tt, w Peak tt)
+numbers-taken Second Sharing sharing residual z w m t l =
+    omega (arith, w YearRound tt, w Peak tt, within-length 8 (z .shared .metres .0) (omega arith), within-length 11 (z .shared .tariff .0) (omega arith))
 
 constants-taken : (e : Edition) (c peakC : ℤ) → length (decimal c) ≤ 9 → (Of Peak e → length (decimal peakC) ≤ 9) → taken (decimals (constantNumbers e c peakC)) ≤ 10 * backgrounds e
 unfolding decimals taken backgrounds
 constants-taken First c peakC h k = omega arith
 constants-taken Second c peakC h k = omega (arith, k tt)
 
-module _ (G : Grid) (runs : Runs) where
-  pub wider-figures : (b : Background) → Of b (G .settings .edition) → (side : Side) (zone : ℕ) → figuresIn b (zoneFigures G runs side zone) ≡ charging.widerFigures (priced G runs side) b zone
+module _ (G : Grid) (runs : Runs) (share : List ℕ) where
+  pub wider-figures : (b : Background) → Of b (G .settings .edition) → (side : Side) (zone : ℕ)
+      → figuresIn b (zoneFigures G runs share side zone) ≡ charging.widerFigures (priced G runs share side) b zone
   unfolding charging.zoneFigures charging.priced basis
   wider-figures YearRound h side zone = refl
   wider-figures Peak h side zone = in-peak _ _ (G .settings .edition) h
 
-longest : (e : Edition) (z : ℕ) → z ≤ 2 * (32 * (41 + 33 * backgrounds e)) → 2 + 10 * backgrounds e + z + 9472 + 20 ≤ longestSheet e
-unfolding backgrounds
-longest First z h = omega arith
-longest Second z h = omega arith
+-- C line, `G` lines, `D` lines, and node lines and R line of any edition
+longest : (e : Edition) (form : Form) → FormIn e form → (c g d : ℕ) → c ≤ 2 + 10 * backgrounds e → g ≤ 32 * zoneLineMost form → d ≤ 32 * zoneLineMost (byEdition OneBackground TwoBackgrounds e)
+    → c + (g + (d + (9472 + 20))) ≤ longestSheet form
+unfolding backgrounds zoneLineMost
+longest First OneBackground one c g d h k l = omega arith
+longest Second TwoBackgrounds two c g d h k l = omega arith
+longest Second Sharing sharing c g d h k l = omega arith
 
-module _ (G : Grid) (runs : Runs) (r : Ranged G) (f : FiguresFit G runs) where
+module _ (G : Grid) (runs : Runs) (share : List ℕ) (r : Ranged G) (f : FiguresFit G runs share) where
   abbrev s : Shown
-  s = shownOf G runs
+  s = shownOf G runs share
 
   abbrev e : Edition
   e = G .settings .edition
 
-  three-taken : (b : Background) → Of b e → (side : Side) (zone : ℕ)
-      → length (decimal (zonalMetres G runs b side zone)) + length (decimal (afterC G runs b side zone)) + length (decimal (zoneTariff G runs b side zone)) ≤ 30
-  three-taken b h side zone = omega (
-    arith,
-    within-length 7 (zonalMetres G runs b side zone) (omega (arith, f .metres b h .zonal side zone)),
-    within-length 7 (afterC G runs b side zone) (omega (arith, f .metres b h .withC side zone)),
-    within-length 10 (zoneTariff G runs b side zone) (omega (arith, f .tariffs b h .ofZone side zone)),
-  )
+  abbrev form : Side → Form
+  form side = formOf G share side
 
-  wider-taken : (side : Side) (zone : ℕ) (b : Background) → Of b e → taken (decimals (widerThen (figuresIn b (zoneFigures G runs side zone)) [])) ≤ 33
-  unfolding charging.widerFigures decimals taken charging.priced basis
-  wider-taken side zone b h = rw (wider-figures G runs b h side zone) (omega (arith, three-taken b h side zone))
+  three-taken : (side : Side) (zone : ℕ) (b : Background) → Of b e → taken (decimals (widerThen (figuresIn b (zoneFigures G runs share side zone)) [])) ≤ threeMost (form side) b
+  unfolding charging.widerFigures charging.priced basis
+  three-taken side zone b h = rw (wider-figures G runs share b h side zone)
+      (wider-taken (form side) b _ _ _ (f .tariffs b h .own side zone) (f .tariffs b h .withC side zone) (f .tariffs b h .ofZone side zone))
 
-  last-taken : (side : Side) (zone : ℕ) → taken (decimals (residual G runs side ∷ zoneFigures G runs side zone .total .0 ∷ [])) ≤ 36
+  last-taken : (side : Side) (zone : ℕ) → taken (decimals (residual G runs share side ∷ zoneFigures G runs share side zone .total .0 ∷ [])) ≤ 36
   unfolding charging.zoneFigures decimals taken
   last-taken side zone = omega (
     arith,
-    residual-length (residual G runs side) (f .rests .residualRange side),
-    rest-length (zoneTotal G runs side zone) (f .rests .totalRange side zone),
+    rest-length (form side) (residual G runs share side) (chargedMost (form side)) (omega arith) (f .rests .residualRange side),
+    rest-length (form side) (zoneTotal G runs share side zone) (totalMost (form side)) (omega arith) (f .rests .totalRange side zone),
   )
 
-  zone-numbers : (side : Side) (zone : ℕ) → taken (decimals (zoneNumbers e (residual G runs side) (zoneFigures G runs side zone))) ≤ 36 + 33 * backgrounds e
-  zone-numbers side zone = numbers-taken e (residual G runs side) (zoneFigures G runs side zone) (wider-taken side zone) (last-taken side zone)
+  zone-numbers : (side : Side) (zone : ℕ) → taken (decimals (zoneNumbers (form side) (residual G runs share side) (zoneFigures G runs share side zone))) + 5 ≤ zoneLineMost (form side)
+  unfolding charging.zoneFigures
+  zone-numbers side zone =
+      numbers-taken e (form side) (form-in G share side) (residual G runs share side) (zoneFigures G runs share side zone) (three-taken side zone)
+      (f .shares .metres side zone) (f .shares .ofZone side zone) (last-taken side zone)
 
-  zone-line : (side : Side) (k : ℕ) → k < 32 → length (line (zoneRow e side (sideOf G runs side) k)) ≤ 41 + 33 * backgrounds e
+  zone-line : (side : Side) (k : ℕ) → k < 32 → length (line (zoneRow side (sideOf G runs share side) k)) ≤ zoneLineMost (form side)
   unfolding zoneFields taken
   zone-line side k h =
-      let z = zoneFigures G runs side (suc k) in
+      let z = zoneFigures G runs share side (suc k) in
       rw (line-length (letter side) _) (omega (
         arith,
         letter-length side,
         natural-length 1 (suc k) (omega arith),
-        either (λ fs. taken fs ≤ 36 + 33 * backgrounds e) (eqb (z .weight .0) 0) (text "-" ∷ []) (decimals (zoneNumbers e (residual G runs side) z)) (omega arith)
+        either (λ fs. taken fs + 5 ≤ zoneLineMost (form side)) (eqb (z .weight .0) 0) (text "-" ∷ []) (decimals (zoneNumbers (form side) (residual G runs share side) z)) (none-taken (form side))
             (zone-numbers side (suc k)),
       ))
 
-  zone-lines : (side : Side) → length (zoneLines e side (sideOf G runs side)) ≤ 32 * (41 + 33 * backgrounds e)
+  zone-lines : (side : Side) → length (zoneLines side (sideOf G runs share side)) ≤ 32 * zoneLineMost (form side)
   unfolding zoneLines
   zone-lines side = le-trans
-      (joined-length (zones G side) (41 + 33 * backgrounds e) (λ k. line (zoneRow e side (sideOf G runs side) k)) (λ k l. zone-line side k (omega (arith, r .zonesMost side))))
-      (mul-le-mul-right (41 + 33 * backgrounds e) (r .zonesMost side))
+      (joined-length (zones G side) (zoneLineMost (form side)) (λ k. line (zoneRow side (sideOf G runs share side) k)) (λ k l. zone-line side k (omega (arith, r .zonesMost side))))
+      (mul-le-mul-right (zoneLineMost (form side)) (r .zonesMost side))
 
   node-line : (v : ℕ) → v < length (G .nodes) → length (nodeLine (s .name v) (s .local v)) ≤ 37
   unfolding nodeLine nodeFields charging.localFigures decimals taken basis
@@ -173,22 +237,20 @@ module _ (G : Grid) (runs : Runs) (r : Ranged G) (f : FiguresFit G runs) where
   unfolding remainderFields decimals taken
   R-line = rw (line-length (text "R") _) (omega (
     arith,
-    remainder-length (remainder G runs Generation) (totalPaying G Generation) (r .payers Generation .most) (f .rests .remainderRange Generation),
-    remainder-length (remainder G runs Demand) (totalPaying G Demand) (r .payers Demand .most) (f .rests .remainderRange Demand),
+    remainder-length (remainder G runs share Generation) (totalPaying G Generation) (r .payers Generation .most) (f .rests .remainderRange Generation),
+    remainder-length (remainder G runs share Demand) (totalPaying G Demand) (r .payers Demand .most) (f .rests .remainderRange Demand),
   ))
 
-  pub sheet-length : length (G .nodes) ≤ 256 → length (sheet G runs) ≤ longestSheet e
-  unfolding sheet sheetText
+  pub sheet-length : length (G .nodes) ≤ 256 → length (sheet G runs share) ≤ longestSheet (form Generation)
+  unfolding sheet sheetText formOf
   sheet-length h = simp length-append (omega (
     arith,
-    C-line,
     node-lines h,
     R-line,
-    longest e (length (zoneLines e Generation (sideOf G runs Generation)) + length (zoneLines e Demand (sideOf G runs Demand)))
-        (omega (arith, zone-lines Generation, zone-lines Demand)),
+    longest e (form Generation) (form-in G share Generation) _ _ _ C-line (zone-lines Generation) (zone-lines Demand),
   ))
 
 -- "so it never prints 12"
 pub sheet-fits : SheetAlwaysFits
 unfolding gridOf
-sheet-fits S study few runs u = sheet-length (gridOf S) runs (ranged S study) (figures-fit S study runs u) few
+sheet-fits S study few runs u share sound = sheet-length (gridOf S) runs share (ranged S study) (figures-fit S study runs u share sound) few

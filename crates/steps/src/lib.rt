@@ -1,16 +1,18 @@
 // 01, steps 6 and 7: the divisions of one number by another, for every input; and figures that say nothing.
 use meaning::Edition;
 use meaning::Figures;
+use meaning::Form;
 use meaning::Kw;
 use meaning::LocalFigures;
 use meaning::Metres;
 use meaning::MicroPerKw;
+use meaning::SharedFigures;
 use meaning::Side;
 use meaning::SideFigures;
 use meaning::WiderFigures;
 use meaning::ZoneFigures;
 ghost use mathlib.Core.Path.{_≡_};
-ghost use Rattle.meaning.specs.Charging.{metres as metresOf, turned, averageOf, noWider};
+ghost use Rattle.meaning.specs.Charging.{metres as metresOf, turned, averageOf, noWider, noShared};
 ghost use Rattle.meaning.specs.Columns.{noLine, noLocal};
 ghost use Rattle.steps.specs.Nothing.{noSide, noFigures};
 
@@ -51,6 +53,16 @@ pub fn no_wider() -> WiderFigures
     }
 }
 
+// What is said of no shared metres.
+pub fn no_shared() -> SharedFigures
+    ensures { λ r. ⌜ r ≡ noShared ⌝ }
+{
+    SharedFigures {
+        metres: Metres(0),
+        tariff: MicroPerKw(0),
+    }
+}
+
 // The line of no zone.
 pub fn no_line() -> ZoneFigures
     ensures { λ r. ⌜ r ≡ noLine ⌝ }
@@ -60,6 +72,7 @@ pub fn no_line() -> ZoneFigures
         weight: Kw(0),
         year_round: none,
         peak: none,
+        shared: no_shared(),
         total: MicroPerKw(0),
     }
 }
@@ -81,6 +94,7 @@ fn no_side() -> SideFigures
 {
     let line = no_line();
     SideFigures {
+        form: Form::OneBackground,
         zones: 0,
         residual: MicroPerKw(0),
         remainder: 0,

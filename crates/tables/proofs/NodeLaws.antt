@@ -1,6 +1,7 @@
 -- The columns which were read are the nodes of the study's grid: what 7, 13 and 14 add up, and what the steps scale, weigh and charge.
 use mathlib.Core.Path.{_≡_, refl, _∙_, ap}
-use Prim.Native.Nat.{ℕ, _≤_, _<_}
+use mathlib.Core.Bool.{not}
+use Prim.Native.Nat.{ℕ, suc, _≤_, _<_}
 use native.Mathlib.Omega.{arith}
 use lib.ListN.{length}
 use Rattle.integers.specs.Numbers.{sum}
@@ -10,15 +11,17 @@ use Rattle.meaning.specs.declared.Background.{Background}
 use Rattle.meaning.specs.declared.Background.the-variants.{Peak}
 use Rattle.meaning.specs.Study.{Study, node}
 use Rattle.meaning.specs.Columns.{kilowatts, numberAt, kwAt}
-use Rattle.meaning.specs.Grid.{Grid, gridOf, overTypes, nodeTec, payingTec, payingTecIn, nodeDemand, totalTec, totalPayingTec, totalDemand}
+use Rattle.meaning.specs.Grid.{Grid, plantOf, gridOf, overTypes, tecOf, nodeTec, payingTec, payingTecIn, nodeDemand, totalTec, totalPayingTec, totalDemand}
 use Rattle.meaning.specs.Generation.{fixedKw, variableTec, totalFixed, totalVariable}
+use Rattle.meaning.specs.Figures.{lowCarbon}
+use Rattle.meaning.proofs.Plants.{capacityAt}
 use Rattle.meaning.proofs.Rows.{rows-at}
 use Rattle.layout.specs.Frame.{countsOf}
 use Rattle.node_table.specs.Columns.{nodesOf}
 use Rattle.plants.specs.declared.Counted.{Counted}
-use Rattle.plants.specs.declared.Counted.the-variants.{All, Paying, PayingAtPeak, Fixed, Variable}
+use Rattle.plants.specs.declared.Counted.the-variants.{All, Paying, PayingAtPeak, Fixed, Variable, LowCarbon, Carbon, Of}
 use Rattle.plants.specs.Counted.{partOf}
-use Rattle.plants.proofs.PlantLaws.{all-tec, paying-tec, peak-tec, fixed-tec, variable-tec}
+use Rattle.plants.proofs.PlantLaws.{all-tec, paying-tec, peak-tec, fixed-tec, variable-tec, low-tec, carbon-tec, type-tec}
 use Rattle.station_table.specs.Tec.{byNode}
 use Rattle.station_table.proofs.TecLaws.{by-node-at}
 use Rattle.tables.specs.declared.Opened.{Opened}
@@ -66,6 +69,16 @@ module _ {G : Grid} {o : Opened} (s : SameNodes G o) where
 
   pub paying-at-peak-at : (v : ℕ) → v < n → column PayingAtPeak v ≡ payingTecIn Peak G v
   paying-at-peak-at = named PayingAtPeak (peak-tec G)
+
+  -- 02, request 6: low carbon TEC, carbon TEC, and that of type t + 1
+  pub low-at : (v : ℕ) → v < n → column LowCarbon v ≡ tecOf lowCarbon G v
+  low-at = named LowCarbon (low-tec G)
+
+  pub carbon-at : (v : ℕ) → v < n → column Carbon v ≡ tecOf (λ plant. not (lowCarbon plant)) G v
+  carbon-at = named Carbon (carbon-tec G)
+
+  pub type-at : (t : ℕ) → t < 7 → (v : ℕ) → v < n → column (Of (plantOf (suc t))) v ≡ capacityAt G v t
+  type-at t h v l = s .counted (Of (plantOf (suc t))) v l ∙ type-tec G v t h
 
   pub fixed-at : (b : Background) (v : ℕ) → v < n → column (Fixed (o .settings .edition) b) v ≡ fixedKw G b v
   fixed-at b = rw (s .edition) (named (Fixed (G .settings .edition) b) (fixed-tec G b))

@@ -1,21 +1,24 @@
 // 01, steps 6 to 10 of a case, from its columns: C, tariffs, residuals and remainders. Every input has its answer: no figures where a setting or a total is out of range.
 mod case;
 mod lines;
+mod metres;
 mod nodes;
 mod over;
 mod price;
+mod shared;
 mod side;
 mod wider;
 mod zonal;
 
+use boundaries::Shares;
 use meaning::Figures;
 use meaning::Kw;
 use meaning::Settings;
 ghost use mathlib.Core.Path.{_≡_};
 ghost use Rattle.tariffs.specs.Case.{figuresOver};
 
-// The figures of a case, by each node's zones, TEC that weighs, TEC that pays, in all and in peak, and demand, and by its wider and local potentials.
-// Edition 1 has no peak: nothing of it is looked at.
+// The figures of a case, by each node's zones, TEC that weighs, TEC that pays, in all and in peak, and demand, by its wider and local potentials,
+// and by what a share file says of its zones. Edition 1 has no peak: nothing of it is looked at.
 pub fn figures(
     nodes: usize,
     settings: Settings,
@@ -28,46 +31,25 @@ pub fn figures(
     wider: &[i64],
     peak_wider: &[i64],
     local: &[i64],
+    shares: Shares,
 ) -> Figures
-    ensures { λ r. ⌜ r ≡ figuresOver nodes settings «generation_zone» tec paying «paying_at_peak» «demand_zone» demand (now (wider .entry)) (now («peak_wider» .entry)) (now (local .entry)) ⌝ }
+    ensures { λ r. ⌜ r ≡ figuresOver nodes settings «generation_zone» tec paying «paying_at_peak» «demand_zone» demand (now (wider .entry)) (now («peak_wider» .entry)) (now (local .entry)) shares ⌝ }
 {
     if case::settings_fit(settings) {
-        let g = settings.generation_zones;
-        let d = settings.demand_zones;
-        let year_round = zonal::sides_of(
-            g,
-            d,
+        let sides = zonal::backgrounds_of(
+            settings,
             nodes,
             generation_zone,
             tec,
             paying,
-            demand_zone,
-            demand,
-            wider,
-        );
-        let edition = settings.edition;
-        let peak = zonal::sides_of(
-            zonal::at_peak(edition, g),
-            zonal::at_peak(edition, d),
-            zonal::at_peak(edition, nodes),
-            generation_zone,
-            tec,
             paying_at_peak,
             demand_zone,
             demand,
+            wider,
             peak_wider,
         );
         let count = zones::nodes_in(nodes, local.len());
-        return case::ranged_figures(
-            settings,
-            year_round,
-            peak,
-            count,
-            tec,
-            paying,
-            demand,
-            local,
-        );
+        return case::ranged_figures(settings, sides, count, tec, paying, demand, local, shares);
     }
     steps::no_figures()
 }

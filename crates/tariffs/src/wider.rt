@@ -1,5 +1,4 @@
 // Steps 8 to 10 of the zones of a side in a background: metres after C, tariffs, and what they leave of the rest.
-use crate::over::metres_of;
 use crate::price::price;
 use meaning::Kw;
 use meaning::Metres;
@@ -9,9 +8,9 @@ use rests::Rest;
 use zones::ZoneSums;
 ghost use mathlib.Core.Path.{_≡_};
 ghost use Prim.Native.Nat.{_≤_};
+ghost use lib.IntN.{natAbs};
 ghost use Rattle.meaning.specs.Charging.{withC};
-ghost use Rattle.zones.specs.Sums.{SumsFit};
-ghost use Rattle.tariffs.specs.Sides.{metresFrom, widerFrom, widerOver, AllFit, TermsFit};
+ghost use Rattle.tariffs.specs.Sides.{widerFrom, widerOver, MetresFit, TermsFit};
 
 // What prices the zones of a side: C, expansion constant and security factor.
 pub struct Terms {
@@ -28,11 +27,10 @@ pub struct Wider {
 }
 
 // Step 8: metres after C.
-pub fn after_c(zone: ZoneSums, terms: Terms) -> Metres
-    requires { ⌜ SumsFit zone × TermsFit terms ⌝ }
-    ensures { λ r. ⌜ r .0 ≡ withC (terms .side) (terms .c .0) (metresFrom zone) ⌝ }
+pub fn after_c(metres: Metres, terms: Terms) -> Metres
+    requires { ⌜ (natAbs (metres .0) ≤ 650000000) × TermsFit terms ⌝ }
+    ensures { λ r. ⌜ r .0 ≡ withC (terms .side) (terms .c .0) (metres .0) ⌝ }
 {
-    let metres = metres_of(zone);
     let c = terms.c;
     let side = terms.side;
     match side {
@@ -42,14 +40,14 @@ pub fn after_c(zone: ZoneSums, terms: Terms) -> Metres
 }
 
 // Steps 8 and 9: what the background says of a zone.
-pub fn wider_line(zone: ZoneSums, terms: Terms) -> WiderFigures
-    requires { ⌜ SumsFit zone × TermsFit terms ⌝ }
-    ensures { λ r. ⌜ r ≡ widerFrom terms zone ⌝ }
+pub fn wider_line(metres: Metres, terms: Terms) -> WiderFigures
+    requires { ⌜ (natAbs (metres .0) ≤ 650000000) × TermsFit terms ⌝ }
+    ensures { λ r. ⌜ r ≡ widerFrom terms (metres .0) ⌝ }
 {
-    let after = after_c(zone, terms);
+    let after = after_c(metres, terms);
     let tariff = price(after, terms.constant, terms.factor);
     WiderFigures {
-        metres: metres_of(zone),
+        metres: metres,
         after_c: after,
         tariff: tariff,
     }
@@ -57,21 +55,22 @@ pub fn wider_line(zone: ZoneSums, terms: Terms) -> WiderFigures
 
 // The same of zones 1 to count, their tariffs taken off the rest.
 pub fn wider_lines(
+    metres: [Metres; 32],
     sums: [ZoneSums; 32],
     count: usize,
     terms: Terms,
     rest: Rest,
     payers: Kw,
 ) -> Wider
-    requires { ⌜ AllFit sums × (count ≤ 32) × TermsFit terms ⌝ }
-    ensures { λ r. ⌜ r ≡ widerOver sums count terms rest (payers .0) ⌝ }
+    requires { ⌜ MetresFit metres × (count ≤ 32) × TermsFit terms ⌝ }
+    ensures { λ r. ⌜ r ≡ widerOver metres sums count terms rest (payers .0) ⌝ }
 {
     let mut lines = [steps::no_wider(); 32];
     let mut left = rest;
     let mut k = 0;
     while k < count {
         let zone = sums[k];
-        let line = wider_line(zone, terms);
+        let line = wider_line(metres[k], terms);
         left = rests::less(left, payers, line.tariff, zone.paying);
         lines[k] = line;
         k += 1;

@@ -16,7 +16,7 @@ use Rattle.meaning.specs.Columns.{noLine, noLocal}
 use Rattle.meaning.specs.Sheet.{SideShown, Shown, sheetText}
 
 abbrev pub sideIn : SideFigures → SideShown
-sideIn f = record { zones = f .zones; residual = f .residual .0; remainder = f .remainder; zone = λ k. getD (f .zone) k noLine }
+sideIn f = record { form = f .form; zones = f .zones; residual = f .residual .0; remainder = f .remainder; zone = λ k. getD (f .zone) k noLine }
 
 abbrev pub sidesIn : Figures → Side → SideShown
 sidesIn f Generation = sideIn (f .generation)

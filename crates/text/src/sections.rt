@@ -1,6 +1,5 @@
 // The sections of figures' text that have a line for each zone or node, and the text.
 use crate::put::put_line;
-use meaning::Edition;
 use meaning::Figures;
 use meaning::LocalFigures;
 use meaning::Section;
@@ -19,15 +18,15 @@ ghost use Rattle.text.specs.SheetText.{sideIn, nameOf, localIn, shownIn,
 pub const ROOM: usize = 44 + 2 * (32 * lines::WIDTH) + 256 * 57 + 44;
 
 // A line for each zone of a side.
-pub fn put_zones(out: &mut [u8], from: usize, edition: Edition, side: Side, f: SideFigures) -> usize
+pub fn put_zones(out: &mut [u8], from: usize, side: Side, f: SideFigures) -> usize
     requires { ⌜ (f .zones ≤ 32) × (from + zonesRoom ≤ length (now out)) ⌝ }
-    ensures { λ r. ⌜ Put zonesRoom (now (out .entry)) from (zoneLines edition side (sideIn f)) (now (out .exit)) r ⌝ }
+    ensures { λ r. ⌜ Put zonesRoom (now (out .entry)) from (zoneLines side (sideIn f)) (now (out .exit)) r ⌝ }
 {
     let mut at = from;
     let mut k: usize = 0;
     while k < f.zones {
         let z = f.zone[k];
-        let line = lines::zone_line(edition, side, k + 1, f.residual, z);
+        let line = lines::zone_line(f.form, side, k + 1, f.residual, z);
         at = put_line(out, at, line);
         k += 1;
     }
@@ -65,8 +64,8 @@ pub fn put_figures(out: &mut [u8], figures: Figures, file: &[u8], rows: Section)
     let edition = figures.edition;
     let first = lines::constant_line(edition, figures.c, figures.peak_c);
     let p1 = put_line(out, 0, first);
-    let p2 = put_zones(out, p1, edition, Side::Generation, figures.generation);
-    let p3 = put_zones(out, p2, edition, Side::Demand, figures.demand);
+    let p2 = put_zones(out, p1, Side::Generation, figures.generation);
+    let p3 = put_zones(out, p2, Side::Demand, figures.demand);
     let local = figures.local;
     let p4 = put_nodes(out, p3, file, rows, figures.nodes, local);
     let last = lines::remainder_line(figures.generation.remainder, figures.demand.remainder);

@@ -54,20 +54,20 @@ peakBase =
 abbrev peakWider : List ℤ
 peakWider = widerWith (pos 15000000000000) (pos 2500000000000) (negℤ (pos 100000000000))
 
-abbrev exampleRuns : Runs
+abbrev pub exampleRuns : Runs
 exampleRuns = runsOf yearRoundBase yearRoundWider localRun peakBase peakWider
 
-abbrev example : List ℕ
+abbrev pub example : List ℕ
 example = fileWith (stationsWith 1 7 peaking) exampleRuns
 
-abbrev exampleGrid : Grid
+abbrev pub exampleGrid : Grid
 exampleGrid = gridOf (studyOf example)
 
-example-acceptable : Acceptable example exampleRuns
+example-acceptable : Acceptable example exampleRuns []
 unfolding opened
-example-acceptable = judged-pass example exampleRuns .0 refl
+example-acceptable = judged-pass example exampleRuns [] .0 refl
 
-abbrev exampleSheet : List ℕ
+abbrev pub exampleSheet : List ℕ
 exampleSheet =
     text "C -7819 5893\n"
     ++ text "G 1 0 -7819 -140742 0 5893 106074 2093593 2058925\nG 2 15000 7181 129258 -5000 893 16074 2093593 2238925\nG 3 -\n"
@@ -76,7 +76,7 @@ exampleSheet =
     ++ text "L SUBA 0 0\nL SUBB 0 0\nL SUBD 30000 300000\n"
     ++ text "R 480000 200000\n"
 
-example-prints : prints example ≡ exampleSheet
+example-prints : prints example [] ≡ exampleSheet
 unfolding opened
 example-prints = refl
 
@@ -124,9 +124,9 @@ closed = fileWith (stationsWith 1 7 []) closedRuns
 abbrev closedGrid : Grid
 closedGrid = gridOf (studyOf closed)
 
-closed-acceptable : Acceptable closed closedRuns
+closed-acceptable : Acceptable closed closedRuns []
 unfolding opened
-closed-acceptable = judged-pass closed closedRuns .0 refl
+closed-acceptable = judged-pass closed closedRuns [] .0 refl
 
 abbrev closedSheet : List ℕ
 closedSheet =
@@ -136,7 +136,7 @@ closedSheet =
     ++ text "L SUBA 0 0\nL SUBB 0 0\nL SUBD 30000 300000\n"
     ++ text "R 0 200000\n"
 
-closed-prints : prints closed ≡ closedSheet
+closed-prints : prints closed [] ≡ closedSheet
 unfolding opened
 closed-prints = refl
 
@@ -161,6 +161,6 @@ closed-metres = (refl, refl)
 abbrev windy : List ℕ
 windy = fileWith (stationsWith 7 1 peaking) exampleRuns
 
-windy-refused : (totalFixed (gridOf (studyOf windy)) YearRound ≡ 329000) × (judged windy exampleRuns ≡ Stops Unscalable) × (prints windy ≡ text "refused 14 0 0\n")
+windy-refused : (totalFixed (gridOf (studyOf windy)) YearRound ≡ 329000) × (judged windy exampleRuns [] ≡ Stops Unscalable) × (prints windy [] ≡ text "refused 14 0 0\n")
 unfolding opened
 windy-refused = (refl, refl, refl)

@@ -104,9 +104,9 @@ tut = fileOf (studyWith (settingsWith 1000 1) 400 stations) (runsWith tutBase fo
 abbrev pub tutRuns : Runs
 tutRuns = runsWith tutBase forwardWider
 
-pub tut-acceptable : Acceptable tut tutRuns
+pub tut-acceptable : Acceptable tut tutRuns []
 unfolding opened
-tut-acceptable = judged-pass tut tutRuns .0 refl
+tut-acceptable = judged-pass tut tutRuns [] .0 refl
 
 -- TUT1_P5: 5 MW more at B
 abbrev pub fiveRuns : Runs
@@ -117,9 +117,9 @@ fiveRuns =
 abbrev pub five : List ℕ
 five = fileOf (studyWith (settingsWith 1000 1) 400 (more 5000)) fiveRuns
 
-pub five-acceptable : Acceptable five fiveRuns
+pub five-acceptable : Acceptable five fiveRuns []
 unfolding opened
-five-acceptable = judged-pass five fiveRuns .0 refl
+five-acceptable = judged-pass five fiveRuns [] .0 refl
 
 -- TUT1_P150 and TUT1_P200: A-B turned
 abbrev pub turnedRuns : Runs
@@ -130,9 +130,9 @@ turnedRuns =
 abbrev pub turned : List ℕ
 turned = fileOf (studyWith (settingsWith 1000 1) 400 (more 150000)) turnedRuns
 
-pub turned-acceptable : Acceptable turned turnedRuns
+pub turned-acceptable : Acceptable turned turnedRuns []
 unfolding opened
-turned-acceptable = judged-pass turned turnedRuns .0 refl
+turned-acceptable = judged-pass turned turnedRuns [] .0 refl
 
 abbrev pub furtherRuns : Runs
 furtherRuns =
@@ -142,9 +142,9 @@ furtherRuns =
 abbrev pub further : List ℕ
 further = fileOf (studyWith (settingsWith 1000 1) 400 (more 200000)) furtherRuns
 
-pub further-acceptable : Acceptable further furtherRuns
+pub further-acceptable : Acceptable further furtherRuns []
 unfolding opened
-further-acceptable = judged-pass further furtherRuns .0 refl
+further-acceptable = judged-pass further furtherRuns [] .0 refl
 
 -- ---- TUT1_OTHER: TUT1's network with other demand, TEC, stations, zones and money, and a solver that misses by 90,000,000
 abbrev otherSettings : Settings
@@ -193,9 +193,9 @@ otherRuns =
 abbrev pub other : List ℕ
 other = fileOf otherStudy otherRuns
 
-pub other-acceptable : Acceptable other otherRuns
+pub other-acceptable : Acceptable other otherRuns []
 unfolding opened
-other-acceptable = judged-pass other otherRuns .0 refl
+other-acceptable = judged-pass other otherRuns [] .0 refl
 
 -- ---- TUT1 with demand at D and no generation there: of the directions only that of its marked circuit has turned
 abbrev pub fedRuns : Runs
@@ -217,9 +217,9 @@ fed =
     })
     fedRuns
 
-pub fed-acceptable : Acceptable fed fedRuns
+pub fed-acceptable : Acceptable fed fedRuns []
 unfolding opened
-fed-acceptable = judged-pass fed fedRuns .0 refl
+fed-acceptable = judged-pass fed fedRuns [] .0 refl
 
 -- ---- TUT1 with the second node for reference
 abbrev pub movedRuns : Runs
@@ -239,9 +239,9 @@ movedRuns =
 abbrev pub moved : List ℕ
 moved = fileOf (studyWith (settingsWith 1000 2) 400 stations) movedRuns
 
-pub moved-acceptable : Acceptable moved movedRuns
+pub moved-acceptable : Acceptable moved movedRuns []
 unfolding opened
-moved-acceptable = judged-pass moved movedRuns .0 refl
+moved-acceptable = judged-pass moved movedRuns [] .0 refl
 
 -- ---- B-C at 275 kV: with a factor of 2 (TUT2_275), and of 1; and TUT1 where the factor of 275 kV is 2
 abbrev pub stretchedRuns : Runs
@@ -250,23 +250,23 @@ stretchedRuns = runsWith tutBase (widerWith (negℤ (pos 5000000000000)) (negℤ
 abbrev pub stretched : List ℕ
 stretched = fileOf (studyWith (settingsWith 2000 1) 275 stations) stretchedRuns
 
-pub stretched-acceptable : Acceptable stretched stretchedRuns
+pub stretched-acceptable : Acceptable stretched stretchedRuns []
 unfolding opened
-stretched-acceptable = judged-pass stretched stretchedRuns .0 refl
+stretched-acceptable = judged-pass stretched stretchedRuns [] .0 refl
 
 abbrev pub plain : List ℕ
 plain = fileOf (studyWith (settingsWith 1000 1) 275 stations) tutRuns
 
-pub plain-acceptable : Acceptable plain tutRuns
+pub plain-acceptable : Acceptable plain tutRuns []
 unfolding opened
-plain-acceptable = judged-pass plain tutRuns .0 refl
+plain-acceptable = judged-pass plain tutRuns [] .0 refl
 
 abbrev pub unused : List ℕ
 unused = fileOf (studyWith (settingsWith 2000 1) 400 stations) tutRuns
 
-pub unused-acceptable : Acceptable unused tutRuns
+pub unused-acceptable : Acceptable unused tutRuns []
 unfolding opened
-unused-acceptable = judged-pass unused tutRuns .0 refl
+unused-acceptable = judged-pass unused tutRuns [] .0 refl
 
 -- ---- TUT1 with the rows of B and C exchanged
 abbrev pub exchangedRuns : Runs
@@ -293,14 +293,14 @@ exchanged =
     })
     exchangedRuns
 
-pub exchanged-acceptable : Acceptable exchanged exchangedRuns
+pub exchanged-acceptable : Acceptable exchanged exchangedRuns []
 unfolding opened
-exchanged-acceptable = judged-pass exchanged exchangedRuns .0 refl
+exchanged-acceptable = judged-pass exchanged exchangedRuns [] .0 refl
 
 -- ---- TUT1 with a wider run of zeros: refused as 10 of system 2
 abbrev pub flatRuns : Runs
 flatRuns = runsWith tutBase (replicate 8 (pos 0))
 
-pub flat-refused : judged tut flatRuns ≡ Stops (MissesTooHigh (Wider YearRound))
+pub flat-refused : judged tut flatRuns [] ≡ Stops (MissesTooHigh (Wider YearRound))
 unfolding opened
 flat-refused = refl

@@ -36,8 +36,8 @@ tut-five-first : BothFirst (studyOf tut) (studyOf five)
 unfolding opened
 tut-five-first = (refl, refl)
 
-five-within : DistancesWithin 1 (gridOf (studyOf tut)) (gridOf (studyOf five)) tutRuns fiveRuns (sheetOf tut tutRuns) (sheetOf five fiveRuns)
-five-within = only-directions-count tut five tutRuns fiveRuns tut-acceptable five-acceptable tut-five-first tut-five
+five-within : DistancesWithin 1 (gridOf (studyOf tut)) (gridOf (studyOf five)) tutRuns fiveRuns [] [] (sheetOf tut tutRuns []) (sheetOf five fiveRuns [])
+five-within = only-directions-count tut five tutRuns fiveRuns [] [] tut-acceptable five-acceptable tut-five-first tut-five
 
 -- ---- TUT1_P150 and TUT1_P200
 turned-further : (a : Asked) → Holds a (studyOf turned) (studyOf further) turnedRuns furtherRuns
@@ -52,8 +52,8 @@ turned-further-first : BothFirst (studyOf turned) (studyOf further)
 unfolding opened
 turned-further-first = (refl, refl)
 
-further-within : DistancesWithin 1 (gridOf (studyOf turned)) (gridOf (studyOf further)) turnedRuns furtherRuns (sheetOf turned turnedRuns) (sheetOf further furtherRuns)
-further-within = only-directions-count turned further turnedRuns furtherRuns turned-acceptable further-acceptable turned-further-first turned-further
+further-within : DistancesWithin 1 (gridOf (studyOf turned)) (gridOf (studyOf further)) turnedRuns furtherRuns [] [] (sheetOf turned turnedRuns []) (sheetOf further furtherRuns [])
+further-within = only-directions-count turned further turnedRuns furtherRuns [] [] turned-acceptable further-acceptable turned-further-first turned-further
 
 -- ---- TUT1 and TUT1_OTHER: other demand, TEC, stations, zones, money and solver
 tut-other : (a : Asked) → Holds a (studyOf tut) (studyOf other) tutRuns otherRuns
@@ -68,8 +68,8 @@ tut-other-first : BothFirst (studyOf tut) (studyOf other)
 unfolding opened
 tut-other-first = (refl, refl)
 
-other-within : DistancesWithin 1 (gridOf (studyOf tut)) (gridOf (studyOf other)) tutRuns otherRuns (sheetOf tut tutRuns) (sheetOf other otherRuns)
-other-within = only-directions-count tut other tutRuns otherRuns tut-acceptable other-acceptable tut-other-first tut-other
+other-within : DistancesWithin 1 (gridOf (studyOf tut)) (gridOf (studyOf other)) tutRuns otherRuns [] [] (sheetOf tut tutRuns []) (sheetOf other otherRuns [])
+other-within = only-directions-count tut other tutRuns otherRuns [] [] tut-acceptable other-acceptable tut-other-first tut-other
 
 -- ---- TUT1 and TUT1 with D fed from C: the marked circuit turned, and no wider distance moved; D's local distance moved 60 km
 tut-fed : (a : Asked) → a ≢ sameDirections → Holds a (studyOf tut) (studyOf fed) tutRuns fedRuns
@@ -83,7 +83,7 @@ tut-fed sameDirections n = absurd (n refl)
 fed-wider : (v : ℕ) → v < 4 → apart (widerMetres tutRuns YearRound v) (widerMetres fedRuns YearRound v) ≤ 1
 unfolding opened
 fed-wider =
-    own-directions-count tut fed tutRuns fedRuns tut-acceptable fed-acceptable (refl, refl) tut-fed (Wider YearRound) tt tt
+    own-directions-count tut fed tutRuns fedRuns [] [] tut-acceptable fed-acceptable (refl, refl) tut-fed (Wider YearRound) tt tt
     (four _ (λ p. refl) (λ p. refl) (λ p. refl) (λ p. absurd (marked (p .1))))
   where
     marked : _≡_ {A = ℕ} 1 0 → ⊥
@@ -132,22 +132,22 @@ otherSheet =
     ++ text "L SUBA 0 0\nL SUBB 0 0\nL SUBD 30000 468000\n"
     ++ text "R 0 240000\n"
 
-tut-sheet : sheetOf tut tutRuns ≡ tutSheet
+tut-sheet : sheetOf tut tutRuns [] ≡ tutSheet
 unfolding opened
 tut-sheet = refl
 
-five-sheet : sheetOf five fiveRuns ≡ fiveSheet
+five-sheet : sheetOf five fiveRuns [] ≡ fiveSheet
 unfolding opened
 five-sheet = refl
 
-other-sheet : sheetOf other otherRuns ≡ otherSheet
+other-sheet : sheetOf other otherRuns [] ≡ otherSheet
 unfolding opened
 other-sheet = refl
 
-five-shown : DistancesWithin 1 (gridOf (studyOf tut)) (gridOf (studyOf five)) tutRuns fiveRuns tutSheet fiveSheet
+five-shown : DistancesWithin 1 (gridOf (studyOf tut)) (gridOf (studyOf five)) tutRuns fiveRuns [] [] tutSheet fiveSheet
 five-shown = rw (tut-sheet, five-sheet) at five-within
 
-other-shown : DistancesWithin 1 (gridOf (studyOf tut)) (gridOf (studyOf other)) tutRuns otherRuns tutSheet otherSheet
+other-shown : DistancesWithin 1 (gridOf (studyOf tut)) (gridOf (studyOf other)) tutRuns otherRuns [] [] tutSheet otherSheet
 other-shown = rw (tut-sheet, other-sheet) at other-within
 
 -- line 2 of both, `G 2`, is of a zone whose TEC is all at B

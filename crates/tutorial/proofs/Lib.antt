@@ -6,3 +6,5 @@ pub mod Exercise
 pub mod Needed
 -- the tutorial's two backgrounds, by request 5: which one a circuit counts for, and that a closure can change it
 pub mod Backgrounds
+-- 02, request 6: the same case with a share file
+pub mod Sharing

@@ -176,9 +176,9 @@ metreRuns =
 abbrev metre : List ℕ
 metre = fileOf metreStudy metreRuns
 
-metre-acceptable : Acceptable metre metreRuns
+metre-acceptable : Acceptable metre metreRuns []
 unfolding opened
-metre-acceptable = judged-pass metre metreRuns .0 refl
+metre-acceptable = judged-pass metre metreRuns [] .0 refl
 
 -- HEAD is 5 m and 4 m away, and WEIR's local distance is -3 m and -2 m
 pub metre-is-reached : MetreIsReached

@@ -1,4 +1,5 @@
 // The library as C and Rust call it: a slice is a pointer and a count there, and an answer is four numbers.
+ghost use mathlib.Core.List.{[]};
 ghost use Rattle.meaning.specs.Study.{runsOf, threeRuns};
 ghost use Rattle.meaning.specs.Outcome.{answerOf};
 ghost use Rattle.meaning.specs.Calls.{Tells, ToldKept};
@@ -30,9 +31,9 @@ pub extern "C" fn wirepulley_write(
     out: &mut [u8],
     numbers: &mut [u64; 4],
 ) -> u64
-    ensures { λ r. ⌜ ToldKept (record { file = now (file .entry); runs = threeRuns (now (base .entry)) (now (wider .entry)) (now (local .entry)); before = now (out .entry); result = r; after = now (out .exit); numbers = now (numbers .exit) }) ⌝ }
+    ensures { λ r. ⌜ ToldKept (record { file = now (file .entry); runs = threeRuns (now (base .entry)) (now (wider .entry)) (now (local .entry)); share = []; before = now (out .entry); result = r; after = now (out .exit); numbers = now (numbers .exit) }) ⌝ }
 {
-    let answer = sheet::write(file, base, wider, local, &[], &[], out);
+    let answer = sheet::write(file, base, wider, local, &[], &[], &[], out);
     tell(answer, numbers)
 }
 
@@ -48,9 +49,28 @@ pub extern "C" fn wirepulley_write_five(
     out: &mut [u8],
     numbers: &mut [u64; 4],
 ) -> u64
-    ensures { λ r. ⌜ ToldKept (record { file = now (file .entry); runs = runsOf (now (base .entry)) (now (wider .entry)) (now (local .entry)) (now («peak_base» .entry)) (now («peak_wider» .entry)); before = now (out .entry); result = r; after = now (out .exit); numbers = now (numbers .exit) }) ⌝ }
+    ensures { λ r. ⌜ ToldKept (record { file = now (file .entry); runs = runsOf (now (base .entry)) (now (wider .entry)) (now (local .entry)) (now («peak_base» .entry)) (now («peak_wider» .entry)); share = []; before = now (out .entry); result = r; after = now (out .exit); numbers = now (numbers .exit) }) ⌝ }
 {
-    let answer = sheet::write(file, base, wider, local, peak_base, peak_wider, out);
+    let answer = sheet::write(file, base, wider, local, peak_base, peak_wider, &[], out);
+    tell(answer, numbers)
+}
+
+// The same with the bytes of a share file (02, request 6), none for no file; it counts in edition 2 alone.
+#[no_mangle]
+pub extern "C" fn wirepulley_write_shared(
+    file: &[u8],
+    base: &[i64],
+    wider: &[i64],
+    local: &[i64],
+    peak_base: &[i64],
+    peak_wider: &[i64],
+    share: &[u8],
+    out: &mut [u8],
+    numbers: &mut [u64; 4],
+) -> u64
+    ensures { λ r. ⌜ ToldKept (record { file = now (file .entry); runs = runsOf (now (base .entry)) (now (wider .entry)) (now (local .entry)) (now («peak_base» .entry)) (now («peak_wider» .entry)); share = now (share .entry); before = now (out .entry); result = r; after = now (out .exit); numbers = now (numbers .exit) }) ⌝ }
+{
+    let answer = sheet::write(file, base, wider, local, peak_base, peak_wider, share, out);
     tell(answer, numbers)
 }
 
@@ -63,9 +83,9 @@ pub extern "C" fn wirepulley_judge(
     local: &[i64],
     numbers: &mut [u64; 4],
 ) -> u64
-    ensures { λ r. ⌜ Tells (answerOf (now (file .entry)) (threeRuns (now (base .entry)) (now (wider .entry)) (now (local .entry)))) (now (numbers .exit)) r ⌝ }
+    ensures { λ r. ⌜ Tells (answerOf (now (file .entry)) (threeRuns (now (base .entry)) (now (wider .entry)) (now (local .entry))) []) (now (numbers .exit)) r ⌝ }
 {
-    let answer = sheet::judge(file, base, wider, local, &[], &[]);
+    let answer = sheet::judge(file, base, wider, local, &[], &[], &[]);
     tell(answer, numbers)
 }
 
@@ -80,8 +100,26 @@ pub extern "C" fn wirepulley_judge_five(
     peak_wider: &[i64],
     numbers: &mut [u64; 4],
 ) -> u64
-    ensures { λ r. ⌜ Tells (answerOf (now (file .entry)) (runsOf (now (base .entry)) (now (wider .entry)) (now (local .entry)) (now («peak_base» .entry)) (now («peak_wider» .entry)))) (now (numbers .exit)) r ⌝ }
+    ensures { λ r. ⌜ Tells (answerOf (now (file .entry)) (runsOf (now (base .entry)) (now (wider .entry)) (now (local .entry)) (now («peak_base» .entry)) (now («peak_wider» .entry))) []) (now (numbers .exit)) r ⌝ }
 {
-    let answer = sheet::judge(file, base, wider, local, peak_base, peak_wider);
+    let answer = sheet::judge(file, base, wider, local, peak_base, peak_wider, &[]);
+    tell(answer, numbers)
+}
+
+// The same with a share file.
+#[no_mangle]
+pub extern "C" fn wirepulley_judge_shared(
+    file: &[u8],
+    base: &[i64],
+    wider: &[i64],
+    local: &[i64],
+    peak_base: &[i64],
+    peak_wider: &[i64],
+    share: &[u8],
+    numbers: &mut [u64; 4],
+) -> u64
+    ensures { λ r. ⌜ Tells (answerOf (now (file .entry)) (runsOf (now (base .entry)) (now (wider .entry)) (now (local .entry)) (now («peak_base» .entry)) (now («peak_wider» .entry))) (now (share .entry))) (now (numbers .exit)) r ⌝ }
+{
+    let answer = sheet::judge(file, base, wider, local, peak_base, peak_wider, share);
     tell(answer, numbers)
 }

@@ -108,6 +108,12 @@ enum-known-cause-9 c = search needs
 refusal-requires-15 : tie.Need-refusal-requires-15
 refusal-requires-15 c κs = search needs
 
+enum-known-cause-10 : tie.Need-enum-known-cause-10
+enum-known-cause-10 c = search needs
+
+refusal-requires-16 : tie.Need-refusal-requires-16
+refusal-requires-16 c κs = search needs
+
 returns : tie.Need-returns
 unfolding values
 returns c = c .refusal .ensures ∙ sym (ap (λ (r : Refusal). values (Refused r)) (c .before .enum-told .given .1))
@@ -168,6 +174,10 @@ returns-15 : tie.Need-returns-15
 unfolding values
 returns-15 c = c .refusal15 .ensures ∙ sym (ap (λ (r : Refusal). values (Refused r)) (c .before .before .cause9 .given .1))
 
+returns-16 : tie.Need-returns-16
+unfolding values
+returns-16 c = c .refusal16 .ensures ∙ sym (ap (λ (r : Refusal). values (Refused r)) (c .before .before .cause10 .given .1))
+
 pub of-refusal-spec : {M : Type 1} → statement M
 of-refusal-spec =
     tie.close
@@ -206,6 +216,8 @@ of-refusal-spec =
     refusal-requires-14
     enum-known-cause-9
     refusal-requires-15
+    enum-known-cause-10
+    refusal-requires-16
     returns
     returns-2
     returns-3
@@ -220,4 +232,5 @@ of-refusal-spec =
     returns-12
     returns-13
     returns-14
-    returns-15)
+    returns-15
+    returns-16)

@@ -24,7 +24,7 @@ of-columns-requires : tie.Need-of-columns-requires
 of-columns-requires c κs = search needs
 
 returns : tie.Need-returns
-returns c = let d = c .before in frame-stopped _ _ (d .before .before .frame .ensures ∙ ap (frameStage _) (by-system length _ _ _ _ _)) (d .enum-told .given .1) (c .no-figures .ensures)
+returns c = let d = c .before in frame-stopped _ _ _ (d .before .before .frame .ensures ∙ ap (frameStage _) (by-system length _ _ _ _ _)) (d .enum-told .given .1) (c .no-figures .ensures)
 
 returns-2 : tie.Need-returns-2
 returns-2 c = search needs

@@ -11,10 +11,13 @@ use Rattle.charges.proofs.of_columns.Tie as tie
 -- the file, the runs, and what the judge gave of them
 module _ (c : tie.After-open) where
   abbrev s : tie.Start
-  s = c .before .before
+  s = c .before .before .before
 
   abbrev bytes : List ℕ
   bytes = s .args .file .now
+
+  abbrev share : List ℕ
+  share = s .args .share .now
 
   abbrev runs : Runs
   runs = let a = s .args in runsOf (a .base .now) (a .wider .now) (a .local .now) (a .peak-base .now) (a .peak-wider .now)
@@ -43,6 +46,9 @@ by-node-requires-2 c κs = search needs
 paying-at-peak-requires : tie.Need-paying-at-peak-requires
 paying-at-peak-requires c κs = search needs
 
+shares-in-requires : tie.Need-shares-in-requires
+shares-in-requires c κs = search needs
+
 figures-requires : tie.Need-figures-requires
 figures-requires c κs = search needs
 
@@ -50,16 +56,17 @@ returns : tie.Need-returns
 returns c =
     let d = c .before in
     let a = d .before .before in
-    stopped (bytes a) (runs a) (read a) (a .«open» .ensures) (d .enum-told .given .1) (c .no-figures .ensures)
+    stopped (bytes a) (runs a) (share a) (read a) (a .«open» .ensures) (d .enum-told .given .1) (c .no-figures .ensures)
 
 returns-2 : tie.Need-returns-2
 returns-2 c =
-    let k = c .before in
+    let h = c .before in
+    let k = h .before in
     let p = k .before .before in
     let t = p .before in
     let d = t .before .before .before .before .before in
     let a = d .before .before in
-    charged (bytes a) (runs a) (read a) (a .«open» .ensures) (d .enum-told2 .given .1) (t .by-node .ensures) (p .by-node2 .ensures) (k .paying-at-peak .ensures) (c .figures .ensures)
+    charged (bytes a) (runs a) (share a) (read a) (a .«open» .ensures) (d .enum-told2 .given .1) (t .by-node .ensures) (p .by-node2 .ensures) (k .paying-at-peak .ensures) (h .shares-in .ensures) (c .figures .ensures)
 
 pub of-columns-spec : {M : Type 1} → statement M
 of-columns-spec =
@@ -72,6 +79,7 @@ of-columns-spec =
     by-node-requires
     by-node-requires-2
     paying-at-peak-requires
+    shares-in-requires
     figures-requires
     returns
     returns-2)

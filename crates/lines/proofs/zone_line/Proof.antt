@@ -23,7 +23,7 @@ returns c =
     let t = c .before .before in
     let n = t .before .before .before in
     let a = n .before .before .args in
-    rw (zone-dash (a .edition) (a .side) (a .zone) (a .residual .0) (a .z) (t .if1 .taken))
+    rw (zone-dash (a .form) (a .side) (a .zone) (a .residual .0) (a .z) (t .if1 .taken))
     (longer (both (both (n .before .letter-of .ensures) (n .with-count .ensures)) (c .with-word .ensures)) (omega arith))
 
 with-figures-requires : tie.Need-with-figures-requires
@@ -34,7 +34,7 @@ returns-2 c =
     let e = c .before in
     let n = e .before .before .before in
     let a = n .before .before .args in
-    rw (zone-full (a .edition) (a .side) (a .zone) (a .residual .0) (a .z) (e .if1 .left))
+    rw (zone-full (a .form) (a .side) (a .zone) (a .residual .0) (a .z) (e .if1 .left))
     (longer (both (both (n .before .letter-of .ensures) (n .with-count .ensures)) (c .with-figures .ensures)) (omega arith))
 
 pub zone-line-spec : {M : Type 1} → statement M

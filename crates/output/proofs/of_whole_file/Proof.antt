@@ -71,7 +71,7 @@ with-runs-requires c κs =
     let r3 = r4 .before in
     let r2 = r3 .before in
     let r1 = r2 .before in
-    let s = r1 .before .before in
+    let s = r1 .before .before .before in
     runs-copied (s .args .file .now) (s .pre) (r1 .run-of .ensures) (r2 .run-of2 .ensures) (r3 .run-of3 .ensures) (r4 .run-of4 .ensures) (r5 .run-of5 .ensures)
 
 returns : tie.Need-returns

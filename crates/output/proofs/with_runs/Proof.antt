@@ -13,8 +13,8 @@ use Rattle.output.proofs.with_runs.Tie as tie
 
 -- with the file's own runs
 settled : (w : tie.After-write)
-    → _≡_ {A = Settled} (record { answer = w .write .result; buffer = w .write .last .1 .1 .1 .1 .1 .1 .0 }) (settle (w .before .before .before .args .file .now) (runsIn (w .before .before .before .args .file .now)) zeros)
-settled w = subst (λ (r : Runs). _≡_ {A = Settled} (record { answer = w .write .result; buffer = w .write .last .1 .1 .1 .1 .1 .1 .0 }) (settle (w .before .before .before .args .file .now) r zeros)) (w .before .before .before .pre) (w .write .ensures .contract)
+    → _≡_ {A = Settled} (record { answer = w .write .result; buffer = w .write .last .1 .1 .1 .1 .1 .1 .1 .0 }) (settle (w .before .before .before .before .args .file .now) (runsIn (w .before .before .before .before .args .file .now)) (w .before .before .before .before .args .share .now) zeros)
+settled w = subst (λ (r : Runs). _≡_ {A = Settled} (record { answer = w .write .result; buffer = w .write .last .1 .1 .1 .1 .1 .1 .1 .0 }) (settle (w .before .before .before .before .args .file .now) r (w .before .before .before .before .args .share .now) zeros)) (w .before .before .before .before .pre) (w .write .ensures .contract)
 
 slice-aggregate-write : tie.Need-slice-aggregate-write
 slice-aggregate-write c = search needs
@@ -35,13 +35,13 @@ returns : tie.Need-returns
 returns c =
     let w = c .before .before .before .before .before in
     subst (λ (t : List ℕ). Prints t (c .refused .result))
-    (refusal-printed (w .before .before .before .args .file .now) (w .write .result) _ (settled w) (c .before .before .answer .given .1))
+    (refusal-printed (w .before .before .before .before .args .file .now) (w .before .before .before .before .args .share .now) (w .write .result) _ (settled w) (c .before .before .answer .given .1))
     (c .refused .ensures)
 
 returns-2 : tie.Need-returns-2
 returns-2 c =
     let w = c .before .before .before .before in
-    sheet-printed (w .before .before .before .args .file .now) (w .write .result) _ (settled w) (c .before .answer2 .given .1)
+    sheet-printed (w .before .before .before .before .args .file .now) (w .before .before .before .before .args .share .now) (w .write .result) _ (settled w) (c .before .answer2 .given .1)
 
 pub with-runs-spec : {M : Type 1} → statement M
 with-runs-spec =

@@ -44,6 +44,33 @@ runs-as-requires-2 c κs = search needs
 variable-requires : tie.Need-variable-requires
 variable-requires c κs = search needs
 
+enum-told-4 : tie.Need-enum-told-4
+enum-told-4 c = search needs
+
+low-requires : tie.Need-low-requires
+low-requires c κs = search needs
+
+kept-requires-3 : tie.Need-kept-requires-3
+kept-requires-3 c κs = search needs
+
+enum-told-5 : tie.Need-enum-told-5
+enum-told-5 c = search needs
+
+low-requires-2 : tie.Need-low-requires-2
+low-requires-2 c κs = search needs
+
+kept-requires-4 : tie.Need-kept-requires-4
+kept-requires-4 c κs = search needs
+
+enum-known-counted-3 : tie.Need-enum-known-counted-3
+enum-known-counted-3 c = search needs
+
+same-requires : tie.Need-same-requires
+same-requires c κs = search needs
+
+kept-requires-5 : tie.Need-kept-requires-5
+kept-requires-5 c κs = search needs
+
 returns : tie.Need-returns
 unfolding partOf
 returns c = rw (c .enum-told .given .1) refl
@@ -64,6 +91,18 @@ returns-5 : tie.Need-returns-5
 unfolding partOf
 returns-5 c = rw (c .before .before .before .counted2 .given .1, ← c .before .runs-as2 .ensures) (c .variable .ensures)
 
+returns-6 : tie.Need-returns-6
+unfolding partOf
+returns-6 c = rw (c .before .before .enum-told4 .given .1, ← c .before .low .ensures) (c .kept3 .ensures)
+
+returns-7 : tie.Need-returns-7
+unfolding partOf
+returns-7 c = rw (c .before .before .enum-told5 .given .1, ← c .before .low2 .ensures) (c .kept4 .ensures)
+
+returns-8 : tie.Need-returns-8
+unfolding partOf
+returns-8 c = rw (c .before .before .before .counted3 .given .1, ← c .before .same .ensures) (c .kept5 .ensures)
+
 pub part-spec : {M : Type 1} → statement M
 part-spec =
     tie.close
@@ -81,8 +120,20 @@ part-spec =
     enum-known-counted-2
     runs-as-requires-2
     variable-requires
+    enum-told-4
+    low-requires
+    kept-requires-3
+    enum-told-5
+    low-requires-2
+    kept-requires-4
+    enum-known-counted-3
+    same-requires
+    kept-requires-5
     returns
     returns-2
     returns-3
     returns-4
-    returns-5)
+    returns-5
+    returns-6
+    returns-7
+    returns-8)

@@ -10,7 +10,7 @@ judge-requires : tie.Need-judge-requires
 judge-requires c κs = search needs
 
 returns : tie.Need-returns
-returns c = subst (JudgePromised _ _) (sym (c .judge .ensures)) (every-judge-promised _ _)
+returns c = subst (JudgePromised _ _ _) (sym (c .judge .ensures)) (every-judge-promised _ _ _)
 
 pub judge-spec : {M : Type 1} → statement M
 judge-spec = tie.close (tie.spec judge-requires returns)

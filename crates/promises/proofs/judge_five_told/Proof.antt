@@ -8,7 +8,7 @@ wirepulley-judge-five-requires : tie.Need-wirepulley-judge-five-requires
 wirepulley-judge-five-requires c κs = search needs
 
 returns : tie.Need-returns
-returns c = record { answer = _; promised = every-judge-promised _ _; told = c .wirepulley-judge-five .ensures }
+returns c = record { answer = _; promised = every-judge-promised _ _ _; told = c .wirepulley-judge-five .ensures }
 
 pub judge-five-told-spec : {M : Type 1} → statement M
 judge-five-told-spec = tie.close (tie.spec wirepulley-judge-five-requires returns)

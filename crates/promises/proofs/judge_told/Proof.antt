@@ -8,7 +8,7 @@ wirepulley-judge-requires : tie.Need-wirepulley-judge-requires
 wirepulley-judge-requires c κs = search needs
 
 returns : tie.Need-returns
-returns c = record { answer = _; promised = every-judge-promised _ _; told = c .wirepulley-judge .ensures }
+returns c = record { answer = _; promised = every-judge-promised _ _ _; told = c .wirepulley-judge .ensures }
 
 pub judge-told-spec : {M : Type 1} → statement M
 judge-told-spec = tie.close (tie.spec wirepulley-judge-requires returns)

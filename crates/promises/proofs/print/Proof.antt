@@ -8,7 +8,7 @@ print-requires : tie.Need-print-requires
 print-requires c κs = search needs
 
 returns : tie.Need-returns
-returns c = every-read-promised _ _ _ (search needs) (c .print .ensures)
+returns c = every-read-promised _ _ _ _ _ (search needs) (search needs) (c .print .ensures)
 
 pub print-spec : {M : Type 1} → statement M
 print-spec = tie.close (tie.spec print-requires returns)

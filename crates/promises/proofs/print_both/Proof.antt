@@ -11,7 +11,7 @@ print-requires-2 : tie.Need-print-requires-2
 print-requires-2 c κs = search needs
 
 returns : tie.Need-returns
-returns c = every-two-printed _ _ _ _ (c .before .print .ensures) (c .print2 .ensures)
+returns c = every-two-printed _ _ _ _ _ _ (c .before .print .ensures) (c .print2 .ensures)
 
 pub print-both-spec : {M : Type 1} → statement M
 print-both-spec = tie.close (tie.spec print-requires print-requires-2 returns)

@@ -9,10 +9,13 @@ use Rattle.sheet.proofs.judge.Tie as tie
 
 module _ (p : tie.After-charge) where
   abbrev s : tie.Start
-  s = p .before .before
+  s = p .before .before .before
 
   abbrev file : List ℕ
   file = s .args .file .now
+
+  abbrev share : List ℕ
+  share = s .args .share .now
 
   abbrev runs : Runs
   runs = runsOf (s .args .base .now) (s .args .wider .now) (s .args .local .now) (s .args .peak-base .now) (s .args .peak-wider .now)
@@ -32,12 +35,12 @@ text-length-requires c κs = search needs
 returns : tie.Need-returns
 returns c =
     let p = c .before .before .before in
-    refusal-answered (file p) (runs p) (p .charge .result) (p .charge .ensures) (c .before .judgement .given .1)
+    refusal-answered (file p) (runs p) (share p) (p .charge .result) (p .charge .ensures) (c .before .judgement .given .1)
 
 returns-2 : tie.Need-returns-2
 returns-2 c =
     let p = c .before .before .before in
-    sheet-answered (file p) (runs p) (p .charge .result) (p .charge .ensures) (c .before .enum-told .given .1) (c .text-length .ensures)
+    sheet-answered (file p) (runs p) (share p) (p .charge .result) (p .charge .ensures) (c .before .enum-told .given .1) (c .text-length .ensures)
 
 pub judge-spec : {M : Type 1} → statement M
 judge-spec =

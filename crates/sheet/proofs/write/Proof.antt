@@ -9,10 +9,13 @@ use Rattle.sheet.proofs.write.Tie as tie
 
 module _ (p : tie.After-charge) where
   abbrev s : tie.Start
-  s = p .before .before .before
+  s = p .before .before .before .before
 
   abbrev file : List ℕ
   file = s .args .file .now
+
+  abbrev share : List ℕ
+  share = s .args .share .now
 
   abbrev runs : Runs
   runs = runsOf (s .args .base .now) (s .args .wider .now) (s .args .local .now) (s .args .peak-base .now) (s .args .peak-wider .now)
@@ -35,7 +38,7 @@ written-requires c κs = search needs
 returns : tie.Need-returns
 returns c =
     let p = c .before .before .before in
-    record { contract = refusal-settled (file p) (runs p) (p .charge .result) (p .charge .ensures) (c .before .judgement .given .1) (out p) }
+    record { contract = refusal-settled (file p) (runs p) (share p) (p .charge .result) (p .charge .ensures) (c .before .judgement .given .1) (out p) }
 
 same-length : tie.Need-same-length
 same-length c = search needs
@@ -45,7 +48,7 @@ returns-2 c =
     let w = c .before .before in
     let e = w .before .before in
     let p = e .before .before in
-    record { contract = sheet-settled (file p) (runs p) (p .charge .result) (p .charge .ensures) (e .enum-told .given .1) (out p) _ (w .written .ensures) }
+    record { contract = sheet-settled (file p) (runs p) (share p) (p .charge .result) (p .charge .ensures) (e .enum-told .given .1) (out p) _ (w .written .ensures) }
 
 pub write-spec : {M : Type 1} → statement M
 write-spec =

@@ -19,6 +19,15 @@ slice-aggregate-fail c = search needs
 fail-requires : tie.Need-fail-requires
 fail-requires c κs = search needs
 
+slice-aggregate-read-share : tie.Need-slice-aggregate-read-share
+slice-aggregate-read-share c = search needs
+
+read-share-requires : tie.Need-read-share-requires
+read-share-requires c κs = search needs
+
+returns : tie.Need-returns
+returns c = search needs
+
 print-requires : tie.Need-print-requires
 print-requires c κs = search needs
 
@@ -40,11 +49,11 @@ slice-aggregate-fail-2 c = search needs
 fail-requires-2 : tie.Need-fail-requires-2
 fail-requires-2 c κs = search needs
 
-returns : tie.Need-returns
-returns c = search needs
-
 returns-2 : tie.Need-returns-2
 returns-2 c = search needs
+
+returns-3 : tie.Need-returns-3
+returns-3 c = search needs
 
 pub main-spec : {M : Type 1} → statement M
 main-spec =
@@ -55,6 +64,9 @@ main-spec =
     read-input-requires
     slice-aggregate-fail
     fail-requires
+    slice-aggregate-read-share
+    read-share-requires
+    returns
     print-requires
     sub-write-all
     part-write-all-start
@@ -62,5 +74,5 @@ main-spec =
     write-all-requires
     slice-aggregate-fail-2
     fail-requires-2
-    returns
-    returns-2)
+    returns-2
+    returns-3)

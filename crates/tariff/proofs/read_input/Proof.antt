@@ -7,10 +7,10 @@ use Rattle.tariff.proofs.read_input.Statement.{statement}
 use Rattle.tariff.proofs.read_input.Tie as tie
 
 abbrev Inv-loop : tie.InvT-loop
-Inv-loop buffer₀ count₀ buffer count = (length buffer ≡ length buffer₀) × (count ≤ length buffer₀)
+Inv-loop from₀ buffer₀ count₀ buffer count = (length buffer ≡ length buffer₀) × (count ≤ length buffer₀)
 
 abbrev μ-loop : tie.MeasureT-loop
-μ-loop buffer₀ count₀ buffer count = length buffer₀ - count
+μ-loop from₀ buffer₀ count₀ buffer count = length buffer₀ - count
 
 loop-holds : tie.Need-loop-holds Inv-loop μ-loop
 loop-holds c = search needs

@@ -10,6 +10,9 @@ slice-aggregate-judge c = search needs
 slice-aggregate-judge-2 : tie.Need-slice-aggregate-judge-2
 slice-aggregate-judge-2 c = search needs
 
+slice-aggregate-judge-3 : tie.Need-slice-aggregate-judge-3
+slice-aggregate-judge-3 c = search needs
+
 judge-requires : tie.Need-judge-requires
 judge-requires c κs = search needs
 
@@ -20,4 +23,4 @@ returns : tie.Need-returns
 returns c = tells-same _ _ (c .before .before .judge .ensures) (c .tell .ensures)
 
 pub wirepulley-judge-spec : {M : Type 1} → statement M
-wirepulley-judge-spec = tie.close (tie.spec slice-aggregate-judge slice-aggregate-judge-2 judge-requires tell-requires returns)
+wirepulley-judge-spec = tie.close (tie.spec slice-aggregate-judge slice-aggregate-judge-2 slice-aggregate-judge-3 judge-requires tell-requires returns)

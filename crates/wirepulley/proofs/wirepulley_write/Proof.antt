@@ -12,6 +12,9 @@ slice-aggregate-write c = search needs
 slice-aggregate-write-2 : tie.Need-slice-aggregate-write-2
 slice-aggregate-write-2 c = search needs
 
+slice-aggregate-write-3 : tie.Need-slice-aggregate-write-3
+slice-aggregate-write-3 c = search needs
+
 write-requires : tie.Need-write-requires
 write-requires c κs = search needs
 
@@ -28,4 +31,4 @@ returns c =
 
 pub wirepulley-write-spec : {M : Type 1} → statement M
 wirepulley-write-spec =
-    tie.close (tie.spec slice-aggregate-write slice-aggregate-write-2 write-requires tell-requires same-length returns)
+    tie.close (tie.spec slice-aggregate-write slice-aggregate-write-2 slice-aggregate-write-3 write-requires tell-requires same-length returns)

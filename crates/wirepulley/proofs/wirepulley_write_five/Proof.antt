@@ -6,6 +6,9 @@ use borrow.Author.Needs.{needs}
 use Rattle.wirepulley.proofs.wirepulley_write_five.Statement.{statement}
 use Rattle.wirepulley.proofs.wirepulley_write_five.Tie as tie
 
+slice-aggregate-write : tie.Need-slice-aggregate-write
+slice-aggregate-write c = search needs
+
 write-requires : tie.Need-write-requires
 write-requires c κs = search needs
 
@@ -22,4 +25,4 @@ returns c =
 
 pub wirepulley-write-five-spec : {M : Type 1} → statement M
 wirepulley-write-five-spec =
-    tie.close (tie.spec write-requires tell-requires same-length returns)
+    tie.close (tie.spec slice-aggregate-write write-requires tell-requires same-length returns)

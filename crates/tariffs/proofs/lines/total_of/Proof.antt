@@ -27,7 +27,7 @@ module _ (s : tie.Start) where
   br : Back r
   br = fit-back (sfits-abs r (omega (arith, s .pre .2)))
 
-  tariffs-most : natAbs (y +ℤ p) ≤ 20000000000
+  tariffs-most : natAbs (y +ℤ p) ≤ 660000000000
   tariffs-most = omega (arith, abs-add y p, s .pre .0, s .pre .1)
 
   both : SFits w64 (y +ℤ p)

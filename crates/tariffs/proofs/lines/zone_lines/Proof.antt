@@ -6,22 +6,23 @@ use native.Mathlib.Omega.{arith}
 use lib.ListN.{replicate}
 use Rattle.meaning.specs.declared.MicroPerKw.{MicroPerKw}
 use Rattle.meaning.specs.declared.WiderFigures.{WiderFigures}
+use Rattle.meaning.specs.declared.SharedFigures.{SharedFigures}
 use Rattle.meaning.specs.declared.ZoneFigures.{ZoneFigures}
 use Rattle.meaning.specs.Columns.{column, noLine}
 use Rattle.meaning.proofs.Columns.{column-none, column-turn}
 use Rattle.zones.specs.declared.ZoneSums.{ZoneSums}
-use Rattle.tariffs.specs.Sides.{sumsIn, widerAt, lineFrom}
+use Rattle.tariffs.specs.Sides.{sumsIn, widerAt, sharedAt, lineFrom}
 use Rattle.tariffs.proofs.lines.zone_lines.Statement.{statement}
 use Rattle.tariffs.proofs.lines.zone_lines.Tie as tie
 
-abbrev mine : MicroPerKw → List ZoneSums → (yearRound peak : List WiderFigures) → ℕ → ZoneFigures
-mine residual sums y p k = lineFrom (sumsIn sums k .weight) (widerAt y k) (widerAt p k) residual
+abbrev mine : MicroPerKw → List ZoneSums → (yearRound peak : List WiderFigures) → List SharedFigures → ℕ → ZoneFigures
+mine residual sums y p s k = lineFrom (sumsIn sums k .weight) (widerAt y k) (widerAt p k) (sharedAt s k) residual
 
 abbrev Inv-loop : tie.InvT-loop
-Inv-loop count residual sums year-round peak all₀ k₀ all k = (k ≤ count) × (all ≡ column noLine 32 k (mine residual sums year-round peak))
+Inv-loop count residual sums year-round peak shared all₀ k₀ all k = (k ≤ count) × (all ≡ column noLine 32 k (mine residual sums year-round peak shared))
 
 abbrev μ-loop : tie.MeasureT-loop
-μ-loop count residual sums year-round peak all₀ k₀ all k = count - k
+μ-loop count residual sums year-round peak shared all₀ k₀ all k = count - k
 
 no-line-requires : tie.Need-no-line-requires Inv-loop μ-loop
 no-line-requires c κs = tt
@@ -47,9 +48,15 @@ mul-zone-line-2 c = omega arith
 array-copy-out-zone-line-2 : tie.Need-array-copy-out-zone-line-2 Inv-loop μ-loop
 array-copy-out-zone-line-2 c = omega arith
 
+mul-zone-line-3 : tie.Need-mul-zone-line-3 Inv-loop μ-loop
+mul-zone-line-3 c = omega arith
+
+array-copy-out-zone-line-3 : tie.Need-array-copy-out-zone-line-3 Inv-loop μ-loop
+array-copy-out-zone-line-3 c = omega arith
+
 zone-line-requires : tie.Need-zone-line-requires Inv-loop μ-loop
 zone-line-requires c κs =
-    let l = c .before .before .before .before in
+    let l = c .before .before .before .before .before in
     let p = l .before .before .pre in
     (p .1 .each (l .loop .k) (omega arith), p .2 .each (l .loop .k) (omega arith), p .3)
 
@@ -67,7 +74,7 @@ loop-less c = omega arith
 
 loop-again : tie.Need-loop-again Inv-loop μ-loop
 loop-again c =
-    let l = c .before .before .before .before .before in
+    let l = c .before .before .before .before .before .before in
     (omega arith, column-turn noLine 32 _ (l .loop .k) (omega arith) (l .loop .inv .1) (c .zone-line .ensures))
 
 returns : tie.Need-returns Inv-loop μ-loop
@@ -89,6 +96,8 @@ zone-lines-spec =
     array-copy-out-zone-line
     mul-zone-line-2
     array-copy-out-zone-line-2
+    mul-zone-line-3
+    array-copy-out-zone-line-3
     zone-line-requires
     mul-all
     array-set-from-all

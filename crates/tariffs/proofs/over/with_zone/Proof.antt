@@ -8,7 +8,7 @@ use mir.Val.{SFits, toZ}
 use Rattle.integers.proofs.Laws.{abs-add, abs-mul-le, sfits-abs}
 use Rattle.integers.proofs.Machine.{Back, fit-back, of-nat}
 use Rattle.tariffs.specs.Sides.{metresFrom, withZone}
-use Rattle.tariffs.proofs.Laws.{near}
+use Rattle.tariffs.proofs.Laws.{zonal-near}
 use Rattle.tariffs.proofs.over.with_zone.Statement.{statement}
 use Rattle.tariffs.proofs.over.with_zone.Tie as tie
 
@@ -26,13 +26,13 @@ module _ (s : tie.Start) where
   bo = fit-back (sfits-abs old (omega (arith, s .pre .0 .metres, s .pre .0 .total)))
 
   bm : Back m
-  bm = fit-back (sfits-abs m (omega (arith, near (s .args .zone) (s .pre .1))))
+  bm = fit-back (sfits-abs m (omega (arith, zonal-near (s .args .zone) (s .pre .1))))
 
   bk : toZ w64 kw ≡ pos kw
   bk = of-nat kw (omega (arith, s .pre .1 .paying))
 
   one : natAbs (m *ℤ pos kw) ≤ 256000000000000000
-  one = abs-mul-le m (pos kw) (near (s .args .zone) (s .pre .1)) (s .pre .1 .paying)
+  one = abs-mul-le m (pos kw) (zonal-near (s .args .zone) (s .pre .1)) (s .pre .1 .paying)
 
   fits : SFits w64 (m *ℤ pos kw)
   fits = sfits-abs (m *ℤ pos kw) (omega (arith, one))

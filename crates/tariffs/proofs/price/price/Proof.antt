@@ -30,7 +30,7 @@ module _ (s : tie.Start) where
   bf : toZ w64 f ≡ pos f
   bf = of-nat f (omega (arith, s .pre .factor))
 
-  first-most : natAbs (m *ℤ pos k) ≤ 200000000000
+  first-most : natAbs (m *ℤ pos k) ≤ 6600000000000
   first-most = abs-mul-le m (pos k) (s .pre .near) (s .pre .constant)
 
   first : SFits w64 (m *ℤ pos k)

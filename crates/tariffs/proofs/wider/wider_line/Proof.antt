@@ -1,5 +1,4 @@
 use mathlib.Core.Path.{_≡_, ap}
-use borrow.Author.Needs.{needs}
 use Rattle.meaning.specs.Columns.{distance, price}
 use Rattle.tariffs.specs.Sides.{tariffFrom, widerFrom}
 use Rattle.tariffs.proofs.Laws.{priceable}
@@ -10,24 +9,19 @@ after-c-requires : tie.Need-after-c-requires
 after-c-requires c κs = (c .pre .0, c .pre .1)
 
 price-requires : tie.Need-price-requires
-price-requires c κs = let s = c .before in rw (c .after-c .ensures) (priceable (s .args .terms) (s .pre .1) (s .args .zone) (s .pre .0))
+price-requires c κs = let s = c .before in rw (c .after-c .ensures) (priceable (s .args .terms) (s .pre .1) (s .args .metres .0) (s .pre .0))
 
 -- the tariff
-priced : (c : tie.After-price) → (let s = c .before .before in c .price .result .0 ≡ tariffFrom (s .args .terms) (s .args .zone))
+priced : (c : tie.After-price) → (let s = c .before .before in c .price .result .0 ≡ tariffFrom (s .args .terms) (s .args .metres .0))
 unfolding tariffFrom
 priced c = rw (c .before .after-c .ensures) at (c .price .ensures)
-
-metres-of-requires : tie.Need-metres-of-requires
-metres-of-requires c κs = search needs
 
 returns : tie.Need-returns
 unfolding widerFrom
 returns c =
-    let p = c .before in
-    let m = ap distance (c .metres-of .ensures) in
-    let a = ap distance (p .before .after-c .ensures) in
-    let t = ap price (priced p) in
-    rw (t, a, m)
+    let a = ap distance (c .before .after-c .ensures) in
+    let t = ap price (priced c) in
+    rw (t, a)
 
 pub wider-line-spec : {M : Type 1} → statement M
-wider-line-spec = tie.close (tie.spec after-c-requires price-requires metres-of-requires returns)
+wider-line-spec = tie.close (tie.spec after-c-requires price-requires returns)

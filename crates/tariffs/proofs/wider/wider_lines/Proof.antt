@@ -5,30 +5,30 @@ use Prim.Native.Nat.{ℕ, _≤_, _-_}
 use native.Mathlib.Omega.{arith}
 use lib.IntN.{ℤ}
 use lib.ListN.{replicate}
+use Rattle.meaning.specs.declared.Metres.{Metres}
 use Rattle.meaning.specs.declared.WiderFigures.{WiderFigures}
-use Rattle.meaning.specs.Columns.{column}
+use Rattle.meaning.specs.Columns.{metresAt, column}
 use Rattle.meaning.specs.Charging.{noWider}
 use Rattle.meaning.proofs.Columns.{column-none, column-turn}
 use Rattle.rests.specs.Rests.{lessTo}
 use Rattle.rests.proofs.Laws.{less-none, less-turn}
-use Rattle.zones.specs.declared.ZoneSums.{ZoneSums}
 use Rattle.tariffs.specs.declared.wider.Terms.{Terms}
-use Rattle.tariffs.specs.Sides.{sumsIn, paysIn, tariffFrom, widerFrom, widerOver}
+use Rattle.tariffs.specs.Sides.{paysIn, tariffFrom, widerFrom, widerOver}
 use Rattle.tariffs.proofs.wider.wider_lines.Statement.{statement}
 use Rattle.tariffs.proofs.wider.wider_lines.Tie as tie
 
-abbrev line : Terms → List ZoneSums → ℕ → WiderFigures
-line terms sums k = widerFrom terms (sumsIn sums k)
+abbrev line : Terms → List Metres → ℕ → WiderFigures
+line terms metres k = widerFrom terms (metresAt metres k)
 
-abbrev price : Terms → List ZoneSums → ℕ → ℤ
-price terms sums k = tariffFrom terms (sumsIn sums k)
+abbrev price : Terms → List Metres → ℕ → ℤ
+price terms metres k = tariffFrom terms (metresAt metres k)
 
 abbrev Inv-loop : tie.InvT-loop
-Inv-loop count terms payers sums lines₀ left₀ k₀ lines left k =
-    (k ≤ count) × (lines ≡ column noWider 32 k (line terms sums)) × (left ≡ lessTo left₀ (payers .0) (price terms sums) (paysIn sums) k)
+Inv-loop count terms payers metres sums lines₀ left₀ k₀ lines left k =
+    (k ≤ count) × (lines ≡ column noWider 32 k (line terms metres)) × (left ≡ lessTo left₀ (payers .0) (price terms metres) (paysIn sums) k)
 
 abbrev μ-loop : tie.MeasureT-loop
-μ-loop count terms payers sums lines₀ left₀ k₀ lines left k = count - k
+μ-loop count terms payers metres sums lines₀ left₀ k₀ lines left k = count - k
 
 no-wider-requires : tie.Need-no-wider-requires Inv-loop μ-loop
 no-wider-requires c κs = tt
@@ -42,9 +42,15 @@ mul-zone c = omega arith
 array-copy-out-zone : tie.Need-array-copy-out-zone Inv-loop μ-loop
 array-copy-out-zone c = omega arith
 
+mul-wider-line : tie.Need-mul-wider-line Inv-loop μ-loop
+mul-wider-line c = omega arith
+
+array-copy-out-wider-line : tie.Need-array-copy-out-wider-line Inv-loop μ-loop
+array-copy-out-wider-line c = omega arith
+
 wider-line-requires : tie.Need-wider-line-requires Inv-loop μ-loop
 wider-line-requires c κs =
-    let l = c .before .before in
+    let l = c .before .before .before in
     let p = l .before .before .pre in
     (p .0 .each (l .loop .k) (omega arith), p .2)
 
@@ -64,14 +70,14 @@ loop-less : tie.Need-loop-less Inv-loop μ-loop
 loop-less c = omega arith
 
 -- a turn's tariff
-priced : (c : tie.After-wider-line Inv-loop μ-loop) → (let l = c .before .before .before in let a = l .before .before .args in c .wider-line .result .tariff .0 ≡ price (a .terms) (a .t1) (l .loop .k))
+priced : (c : tie.After-wider-line Inv-loop μ-loop) → (let l = c .before .before .before .before in let a = l .before .before .args in c .wider-line .result .tariff .0 ≡ price (a .terms) (a .t1) (l .loop .k))
 unfolding widerFrom
 priced c = ap (λ (w : WiderFigures). w .tariff .0) (c .wider-line .ensures)
 
 loop-again : tie.Need-loop-again Inv-loop μ-loop
 loop-again c =
     let w = c .before in
-    let l = w .before .before .before in (
+    let l = w .before .before .before .before in (
       omega arith,
       column-turn noWider 32 _ (l .loop .k) (omega arith) (l .loop .inv .1) (w .wider-line .ensures),
       less-turn _ _ _ _ (l .loop .k) (l .loop .inv .2) (priced w) (c .less .ensures),
@@ -94,6 +100,8 @@ wider-lines-spec =
     loop-holds
     mul-zone
     array-copy-out-zone
+    mul-wider-line
+    array-copy-out-wider-line
     wider-line-requires
     less-requires
     mul-lines

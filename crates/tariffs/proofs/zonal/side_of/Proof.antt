@@ -1,7 +1,6 @@
-use mathlib.Core.Path.{_≡_}
 use borrow.Author.Needs.{needs}
-use Rattle.zones.proofs.Laws.{zone-fits}
 use Rattle.tariffs.specs.Sides.{AllFit}
+use Rattle.tariffs.proofs.Laws.{sums-fit}
 use Rattle.tariffs.proofs.zonal.side_of.Statement.{statement}
 use Rattle.tariffs.proofs.zonal.side_of.Tie as tie
 
@@ -12,7 +11,7 @@ over-zones-requires : tie.Need-over-zones-requires
 over-zones-requires c κs =
     let s = c .before in
     let a = s .args in
-    let all : AllFit (c .sums-by-zone .result) = rw (c .sums-by-zone .ensures) (record { each = zone-fits (a .side) (a .zone) (a .weight) (a .paying) (a .wider .now) (a .nodes) }) in
+    let all : AllFit (c .sums-by-zone .result) = rw (c .sums-by-zone .ensures) (sums-fit (a .side) (a .nodes) (a .zone) (a .weight) (a .paying) (a .wider .now)) in
     (all, s .pre)
 
 returns : tie.Need-returns

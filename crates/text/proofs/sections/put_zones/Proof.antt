@@ -6,7 +6,6 @@ use native.Mathlib.Numerals.{add-one}
 use native.Mathlib.Omega.{arith}
 use Rattle.meaning.specs.Rows.{joined}
 use Rattle.meaning.specs.Text.{line}
-use Rattle.meaning.specs.declared.Edition.{Edition}
 use Rattle.meaning.specs.declared.Side.{Side}
 use Rattle.meaning.specs.declared.SideFigures.{SideFigures}
 use Rattle.meaning.specs.Sheet.{zoneRow, zoneLines}
@@ -18,17 +17,17 @@ use Rattle.text.proofs.sections.put_zones.Statement.{statement}
 use Rattle.text.proofs.sections.put_zones.Tie as tie
 
 -- the text of row k
-abbrev row : Edition → Side → SideFigures → ℕ → List ℕ
-row edition side f k = line (zoneRow edition side (sideIn f) k)
+abbrev row : Side → SideFigures → ℕ → List ℕ
+row side f k = line (zoneRow side (sideIn f) k)
 
 abbrev Inv-loop : tie.InvT-loop
-Inv-loop out₀ from edition side f at₀ k₀ out at k = (k ≤ f .zones) × Put (width * k) out₀ from (joined k (row edition side f)) out at
+Inv-loop out₀ from side f at₀ k₀ out at k = (k ≤ f .zones) × Put (width * k) out₀ from (joined k (row side f)) out at
 
 abbrev μ-loop : tie.MeasureT-loop
-μ-loop out₀ from edition side f at₀ k₀ out at k = f .zones - k
+μ-loop out₀ from side f at₀ k₀ out at k = f .zones - k
 
 loop-holds : tie.Need-loop-holds Inv-loop μ-loop
-loop-holds c = let a = c .before .args in (omega arith, rows-start (a .out .now) (a .from) (row (a .edition) (a .side) (a .t5)))
+loop-holds c = let a = c .before .args in (omega arith, rows-start (a .out .now) (a .from) (row (a .side) (a .t4)))
 
 mul-z : tie.Need-mul-z Inv-loop μ-loop
 mul-z c = search needs
@@ -62,7 +61,7 @@ loop-again c =
     let l = z .before .before .before .before in
     let a = l .before .before .args in
     let next = copied (z .zone-line .result) (rw (add-one (l .loop .k)) at (z .zone-line .ensures)) (omega arith) (p .put-line .ensures) in
-    (omega arith, longer (rows-more {w = width} (row (a .edition) (a .side) (a .t5)) (l .loop .k) (l .loop .inv .1) next) (omega arith))
+    (omega arith, longer (rows-more {w = width} (row (a .side) (a .t4)) (l .loop .k) (l .loop .inv .1) next) (omega arith))
 
 same-length : tie.Need-same-length Inv-loop μ-loop
 same-length c = kept (c .before .loop .inv .1)
@@ -72,7 +71,7 @@ unfolding zoneLines
 returns c =
     let l = c .before in
     let a = l .before .before .args in
-    let e : l .loop .k ≡ a .t5 .zones = omega arith in
+    let e : l .loop .k ≡ a .t4 .zones = omega arith in
     longer (rw e at (l .loop .inv .1)) (omega arith)
 
 pub put-zones-spec : {M : Type 1} → statement M

@@ -1,0 +1,3 @@
+pub mod Boundaries
+-- on the way there
+pub mod Parts

@@ -1,0 +1,3 @@
+pub mod ZoneLaws
+pub mod LoadLaws
+pub mod OfGrid
