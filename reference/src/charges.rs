@@ -1,11 +1,12 @@
 //! 01 steps 1 and 6 to 10: kilowatts, metres and money. 02, CR 1: "Type 3 TEC stays in scaling and zonal weights, and
 //! leaves both generation terms of C, wider and local income, and the residual's divisor". 02, CR 5: the same for each
-//! background of the edition.
+//! background of the edition. 02, CR 6: year round's generation split, where a share file is given.
 
 use crate::background::{Background, Running, LOCAL_SYSTEM};
 use crate::file::{Name, RUNS};
 use crate::quantities::{nearest, rounded_down, Kw, Metres, MicroPerKw};
 use crate::refusal::Refusal;
+use crate::sharing::{split, Share};
 use crate::tables::{Node, Plant, Station, Tables, PLANTS};
 
 /// 01 "The sheet": everything it prints.
@@ -37,11 +38,21 @@ pub struct ZoneLine {
     pub total: MicroPerKw,
 }
 
-/// 01 "The sheet": a zone's figures in one background.
+/// 01 "The sheet": a zone's figures in one background. 02, CR 6: "Year round's three on a `G` line become not-shared metres,
+/// these plus C and their tariff, with shared metres and tariff after them".
 #[derive(Clone, Copy, Debug, PartialEq, Eq)]
 pub struct ZoneFigures {
     pub metres: Metres,
     pub after_c: Metres,
+    pub tariff: MicroPerKw,
+    /// `None` where nothing is split.
+    pub shared: Option<SharedFigures>,
+}
+
+/// 02, CR 6: "shared metres and tariff".
+#[derive(Clone, Copy, Debug, PartialEq, Eq)]
+pub struct SharedFigures {
+    pub metres: Metres,
     pub tariff: MicroPerKw,
 }
 
@@ -239,12 +250,38 @@ pub fn residual(rest: i128, total: Kw) -> (MicroPerKw, i128) {
 
 /// 01 steps 7 and 8: the zones of one side in one background.
 struct Column {
+    /// 02, CR 6: not-shared metres, where they are split.
     zones: Vec<Zone>,
     /// C for generation ("add C") and its negative for demand ("subtract it").
     shift: i128,
+    /// 02, CR 6: the same zones with their shared metres, where they are split.
+    shared: Option<Vec<Zone>>,
 }
 
 impl Column {
+    /// 01 step 8: generation's zones, which "add C". 02, CR 6: "C is unchanged": it comes from the whole metres, which split
+    /// year round, and is added to those not shared.
+    fn of_generation(
+        tables: &Tables,
+        background: Background,
+        zones: Vec<Zone>,
+        c: Metres,
+        share: Option<&Share>,
+    ) -> Column {
+        match share {
+            Some(share) if background == Background::YearRound => {
+                let split = split(tables, share, &zones);
+                Column { zones: split.not_shared, shift: c.0, shared: Some(split.shared) }
+            }
+            _ => Column { zones, shift: c.0, shared: None },
+        }
+    }
+
+    /// 01 step 8: demand's zones, which "subtract it".
+    fn of_demand(zones: Vec<Zone>, c: Metres) -> Column {
+        Column { zones, shift: -c.0, shared: None }
+    }
+
     /// 01 step 8: metres after C.
     fn after_c(&self, metres: Metres) -> Metres {
         Metres(metres.0 + self.shift)
@@ -252,13 +289,42 @@ impl Column {
 
     /// 01 step 9: a zone's tariff.
     fn tariff(&self, tables: &Tables, metres: Metres) -> MicroPerKw {
-        tariff(self.after_c(metres), tables.settings.constant, tables.settings.wider_factor)
+        wider_tariff(tables, self.after_c(metres))
+    }
+
+    /// 01 step 10: the income of a side in a background, "zone tariffs times TEC". 02, CR 6: "demand 2's income counts" the
+    /// shared tariff on its own kilowatts.
+    fn income(&self, tables: &Tables) -> i128 {
+        let shared = self.shared.as_deref().unwrap_or_default();
+        over_chargeable(&self.zones, |metres| self.tariff(tables, metres).0)
+            + over_chargeable(shared, |metres| wider_tariff(tables, metres).0)
+    }
+
+    /// 01 "The sheet": the figures of a zone, by its place from 0.
+    fn figures(&self, tables: &Tables, place: usize) -> Option<ZoneFigures> {
+        let shared = self.shared.as_ref().and_then(|zones| zones[place].metres);
+        self.zones[place].metres.map(|metres| ZoneFigures {
+            metres,
+            after_c: self.after_c(metres),
+            tariff: self.tariff(tables, metres),
+            shared: shared.map(|metres| SharedFigures { metres, tariff: wider_tariff(tables, metres) }),
+        })
     }
 }
 
-/// 01 steps 6 to 10: the sheet from sound tables and the potentials at the head of each run. 02, CR 5: a column for each
-/// background, as they are printed.
+/// 01 step 9: the tariff of wider metres.
+fn wider_tariff(tables: &Tables, metres: Metres) -> MicroPerKw {
+    tariff(metres, tables.settings.constant, tables.settings.wider_factor)
+}
+
+/// 01 steps 6 to 10: the sheet without a share file.
 pub fn sheet(tables: &Tables, runs: [&[i64]; RUNS]) -> Sheet {
+    sheet_with_share(tables, runs, None)
+}
+
+/// 01 steps 6 to 10: the sheet from sound tables and the potentials at the head of each run. 02, CR 5: a column for each
+/// background, as they are printed. 02, CR 6: by a share file that 16 let pass, if there is one.
+pub fn sheet_with_share(tables: &Tables, runs: [&[i64]; RUNS], share: Option<&Share>) -> Sheet {
     let settings = &tables.settings;
     let p = settings.p as i128;
     let potentials = |system: u32| &runs[system as usize - 1][..tables.nodes.len()];
@@ -269,8 +335,8 @@ pub fn sheet(tables: &Tables, runs: [&[i64]; RUNS]) -> Sheet {
         let asked = zones(settings.demand_zones, &demand_rows(tables, wider));
         let metres = self::c(tables, *background, &supplied, &asked);
         c.push(metres);
-        generation.push(Column { zones: supplied, shift: metres.0 });
-        demand.push(Column { zones: asked, shift: -metres.0 });
+        generation.push(Column::of_generation(tables, *background, supplied, metres, share));
+        demand.push(Column::of_demand(asked, metres));
     }
     let local = local_charges(tables, potentials(LOCAL_SYSTEM));
     let target = |share: i128| settings.revenue as i128 * share * 1_000;
@@ -334,20 +400,13 @@ fn local_charges(tables: &Tables, local: &[i64]) -> LocalCharges {
 
 /// 01 steps 8 to 10 for one side: metres after C, tariffs, income, residual, totals. `target` has local income already
 /// taken off; `total` is what the residual is spread over. 02, CR 1: zones "with only type 3 TEC print as before", and add
-/// nothing to the income. 02, CR 5: "a total adds both and the residual".
+/// nothing to the income. 02, CR 5: "a total adds both and the residual". 02, CR 6: "the total leaves the shared tariff out".
 fn side(tables: &Tables, columns: &[Column], target: i128, total: Kw) -> Side {
-    let income: i128 =
-        columns.iter().map(|column| over_chargeable(&column.zones, |metres| column.tariff(tables, metres).0)).sum();
+    let income: i128 = columns.iter().map(|column| column.income(tables)).sum();
     let (residual, remainder) = residual(target - income, total);
-    let figures = |column: &Column, place: usize| {
-        column.zones[place].metres.map(|metres| ZoneFigures {
-            metres,
-            after_c: column.after_c(metres),
-            tariff: column.tariff(tables, metres),
-        })
-    };
     let line = |place: usize| {
-        let figures = columns.iter().map(|column| figures(column, place)).collect::<Option<Vec<ZoneFigures>>>()?;
+        let figures =
+            columns.iter().map(|column| column.figures(tables, place)).collect::<Option<Vec<ZoneFigures>>>()?;
         let total = MicroPerKw(figures.iter().map(|figures| figures.tariff.0).sum::<i128>() + residual.0);
         Some(ZoneLine { figures, residual, total })
     };

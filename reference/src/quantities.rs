@@ -61,6 +61,9 @@ pub const PEAK_LEAD: i128 = 400_000_000;
 /// 02, CR 5: a year round flow greater in magnitude than peak's by more than this counts for year round, mW.
 pub const YEAR_ROUND_LEAD: i128 = 800_000_000;
 
+/// 02, CR 6: "each plant type's load factor, 0 to 1,000 thousandths".
+pub const LOAD_FACTOR: (u32, u32) = (0, 1_000);
+
 /// 01 "Quantities": a number lies within its range, both ends included.
 pub fn within<T: PartialOrd>(number: T, range: (T, T)) -> bool {
     range.0 <= number && number <= range.1

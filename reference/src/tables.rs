@@ -44,6 +44,14 @@ impl Plant {
             | Plant::Other => true,
         }
     }
+
+    /// 02, CR 6: "low carbon TEC (types 1, 2, 4) and carbon TEC (the rest)".
+    pub fn is_low_carbon(self) -> bool {
+        match self {
+            Plant::Intermittent | Plant::NuclearAndCcs | Plant::Hydro => true,
+            Plant::Interconnector | Plant::PumpedStorage | Plant::Peaking | Plant::Other => false,
+        }
+    }
 }
 
 /// A node row that passed refusal 3. Zones count from 1.

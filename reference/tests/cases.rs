@@ -5,7 +5,7 @@ mod common;
 use common::*;
 use reference::file::{Case, Edition, Version};
 use reference::tables::INTERCONNECTOR;
-use reference::{judge_case, program_output, solver, text};
+use reference::{judge_case, program_output, program_output_with_share, solver, text};
 
 const NAMES: [&str; 17] = [
     "KILN",
@@ -246,6 +246,27 @@ fn tut3_e2_is_stored_as_a_file() {
 }
 
 #[test]
+fn tut3_share_by_hand() {
+    // TUT3_E2 and a share file: 5,000 m all low carbon, and two thirds of 2,500 m. C, demand and local stay.
+    let share = text::share::make(&folder_file("TUT3_SHARE.share.txt")).unwrap();
+    assert_eq!(share, folder_file("TUT3_SHARE.share"));
+    let sheet = printed_with_share(&named_case("TUT3_E2"), &share);
+    assert_eq!(format!("{sheet}\n").into_bytes(), folder_file("TUT3_SHARE.sheet"));
+    let whole = printed(&named_case("TUT3_E2"));
+    let changed: Vec<&str> =
+        sheet.lines().zip(whole.lines()).filter(|(shared, whole)| shared != whole).map(|(shared, _)| shared).collect();
+    assert_eq!(
+        changed,
+        [
+            "G 1 0 -7819 -140742 -1666 4227 76086 1666 29988 2102079 2037423",
+            "G 2 15000 7181 129258 -6666 -773 -13914 1666 29988 2102079 2217423",
+            "G 4 2500 -5319 -95742 -7500 -1607 -28926 0 0 2102079 1977411",
+            "R 242640 200000",
+        ]
+    );
+}
+
+#[test]
 fn tut3_e2_as_the_sources_have_it() {
     is(
         "TUT3_E2",
@@ -463,4 +484,18 @@ fn longest_is_stored_with_its_sheet() {
 #[test]
 fn longest_of_edition_2_is_stored_with_its_sheet() {
     is_stored_with_its_sheet("LONGEST_EDITION_2", &reference::longest::longest_of_edition_2(), 61_072, 15_145);
+}
+
+#[test]
+fn longest_share_is_stored_with_its_sheet() {
+    let (case, share) = reference::longest::longest_share();
+    assert_eq!((case.nodes.len(), case.circuits.len(), case.stations.len()), (256, 320, 512));
+    assert_eq!((case.bytes().len(), share.bytes().len()), (61_072, 156));
+    assert_eq!(case.bytes(), folder_file("LONGEST_SHARE.case"));
+    assert_eq!(share.bytes(), folder_file("LONGEST_SHARE.share"));
+    let sheet = program_output_with_share(&case.bytes(), &share.bytes());
+    assert_eq!(sheet.len(), 15_814);
+    assert_eq!(sheet, folder_file("LONGEST_SHARE.sheet"));
+    // The longest line, without its line feed.
+    assert_eq!(String::from_utf8(sheet).unwrap().lines().map(str::len).max(), Some(115));
 }

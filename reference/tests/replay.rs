@@ -4,7 +4,9 @@ mod common;
 
 use common::{folder_file, sheet_of};
 use reference::program_output;
-use reference::replay::{archive, cases, entries, expected, ArchiveError, Labelled, Told, LONGEST};
+use reference::replay::{
+    archive, cases, entries, expected, ArchiveError, Entry, Labelled, Told, LONGEST, LONGEST_SHARE,
+};
 use std::collections::{BTreeMap, HashMap};
 
 /// A stored file of the folder of data.
@@ -44,11 +46,11 @@ fn every_answer_occurs() {
     let mut counts = BTreeMap::new();
     let cases = cases();
     // As README.md says.
-    assert_eq!(cases.len(), 4_647);
+    assert_eq!(cases.len(), 5_100);
     for case in cases {
         *counts.entry(number(&case)).or_insert(0) += 1;
     }
-    assert_eq!(counts.keys().copied().collect::<Vec<u32>>(), (0..=11).chain(13..=15).collect::<Vec<u32>>());
+    assert_eq!(counts.keys().copied().collect::<Vec<u32>>(), (0..=11).chain(13..=16).collect::<Vec<u32>>());
     assert!(counts.values().all(|count| *count >= 5), "{counts:?}");
 }
 
@@ -60,7 +62,7 @@ fn no_label_and_no_file_stands_twice() {
     let mut twice = Vec::new();
     for case in &cases {
         twice.extend(labels.insert(&case.label, &case.label));
-        twice.extend(files.insert(&case.file, &case.label));
+        twice.extend(files.insert((&case.file, &case.share), &case.label));
     }
     assert!(twice.is_empty(), "{twice:#?}");
 }
@@ -70,12 +72,14 @@ fn lengths_go_from_nothing_to_the_longest() {
     let lengths: Vec<usize> = cases().iter().map(|case| case.file.len()).collect();
     assert_eq!(lengths.iter().min(), Some(&0));
     assert_eq!(lengths.iter().max(), Some(&LONGEST));
+    let lengths: Vec<usize> = cases().iter().map(|case| case.share.len()).collect();
+    assert_eq!(lengths.iter().max(), Some(&LONGEST_SHARE));
 }
 
 #[test]
 fn stored_files_are_made_again() {
     let made = archive(&cases());
-    assert!(made.len() < 7_500_000, "{}", made.len());
+    assert!(made.len() < 8_000_000, "{}", made.len());
     assert!(stored("stdin") == made, "crates/replay/stdin is another archive");
     assert!(stored("stdout") == expected(&made).unwrap(), "crates/replay/stdout is another text");
 }
@@ -83,15 +87,22 @@ fn stored_files_are_made_again() {
 #[test]
 fn archives_come_back() {
     let cases = cases();
-    let files: Vec<&[u8]> = cases.iter().map(|case| &case.file[..]).collect();
-    assert_eq!(entries(&archive(&cases)), Ok(files));
+    let made: Vec<Entry> = cases.iter().map(|case| Entry { file: &case.file, share: &case.share }).collect();
+    assert_eq!(entries(&archive(&cases)), Ok(made));
     assert_eq!(entries(&[]), Ok(vec![]));
-    assert_eq!(entries(&[0, 0, 0, 0]), Ok(vec![&[][..]]));
-    assert_eq!(entries(&[0, 0, 0, 0, 2, 0, 0, 0, 7]), Err(ArchiveError { entry: 2 }));
-    assert_eq!(entries(&[0, 0, 0]), Err(ArchiveError { entry: 1 }));
-    let long = [&(LONGEST as u32 + 1).to_le_bytes()[..], &[0; LONGEST + 1]].concat();
-    assert_eq!(entries(&long), Err(ArchiveError { entry: 1 }));
-    assert_eq!(expected(&[0, 0, 0, 0, 0, 0, 0, 0]), Ok(b"refused 1 0 0\nrefused 1 0 0\n".to_vec()));
+    let nothing = Entry { file: &[], share: &[] };
+    assert_eq!(entries(&[0; 8]), Ok(vec![nothing]));
+    let both = [1, 0, 0, 0, 7, 2, 0, 0, 0, 8, 9];
+    assert_eq!(entries(&both), Ok(vec![Entry { file: &[7], share: &[8, 9] }]));
+    for length in 1..both.len() {
+        assert_eq!(entries(&both[..length]), Err(ArchiveError { entry: 1 }), "{length}");
+        assert_eq!(entries(&[&[0; 8], &both[..length]].concat()), Err(ArchiveError { entry: 2 }), "{length}");
+    }
+    let of = |length: usize| [&(length as u32).to_le_bytes()[..], &vec![0; length]].concat();
+    assert!(entries(&[of(LONGEST), of(LONGEST_SHARE)].concat()).is_ok());
+    assert_eq!(entries(&[of(LONGEST + 1), of(0)].concat()), Err(ArchiveError { entry: 1 }));
+    assert_eq!(entries(&[of(0), of(LONGEST_SHARE + 1)].concat()), Err(ArchiveError { entry: 1 }));
+    assert_eq!(expected(&[0; 16]), Ok(b"refused 1 0 0\nrefused 1 0 0\n".to_vec()));
 }
 
 #[test]
@@ -103,10 +114,13 @@ fn the_first_sheet_is_kiln_s() {
 }
 
 #[test]
-fn edition_2_stands_behind_all_others() {
-    // 02, CR 5 has come last; the numbers of the others stay.
-    let place = cases().iter().position(|case| case.label == "TUT3_E2");
-    assert_eq!(place, Some(3_337));
+fn later_requests_stand_behind_earlier_ones() {
+    // 02, CR 5 and CR 6 have come last; the numbers of the others stay, and they have no share file.
+    let cases = cases();
+    let place = |label: &str| cases.iter().position(|case| case.label == label);
+    assert_eq!((place("TUT3_E2"), place("TUT3_SHARE")), (Some(3_337), Some(4_647)));
+    assert!(cases[..4_647].iter().all(|case| case.share.is_empty()));
+    assert!(cases[4_647..].iter().all(|case| !case.share.is_empty()));
 }
 
 /// A sheet of edition 1 as edition 2 prints it where year round has no distances: C, metres, metres after C and tariff 0.

@@ -5,7 +5,7 @@ mod common;
 use common::*;
 use reference::file::{Case, Edition, Version};
 use reference::random::{random, random_of_edition_2, random_of_version_2, spoiled, Chance};
-use reference::text::{make, show};
+use reference::text::{make, share, show};
 
 /// Showing and making again gives the same bytes.
 fn comes_back(file: &[u8]) {
@@ -97,6 +97,94 @@ fn damaged_files_come_back() {
 #[test]
 fn every_stored_case_comes_back() {
     reference::replay::cases().iter().for_each(|case| comes_back(&case.file));
+}
+
+/// Showing a share file and making it again gives the same bytes.
+fn share_comes_back(file: &[u8]) {
+    let text = share::show(file);
+    assert_eq!(share::make(text.as_bytes()).as_deref(), Ok(file), "{text}");
+}
+
+#[test]
+fn every_stored_share_file_comes_back() {
+    reference::replay::cases().iter().for_each(|case| share_comes_back(&case.share));
+}
+
+#[test]
+fn any_bytes_of_a_share_file_come_back() {
+    let chance = &mut Chance(6);
+    for length in 0..400 {
+        share_comes_back(&(0..length).map(|_| chance.bits() as u8).collect::<Vec<u8>>());
+    }
+}
+
+#[test]
+fn share_files_as_texts() {
+    let text = share::show(&folder_file("TUT3_SHARE.share"));
+    let tutorial = String::from_utf8(folder_file("TUT3_SHARE.share.txt")).unwrap();
+    assert_eq!(lines(&text), lines(&tutorial));
+    assert_eq!(
+        text,
+        "\
+# zone, the next one inward: 0 for the centre and for zones without TEC
+zone 1 2
+zone 2 4
+zone 3 0
+zone 4 0
+
+# plant type, load factor in thousandths
+load 1 385
+load 2 763
+load 3 0
+load 4 424
+load 5 107
+load 6 3
+load 7 486
+"
+    );
+    assert_eq!(share::show(&[]), "# empty, as if there were none\nbytes\n");
+    assert_eq!(
+        share::show(&[1, 2, 255]),
+        "# 3 bytes, a wrong length: refused 16 0 0 in edition 2\nbytes\nbytes 0102ff\n"
+    );
+    // As long as a file of 1 zone and of 32, and one number shorter and longer than these.
+    for (length, word) in [(28, "bytes"), (32, "zone"), (156, "zone"), (160, "bytes")] {
+        assert!(share::show(&vec![0; length]).contains(&format!("\n{word}")), "{length}");
+    }
+}
+
+/// The faults of the tutorial's share text with one line put for another.
+fn share_faults(line: &str, instead: &str) -> Vec<String> {
+    let text = String::from_utf8(folder_file("TUT3_SHARE.share.txt")).unwrap();
+    let text: Vec<&str> = text.lines().map(|old| if old == line { instead } else { old }).collect();
+    assert!(text.contains(&instead), "no line {line}");
+    share::make(text.join("\n").as_bytes()).err().unwrap_or_default().iter().map(|fault| fault.to_string()).collect()
+}
+
+#[test]
+fn faults_of_share_texts_name_their_lines() {
+    let (zone, load) = ("zone 2 4", "load 7 486");
+    assert_eq!(share_faults(zone, zone), Vec::<String>::new());
+    assert_eq!(share_faults(zone, "zone 2 4_294_967_295 # none"), Vec::<String>::new());
+    assert_eq!(share_faults(zone, "zone 2")[0], "line 6: 1 fields where 2 are wanted: zone, the next one inward");
+    assert_eq!(share_faults(zone, "zone 2 x")[0], "line 6: x isn't a whole number");
+    assert_eq!(share_faults(zone, "zone 2 4294967296")[0], "line 6: 4294967296 doesn't fit u32");
+    assert_eq!(share_faults(zone, "next 2 4")[0], "line 6: unknown word next");
+    assert_eq!(
+        share_faults(zone, "zone 3 4")[0],
+        "line 6: zone 3 where 2 comes next: they stand in rising order from 1"
+    );
+    assert_eq!(
+        share_faults("zone 1 2", "zone 0 2")[0],
+        "line 5: zone 0 where 1 comes next: they stand in rising order from 1"
+    );
+    assert_eq!(share_faults(zone, "zone 33 4")[0], "line 6: zone 33: there are at most 32");
+    assert_eq!(share_faults(load, "load 8 486"), ["line 17: plant type 8: there are at most 7"]);
+    assert_eq!(share_faults(load, ""), ["line 17: 6 load factors where 7 are wanted, one a plant type"]);
+    assert_eq!(share_faults(load, "bytes 00"), ["line 17: bytes stand alone: no other lines beside them"]);
+    assert_eq!(share_faults(load, "bytes 0"), ["line 17: 0 isn't pairs of hexadecimal digits"]);
+    assert_eq!(share::make(b"").unwrap_err()[0].to_string(), "line 1: no zone stands here");
+    assert_eq!(share::make(b"bytes"), Ok(vec![]));
 }
 
 #[test]

@@ -1,7 +1,8 @@
 //! Makes, shows, solves and compares case files. Standard input to standard output; faults to standard error.
 
-use reference::file::{whole_case, Case, Version};
-use reference::{beside, largest, longest, random, solver, standard, text};
+use reference::file::{whole_case, Case, Edition, Version};
+use reference::tables::{sound_tables, Tables};
+use reference::{beside, largest, longest, random, random_share, solver, standard, text};
 use std::process::ExitCode;
 
 const USE: &str = "\
@@ -16,10 +17,16 @@ case largest_2       > file   the largest of version 2: 256 nodes, 480 circuits,
 case largest_edition_2 > file   the largest of edition 2: 256 nodes, 320 circuits, 512 stations
 case longest         > file   the counts of the largest, and a sheet nearly as long as one can be
 case longest_edition_2 > file   the same of edition 2
+case longest_share   > file   the same with a share file, which `case share longest` makes
 case random SEED [MOST_NODES] > file   a case by chance, solved
 case random_2 SEED [MOST_NODES] > file   the same in version 2, with factors
 case edition_2 SEED [MOST_NODES] > file   the same of edition 2
-case spoil SEED < file > file   a whole file with one thing changed by chance";
+case spoil SEED < file > file   a whole file with one thing changed by chance
+case share make < text > share.bin   the share file a text describes (request 6)
+case share show < share.bin > text   a text that describes a share file, damaged ones too
+case share random SEED < file > share.bin   a sound share file by chance for a case of edition 2
+case share spoil SEED < file > share.bin   the same with a fault that 16 tells
+case share longest > share.bin   the share file of `case longest_share`";
 
 fn main() -> ExitCode {
     let words: Vec<String> = std::env::args().skip(1).collect();
@@ -35,6 +42,7 @@ fn main() -> ExitCode {
         ["largest_2"] => Ok(largest::largest_of_version_2().bytes()),
         ["largest_edition_2"] => Ok(largest::largest_of_edition_2().bytes()),
         ["longest_edition_2"] => Ok(longest::longest_of_edition_2().bytes()),
+        ["longest_share"] => Ok(longest::longest_share().0.bytes()),
         ["longest"] => Ok(longest::longest().bytes()),
         ["random", seed] => by_chance(random::random, seed, "12"),
         ["random", seed, nodes] => by_chance(random::random, seed, nodes),
@@ -43,6 +51,7 @@ fn main() -> ExitCode {
         ["edition_2", seed] => by_chance(random::random_of_edition_2, seed, "12"),
         ["edition_2", seed, nodes] => by_chance(random::random_of_edition_2, seed, nodes),
         ["spoil", seed] => standard::input().and_then(|file| spoil(&file, seed)),
+        ["share", ref words @ ..] => share(words),
         _ => Err(USE.to_string()),
     };
     standard::finish(output)
@@ -107,6 +116,27 @@ fn by_chance(case: fn(u64, u64) -> Case, seed: &str, nodes: &str) -> Result<Vec<
 fn spoil(file: &[u8], seed: &str) -> Result<Vec<u8>, String> {
     let case = whole_case(file).ok_or("not a whole file")?;
     Ok(random::spoiled(&case, number(seed)?).bytes())
+}
+
+/// 02, CR 6: share files, by the words behind `share`.
+fn share(words: &[&str]) -> Result<Vec<u8>, String> {
+    match words {
+        ["make"] => standard::input().and_then(|text| text::share::make(&text).map_err(|faults| joined(&faults))),
+        ["show"] => standard::input().map(|file| text::share::show(&file).into_bytes()),
+        ["random", seed] => Ok(random_share::sound(&tables_to_share(&standard::input()?)?, number(seed)?).bytes()),
+        ["spoil", seed] => Ok(random_share::spoiled(&tables_to_share(&standard::input()?)?, number(seed)?).bytes),
+        ["longest"] => Ok(longest::longest_share().1.bytes()),
+        _ => Err(USE.to_string()),
+    }
+}
+
+/// 02, CR 6: the tables of a case that a share file says something to.
+fn tables_to_share(file: &[u8]) -> Result<Tables, String> {
+    let case = whole_case(file).ok_or("not a whole file")?;
+    match case.edition {
+        Edition::One => Err("a case of edition 1: a share file changes nothing there".to_string()),
+        Edition::Two => sound_tables(&case).map_err(|refusal| refusal.to_string()),
+    }
 }
 
 /// A number among the arguments.

@@ -4,7 +4,7 @@ use reference::{replay, standard};
 use std::process::ExitCode;
 
 const USE: &str = "\
-replay make   > archive          the labelled cases: for each a u32 length and its bytes
+replay make   > archive          the labelled cases: for each a u32 length and its bytes, then the same of its share file
 replay expect < archive > text   what the program prints for each case, one after the other
 replay list                      one line a case: number, label, first line printed";
 

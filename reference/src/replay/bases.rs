@@ -234,6 +234,16 @@ pub fn station(identifier: &str, node: &str, tec: u32) -> StationRow {
     StationRow { identifier: name(identifier), node: name(node), plant: 7, tec }
 }
 
+/// Every station divided, its TEC shared as said, under names by their turns.
+pub fn divide(case: &mut Case, share: fn(u32) -> Vec<u32>) {
+    for row in std::mem::take(&mut case.stations) {
+        for (turn, tec) in share(row.tec).into_iter().enumerate() {
+            let identifier = name(&format!("P{}_{turn}", case.stations.len()));
+            case.stations.push(StationRow { identifier, tec, ..row.clone() });
+        }
+    }
+}
+
 /// Every circuit with its ends turned round: the same network.
 pub fn turned(case: &mut Case) {
     case.circuits.iter_mut().for_each(turn);

@@ -1,6 +1,7 @@
 //! A fixed list of labelled cases, the archive that holds their files, and the text the program prints for them.
 //!
-//! An archive is one entry a case: a u32 length, little-endian, and that many bytes, a case file, whole or damaged.
+//! An archive is one entry a case: a u32 length, little-endian, and that many bytes, a case file, whole or damaged; then the
+//! same for its share file (02, CR 6), of length 0 where there is none.
 //! The text is what the program prints for each entry, one after the other. Where 01 or 02 decides the answer of a case,
 //! it stands beside the case, written from their words and not from the judgement; a test compares the two.
 
@@ -8,6 +9,7 @@ pub mod bases;
 
 mod backgrounds;
 mod bands;
+mod boundaries;
 mod chance;
 mod circuits;
 mod directions;
@@ -26,18 +28,22 @@ mod orders;
 mod proposals;
 mod scaling;
 mod settings;
+mod share_files;
 mod stations;
 mod systems;
 mod tariffs;
 mod versions;
 mod walks;
+mod zones;
 
 use crate::file::Case;
-use crate::{program_output, solver};
+use crate::{program_output_with_share, solver};
 use std::fmt;
 
-/// The greatest length of an entry.
+/// The greatest length of an entry's case file.
 pub const LONGEST: usize = 65_536;
+/// The greatest length of an entry's share file.
+pub const LONGEST_SHARE: usize = 256;
 
 /// What 01 and 02 say of a case.
 #[derive(Clone, Copy, Debug, PartialEq, Eq)]
@@ -57,14 +63,20 @@ const ONE: Told = Told::Refused(1, 0, 0);
 pub struct Labelled {
     pub label: String,
     pub file: Vec<u8>,
+    /// 02, CR 6: the bytes of `share.bin`, empty where there is none.
+    pub share: Vec<u8>,
     pub told: Told,
 }
 
 impl Labelled {
-    /// The first line that the program prints for the case.
+    /// What the program prints for the case.
+    pub fn output(&self) -> String {
+        String::from_utf8_lossy(&program_output_with_share(&self.file, &self.share)).into_owned()
+    }
+
+    /// The first line of it.
     pub fn first_line(&self) -> String {
-        let output = String::from_utf8_lossy(&program_output(&self.file)).into_owned();
-        output.lines().next().unwrap_or_default().to_string()
+        self.output().lines().next().unwrap_or_default().to_string()
     }
 }
 
@@ -93,6 +105,8 @@ pub fn cases() -> Vec<Labelled> {
         backgrounds::add,
         systems::add,
         tariffs::add,
+        boundaries::add,
+        share_files::add,
     ];
     let mut list = List::default();
     groups.iter().for_each(|add| add(&mut list));
@@ -104,9 +118,14 @@ pub fn cases() -> Vec<Labelled> {
 struct List(Vec<Labelled>);
 
 impl List {
-    /// A file as it is.
+    /// A file as it is, without a share file.
     fn file(&mut self, label: impl Into<String>, file: Vec<u8>, told: Told) {
-        self.0.push(Labelled { label: label.into(), file, told });
+        self.shared(label, file, Vec::new(), told);
+    }
+
+    /// A file and a share file as they are.
+    fn shared(&mut self, label: impl Into<String>, file: Vec<u8>, share: Vec<u8>, told: Told) {
+        self.0.push(Labelled { label: label.into(), file, share, told });
     }
 
     /// A changed case that is refused so.
@@ -146,14 +165,14 @@ fn solved(case: &Case) -> Case {
 /// The archive of a list.
 pub fn archive(cases: &[Labelled]) -> Vec<u8> {
     let mut bytes = Vec::new();
-    for case in cases {
-        bytes.extend((case.file.len() as u32).to_le_bytes());
-        bytes.extend(&case.file);
+    for part in cases.iter().flat_map(|case| [&case.file, &case.share]) {
+        bytes.extend((part.len() as u32).to_le_bytes());
+        bytes.extend(part);
     }
     bytes
 }
 
-/// An archive that can't be read: the entry, counted from 1, that is longer than allowed or than what is there.
+/// An archive that can't be read: the entry, counted from 1, of which a file is longer than allowed or than what is there.
 #[derive(Clone, Copy, Debug, PartialEq, Eq)]
 pub struct ArchiveError {
     pub entry: usize,
@@ -161,30 +180,46 @@ pub struct ArchiveError {
 
 impl fmt::Display for ArchiveError {
     fn fmt(&self, to: &mut fmt::Formatter) -> fmt::Result {
-        write!(to, "entry {} is longer than {LONGEST} bytes or than what is there", self.entry)
+        let most = format!("{LONGEST} bytes, or its share file than {LONGEST_SHARE}");
+        write!(to, "the case file of entry {} is longer than {most}, or either than what is there", self.entry)
     }
 }
 
-/// The files of an archive.
-pub fn entries(archive: &[u8]) -> Result<Vec<&[u8]>, ArchiveError> {
-    let mut files = Vec::new();
+/// An entry of an archive.
+#[derive(Clone, Copy, Debug, PartialEq, Eq)]
+pub struct Entry<'a> {
+    pub file: &'a [u8],
+    pub share: &'a [u8],
+}
+
+/// The entries of an archive.
+pub fn entries(archive: &[u8]) -> Result<Vec<Entry<'_>>, ArchiveError> {
+    let mut entries = Vec::new();
     let mut rest = archive;
     while !rest.is_empty() {
-        let (file, behind) = entry(rest).ok_or(ArchiveError { entry: files.len() + 1 })?;
-        files.push(file);
+        let (entry, behind) = entry(rest).ok_or(ArchiveError { entry: entries.len() + 1 })?;
+        entries.push(entry);
         rest = behind;
     }
-    Ok(files)
+    Ok(entries)
 }
 
-/// The first file of an archive and what stands behind it.
-fn entry(archive: &[u8]) -> Option<(&[u8], &[u8])> {
-    let (length, behind) = archive.split_first_chunk()?;
+/// The first entry of an archive and what stands behind it.
+fn entry(archive: &[u8]) -> Option<(Entry<'_>, &[u8])> {
+    let (file, behind) = part(archive, LONGEST)?;
+    let (share, behind) = part(behind, LONGEST_SHARE)?;
+    Some((Entry { file, share }, behind))
+}
+
+/// A length of at most so many bytes and the bytes, and what stands behind them.
+fn part(bytes: &[u8], longest: usize) -> Option<(&[u8], &[u8])> {
+    let (length, behind) = bytes.split_first_chunk()?;
     let length = u32::from_le_bytes(*length) as usize;
-    (length <= LONGEST).then(|| behind.split_at_checked(length))?
+    (length <= longest).then(|| behind.split_at_checked(length))?
 }
 
 /// What the program prints for the entries of an archive, one after the other.
 pub fn expected(archive: &[u8]) -> Result<Vec<u8>, ArchiveError> {
-    Ok(entries(archive)?.into_iter().flat_map(program_output).collect())
+    let print = |entry: Entry| program_output_with_share(entry.file, entry.share);
+    Ok(entries(archive)?.into_iter().flat_map(print).collect())
 }

@@ -186,14 +186,14 @@ fn add_flow_limits(list: &mut List) {
 }
 
 /// A fault of `doubtful`, by its answer.
-type Fault = ((u32, u32, u32), fn(&mut Case));
+pub(super) type Fault = ((u32, u32, u32), fn(&mut Case));
 
 /// How many of `FAULTS` aren't of solutions.
-const TABLES: usize = 8;
+pub(super) const TABLES: usize = 8;
 
 /// One fault a number and system, in 02's order. An earlier one stands in a late row where it can, a later one in an early
 /// row: 11 before 15.
-const FAULTS: [Fault; 25] = [
+pub(super) const FAULTS: [Fault; 25] = [
     ((2, 0, 0), |case| case.settings.p = 1_001),
     ((3, 0, 3), |case| case.nodes[2].demand_zone = 2),
     ((4, 0, 2), |case| case.circuits[1].x = 0),
@@ -223,7 +223,7 @@ const FAULTS: [Fault; 25] = [
 
 /// Two spokes without length: with one the first would be in doubt of its direction, at peak or marked, and the second of its
 /// background.
-fn doubtful() -> Case {
+pub(super) fn doubtful() -> Case {
     spokes(&[spoke([-300, 300], 0, Stands::Nowhere), spoke([1_600, 1_000], 0, Stands::Nowhere)])
 }
 

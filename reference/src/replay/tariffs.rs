@@ -1,6 +1,6 @@
 //! 02, CR 5: the figures of both backgrounds: metres, C, tariffs, totals, residuals, and who pays them.
 
-use super::bases::{circuit, name, named_case, pair, station, zoned_node};
+use super::bases::{circuit, divide, name, named_case, pair, station, zoned_node};
 use super::edition_2::{as_edition_2, side_by_side, spoke, spokes, Stands};
 use super::interconnectors::alone_with;
 use super::{changed, List};
@@ -152,23 +152,14 @@ fn add_local(list: &mut List) {
 
 /// Stations divided and in another order: the same sheet as whole.
 fn add_divided(list: &mut List) {
-    let parts = |case: &mut Case, share: fn(u32) -> Vec<u32>| {
-        let rows = std::mem::take(&mut case.stations);
-        for row in rows {
-            for (turn, tec) in share(row.tec).into_iter().enumerate() {
-                let identifier = name(&format!("P{}_{turn}", case.stations.len()));
-                case.stations.push(StationRow { identifier, tec, ..row.clone() });
-            }
-        }
-    };
     let base = both_kinds();
     list.accepted("two backgrounds by hand, stations in two", &base, |case| {
-        parts(case, |tec| vec![tec / 3, tec - tec / 3])
+        divide(case, |tec| vec![tec / 3, tec - tec / 3])
     });
-    list.accepted("two backgrounds by hand, stations in three", &base, |case| parts(case, |tec| vec![1, tec - 3, 2]));
+    list.accepted("two backgrounds by hand, stations in three", &base, |case| divide(case, |tec| vec![1, tec - 3, 2]));
     list.accepted("two backgrounds by hand, stations turned round", &base, |case| case.stations.reverse());
     list.accepted("two backgrounds by hand, stations in two and turned round", &base, |case| {
-        parts(case, |tec| vec![tec - 1, 1]);
+        divide(case, |tec| vec![tec - 1, 1]);
         case.stations.reverse();
     });
 }

@@ -27,8 +27,11 @@
 //! `circuit_bytes 44` and `circuit_bytes 48` (circuit rows as version 1 or 2 has them, whatever the trailer's version),
 //! `length N`, `offset SECTION N`, `count SECTION N`, `as_is` (solutions of any number of rows), `cut N` (that many last
 //! bytes away), `tail HEX` (bytes behind the trailer), or `bytes HEX` lines alone.
+//!
+//! A share file (02, CR 6) has a text of its own: `share`.
 
 mod read;
+pub mod share;
 mod show;
 mod words;
 

@@ -286,7 +286,7 @@ impl Reader {
 }
 
 /// The fields of a line, when they are as many as its kind has.
-fn exactly<'a, const N: usize>(fields: &'a [Word], wanted: &str) -> Result<&'a [Word; N], String> {
+pub(super) fn exactly<'a, const N: usize>(fields: &'a [Word], wanted: &str) -> Result<&'a [Word; N], String> {
     fields.try_into().map_err(|_| format!("{} fields where {N} are wanted: {wanted}", fields.len()))
 }
 

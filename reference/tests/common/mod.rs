@@ -3,7 +3,7 @@
 
 use reference::file::{Case, Settings};
 use reference::replay::Labelled;
-use reference::{judge_case, program_output};
+use reference::{judge_case, program_output, program_output_with_share};
 
 pub use reference::replay::bases::{
     balanced, both_ways, circuit, kiln, kiln_with_a_spur, mirrored, name, named_case, node, pair, station,
@@ -26,10 +26,16 @@ pub fn printed_bytes(file: &[u8]) -> String {
     output.strip_suffix('\n').expect("lines end with a line feed").to_string()
 }
 
+/// 02, CR 6: what the program prints for a case and a share file, without its last line feed.
+pub fn printed_with_share(case: &Case, share: &[u8]) -> String {
+    let output = String::from_utf8(program_output_with_share(&case.bytes(), share)).unwrap();
+    output.strip_suffix('\n').expect("lines end with a line feed").to_string()
+}
+
 /// The sheet of a case of the replay's list.
 pub fn sheet_of(list: &[Labelled], label: &str) -> String {
     let case = list.iter().find(|case| case.label == label).unwrap_or_else(|| panic!("no case {label}"));
-    String::from_utf8(program_output(&case.file)).unwrap()
+    case.output()
 }
 
 /// A changed case is refused so.
