@@ -1,9 +1,10 @@
 /* Calls the library for another program, one request after another, each in memory where nothing beside what is lent can be touched.
  *
- * A request: nine u32 (where the blocks stand; what the buffers are filled from; the counts of file, base, wider, local, peak base, peak
- * wider and sheet), the file's bytes, the five runs. What comes back: the result of wirepulley_judge_five and its numbers, the result of
- * wirepulley_write_five and its numbers, and the sheet's buffer whole; then the same of wirepulley_judge and wirepulley_write, which are
- * lent the first three runs. All little-endian.
+ * A request: ten u32 (where the blocks stand; what the buffers are filled from; the counts of file, base, wider, local, peak base, peak
+ * wider, share file and sheet), the file's bytes, the five runs, the share file's bytes. What comes back: the result of
+ * wirepulley_judge_shared and its numbers, the result of wirepulley_write_shared and its numbers, and the sheet's buffer whole; then the
+ * same of the forms of five runs, which are not lent the share file, and of those of three, which are lent the first three runs. All
+ * little-endian.
  *
  * Each block ends where a page begins that may not be touched (where = 0), or starts where one ends (where = 1). What is only read is
  * lent through a view that may not be written, and what is empty by NULL (where = 1). A call that touches more ends this program by a
@@ -18,7 +19,8 @@
 #include "../clients/c/wirepulley.h"
 
 enum { PAGE = 4096 };
-enum { CASE, BASE, WIDER, LOCAL, PEAK_BASE, PEAK_WIDER, SHEET, COUNTED, ANSWER = COUNTED, BLOCKS };
+enum { CASE, BASE, WIDER, LOCAL, PEAK_BASE, PEAK_WIDER, SHARE, SHEET, COUNTED, ANSWER = COUNTED, BLOCKS };
+enum form { SHARED, FIVE, THREE };
 
 /* A block's memory: what the library is lent, and where this program writes to it and reads from it. */
 struct block {
@@ -27,8 +29,8 @@ struct block {
 };
 
 static struct block blocks[BLOCKS];
-static const size_t MOST[BLOCKS] = {262144, 65536, 65536, 65536, 65536, 65536, 65536, PAGE};
-static const size_t WIDTH[BLOCKS] = {1, 8, 8, 8, 8, 8, 1, 8};
+static const size_t MOST[BLOCKS] = {262144, 65536, 65536, 65536, 65536, 65536, 65536, 65536, PAGE};
+static const size_t WIDTH[BLOCKS] = {1, 8, 8, 8, 8, 8, 1, 1, 8};
 
 static void fail(const char *what) {
     perror(what);
@@ -96,20 +98,28 @@ static void give_answer(uint64_t result, uint32_t where) {
     give(ours(ANSWER, where), blocks[ANSWER].size);
 }
 
-/* Both entries of one form, that of five runs or that of three, on what is lent. */
-static void call(const uint32_t *n, uint32_t where, uint32_t fill, int five) {
-    const uint8_t *file = lent(CASE, where);
+#define THREE_RUNS file, n[CASE], run[BASE], n[BASE], run[WIDER], n[WIDER], run[LOCAL], n[LOCAL]
+#define FIVE_RUNS THREE_RUNS, run[PEAK_BASE], n[PEAK_BASE], run[PEAK_WIDER], n[PEAK_WIDER]
+#define FIVE_RUNS_AND_SHARE FIVE_RUNS, share, n[SHARE]
+#define OUT lent(SHEET, where), n[SHEET], answer
+
+/* Both entries of one form on what is lent. */
+static void call(const uint32_t *n, uint32_t where, uint32_t fill, enum form form) {
+    const uint8_t *file = lent(CASE, where), *share = lent(SHARE, where);
     const int64_t *run[PEAK_WIDER + 1];
     for (unsigned k = BASE; k <= PEAK_WIDER; k++)
         run[k] = (int64_t *)lent(k, where);
     uint64_t *answer = (uint64_t *)lent(ANSWER, where);
-#define THREE_RUNS file, n[CASE], run[BASE], n[BASE], run[WIDER], n[WIDER], run[LOCAL], n[LOCAL]
-#define FIVE_RUNS THREE_RUNS, run[PEAK_BASE], n[PEAK_BASE], run[PEAK_WIDER], n[PEAK_WIDER]
     fill_buffers(where, fill);
-    give_answer(five ? wirepulley_judge_five(FIVE_RUNS, answer) : wirepulley_judge(THREE_RUNS, answer), where);
+    give_answer(form == SHARED ? wirepulley_judge_shared(FIVE_RUNS_AND_SHARE, answer)
+                : form == FIVE ? wirepulley_judge_five(FIVE_RUNS, answer)
+                               : wirepulley_judge(THREE_RUNS, answer),
+                where);
     fill_buffers(where, fill);
-    uint8_t *sheet = lent(SHEET, where);
-    give_answer(five ? wirepulley_write_five(FIVE_RUNS, sheet, n[SHEET], answer) : wirepulley_write(THREE_RUNS, sheet, n[SHEET], answer), where);
+    give_answer(form == SHARED ? wirepulley_write_shared(FIVE_RUNS_AND_SHARE, OUT)
+                : form == FIVE ? wirepulley_write_five(FIVE_RUNS, OUT)
+                               : wirepulley_write(THREE_RUNS, OUT),
+                where);
     give(ours(SHEET, where), blocks[SHEET].size);
 }
 
@@ -122,8 +132,8 @@ int main(void) {
             fputs("caller: a request is too long or cut short\n", stderr);
             return 2;
         }
-        call(head + 2, head[0], head[1], 1);
-        call(head + 2, head[0], head[1], 0);
+        for (enum form form = SHARED; form <= THREE; form++)
+            call(head + 2, head[0], head[1], form);
         fflush(stdout);
     }
     return 0;

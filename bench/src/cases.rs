@@ -2,14 +2,16 @@
 
 use reference::file::{padded, Case, CircuitRow, Edition, NodeRow, Settings, StationRow};
 use reference::largest::{largest, largest_of_edition_2, largest_of_version_2};
+use reference::sharing::Share;
 use reference::solver::solved;
 use wirepulley::Solutions;
 
-/// A case as an entry takes it: the file's bytes, and the runs beside them.
+/// A case as an entry takes it: the file's bytes, the runs beside them, and the share file's bytes, none where there is none.
 #[derive(Clone)]
 pub struct Input {
     pub file: Vec<u8>,
     pub runs: Solutions,
+    pub share: Vec<u8>,
 }
 
 impl Input {
@@ -19,14 +21,14 @@ impl Input {
 
     /// A file with the runs that stand in it.
     pub fn read(file: Vec<u8>) -> Input {
-        Input { runs: Solutions::of_file(&file), file }
+        Input { runs: Solutions::of_file(&file), file, share: Vec::new() }
     }
-}
 
-/// Whether the two frozen ones know a file's edition, which the settings' zero names (02, CR 5): 2 is the one that they don't.
-/// Any other number but 0 is refused as 1, by them too.
-pub fn known(file: &[u8]) -> bool {
-    file.get(52..56) != Some(&2u32.to_le_bytes()[..])
+    /// Whether the file is of the edition that the two frozen ones don't know: the settings' zero names it (02, CR 5). Any other number
+    /// but 0 is refused as 1, by them too; and edition 1 does not look at a share file.
+    pub fn second_edition(&self) -> bool {
+        self.file.get(52..56) == Some(&2u32.to_le_bytes()[..])
+    }
 }
 
 /// The largest case: 256 nodes, 512 circuits, 512 stations, 32 and 32 zones.
@@ -42,6 +44,20 @@ pub fn greatest_of_version_2() -> Case {
 /// The largest case of edition 2: 320 circuits.
 pub fn greatest_of_edition_2() -> Case {
     largest_of_edition_2()
+}
+
+/// The largest case of edition 2 with share files over its 32 zones: all in one chain, all at the centre, and all on a circle but for one.
+pub fn shared() -> Vec<(&'static str, Input)> {
+    let case = greatest_of_edition_2();
+    let with = |next: fn(u32) -> u32| Input {
+        share: Share { next: (1..=32).map(next).collect(), load: [380, 800, 600, 900, 80, 80, 90] }.bytes(),
+        ..Input::of(&case)
+    };
+    vec![
+        ("sharing, one chain", with(|zone| zone - 1)),
+        ("sharing, all at the centre", with(|zone| u32::from(zone > 1))),
+        ("16, a circle at the end", with(|zone| if zone < 31 { zone - 1 } else { 63 - zone })),
+    ]
 }
 
 /// The tables of that one in edition 1, solved for it.

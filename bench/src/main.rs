@@ -23,35 +23,39 @@ use wirepulley::Solutions;
 static HEAP: heap::Counting = heap::Counting;
 
 /// Room for any sheet.
-const ROOM: usize = 16384;
+const ROOM: usize = wirepulley::LONGEST_SHEET;
 
 /// Cases of edition 2 by chance, each whole and spoiled.
 const CHANCES: u64 = 300;
 
-/// What is timed: its name, the files that it knows, and its call.
+/// What is timed: its name, the inputs that it knows, and its call.
 struct Entry {
     name: &'static str,
-    knows: fn(&[u8]) -> bool,
+    knows: fn(&Input) -> bool,
     write: fn(&Input, &mut [u8]) -> Answer,
 }
 
 /// The proved library takes what its client lends it, the frozen ones the three runs that they know.
 const ENTRIES: [Entry; 4] = [
-    Entry { name: "ours", knows: |_| true, write: |Input { file, runs }, out| runs.with(file).answer(out) },
+    Entry {
+        name: "ours",
+        knows: |_| true,
+        write: |Input { file, runs, share }, out| runs.with(file).with_share(share).answer(out),
+    },
     Entry {
         name: "twin",
-        knows: cases::known,
-        write: |Input { file, runs }, out| twin::write(file, &runs.base, &runs.wider, &runs.local, out),
+        knows: |input| !input.second_edition(),
+        write: |Input { file, runs, .. }, out| twin::write(file, &runs.base, &runs.wider, &runs.local, out),
     },
     Entry {
         name: "textbook",
-        knows: cases::known,
-        write: |Input { file, runs }, out| textbook::write(file, &runs.base, &runs.wider, &runs.local, out),
+        knows: |input| !input.second_edition(),
+        write: |Input { file, runs, .. }, out| textbook::write(file, &runs.base, &runs.wider, &runs.local, out),
     },
     Entry {
         name: "twin_2",
-        knows: |_| true,
-        write: |Input { file, runs: Solutions { base, wider, local, peak_base, peak_wider } }, out| {
+        knows: |input| !input.second_edition() || input.share.is_empty(),
+        write: |Input { file, runs: Solutions { base, wider, local, peak_base, peak_wider }, .. }, out| {
             twin_2::write(file, twin_2::Runs { base, wider, local, peak_base, peak_wider }, out)
         },
     },
@@ -64,18 +68,18 @@ impl Entry {
     }
 }
 
-/// Those that know a file.
-fn knowing(file: &[u8]) -> Vec<&'static Entry> {
-    ENTRIES.iter().filter(|entry| (entry.knows)(file)).collect()
+/// Those that know an input.
+fn knowing(input: &Input) -> Vec<&'static Entry> {
+    ENTRIES.iter().filter(|entry| (entry.knows)(input)).collect()
 }
 
 /// All that know a case answer alike and leave the same bytes; what they answer.
 fn agreed(input: &Input) -> (Answer, Vec<u8>) {
-    let mut answered = knowing(&input.file).into_iter().map(|entry| {
+    let mut answered = knowing(input).into_iter().map(|entry| {
         let mut out = vec![b'.'; ROOM];
         (entry.name, entry.call(input, &mut out), out)
     });
-    let (_, answer, out) = answered.next().expect("ours knows every file");
+    let (_, answer, out) = answered.next().expect("ours knows every input");
     for (name, other, bytes) in answered {
         assert_eq!(answer, other, "ours and {name}");
         assert!(out == bytes, "the buffers of ours and {name} differ");
@@ -83,27 +87,30 @@ fn agreed(input: &Input) -> (Answer, Vec<u8>) {
     (answer, out)
 }
 
-/// All that know a file answer it, with its own runs, as the reference does.
-fn agree_with_the_reference(file: &[u8]) {
-    let (answer, out) = agreed(&Input::read(file.to_vec()));
+/// All that know an input answer it, with the file's own runs, as the reference does.
+fn agree_with_the_reference(input: &Input) {
+    let (answer, out) = agreed(input);
     let printed = match answer.number {
         0 => out[..answer.length as usize].to_vec(),
         _ => format!("refused {} {} {}\n", answer.number, answer.system, answer.row).into_bytes(),
     };
-    assert_eq!(printed, reference::program_output(file));
+    assert_eq!(printed, reference::program_output_with_share(&input.file, &input.share));
 }
 
 /// The stored cases of the replay, whole and damaged: who was compared on how many, and why others are left out.
 fn agree_on_stored_cases() {
-    let files: Vec<Vec<u8>> = reference::replay::cases().into_iter().map(|case| case.file).collect();
-    files.iter().for_each(|file| agree_with_the_reference(file));
-    println!("agreed with the reference on stored cases, of {}:", files.len());
+    let stored = reference::replay::cases().into_iter();
+    let inputs: Vec<Input> = stored.map(|case| Input { share: case.share, ..Input::read(case.file) }).collect();
+    inputs.iter().for_each(agree_with_the_reference);
+    println!("agreed with the reference on stored cases, of {}:", inputs.len());
     for entry in &ENTRIES {
-        let known = files.iter().filter(|file| (entry.knows)(file)).count();
-        print!("{:<10} {known:>5}", entry.name);
-        match files.len() - known {
-            0 => println!(),
-            others => println!("; left out: {others}, those of edition 2 (settings' zero 2), which it does not know"),
+        let (known, others): (Vec<&Input>, Vec<&Input>) = inputs.iter().partition(|input| (entry.knows)(input));
+        print!("{:<10} {:>5}", entry.name, known.len());
+        match (others.len(), others.iter().filter(|input| !input.share.is_empty()).count()) {
+            (0, _) => println!(),
+            (all, shared) => {
+                println!("; left out: {all}, those of edition 2 which it does not know, {shared} with a share file")
+            }
         }
     }
 }
@@ -112,15 +119,15 @@ fn agree_on_stored_cases() {
 fn agree_by_chance() {
     for seed in 1..=CHANCES {
         let case = reference::random::random_of_edition_2(seed, 40);
-        agree_with_the_reference(&case.bytes());
-        agree_with_the_reference(&reference::random::spoiled(&case, seed).bytes());
+        agree_with_the_reference(&Input::of(&case));
+        agree_with_the_reference(&Input::of(&reference::random::spoiled(&case, seed)));
     }
     println!("and ours and twin_2 on {CHANCES} cases of edition 2 by chance, each whole and spoiled");
 }
 
 /// Times of those that know a case, in their order. The buffer is not cleared between calls; file and runs stay as they are.
 fn timed(input: &Input, long: Duration) -> Vec<(&'static str, Times)> {
-    let entries = knowing(&input.file);
+    let entries = knowing(input);
     let mut outs = vec![vec![0; ROOM]; entries.len()];
     let mut calls: Vec<_> = entries
         .iter()
@@ -176,7 +183,7 @@ fn largest(label: &str, input: &Input, seconds: u64) {
 
 fn memory(input: &Input) {
     println!("\nmemory of one call on this case");
-    for entry in knowing(&input.file) {
+    for entry in knowing(input) {
         let mut out = vec![0; ROOM];
         let asked = heap::asked(|| {
             black_box(entry.call(input, &mut out));
@@ -209,6 +216,9 @@ fn growth() {
     line("256 nodes, 480 c., 512 st.", &Input::of(&cases::greatest_of_version_2()));
     heading("256 nodes, 320 c., 512 st.");
     line("edition 2", &Input::of(&cases::greatest_of_edition_2()));
+    for (label, input) in cases::shared() {
+        line(label, &input);
+    }
     line("the same tables, edition 1", &Input::of(&cases::greatest_of_edition_2_in_edition_1()));
 }
 

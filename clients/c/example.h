@@ -10,6 +10,8 @@
 
 /* Settings and the shorter trailer are the shortest file; the longest file and run are of version 1, which holds more circuits. */
 enum { SHORTEST_FILE = 128, LONGEST_FILE = 63616, LONGEST_RUN = 256 + 512 };
+/* A share file has a number for each plant type behind one for each generation zone. */
+enum { PLANT_TYPES = 7, LONGEST_SHARE = 4 * (32 + PLANT_TYPES) };
 /* The tables stand first: settings, nodes, circuits and stations. Then come the solutions, three or, in edition 2, five. */
 enum { TABLES = 4 };
 enum { BASE, WIDER, LOCAL, PEAK_BASE, PEAK_WIDER, RUNS };
@@ -41,6 +43,7 @@ static inline const char *reason(uint64_t number) {
         "no TEC is chargeable: all of it is of interconnectors (plant type 3)",
         "generation does not scale to demand in a background: fixed plant types come to more, or the others have less than is left",
         "it is in doubt whether a circuit counts for year round or for peak",
+        "the share file has a wrong length or load factor (row 0), or a zone names one that it may not, is a second centre, or circles",
     };
     return number < sizeof REASONS / sizeof REASONS[0] ? REASONS[number] : "a reason this program does not know";
 }

@@ -1,11 +1,13 @@
-/* Tests what the header says of counts of 0, of interconnectors, of versions and of editions, and the example's words and its care with
- * damaged files. Case KILN is on standard input.
+/* Tests what the header says of counts of 0, of interconnectors, of versions, of editions and of share files, and the example's words and
+ * its care with damaged files. Case KILN is on standard input.
+ *
+ *   ./test CASE SHARE SHEET   the tutorial's case of edition 2, a share file for it, and the sheet that these give
  *
  * Exit status: 0 all is as it should be, 1 something is not (printed). A library that used a pointer whose count is 0 would end this
  * program by a signal: no memory is at NULL. */
 #include "example.h"
 
-enum { ROOM = 200, UNTOUCHED = 7 };
+enum { ROOM = 500, UNTOUCHED = 7 };
 /* The sections of the tables that are changed here, the bytes of a row, and where fields stand in it. */
 enum { SETTINGS, NODES, CIRCUITS, STATIONS };
 enum { CIRCUIT_1 = 44, CIRCUIT_2 = 48, VOLTAGE = 24, MARK = 40, FACTOR = 44 };
@@ -28,6 +30,17 @@ static const char KILN_SHEET_2[] = "C -20289 0\n"
                                    "L NODA 0 0\n"
                                    "L NODB 0 0\n"
                                    "R 200000 50000\n";
+/* With a share file year round's tariff is in two parts: of no metres both are 0. */
+static const char KILN_SHEET_SHARED[] = "C -20289 0\n"
+                                        "G 1 28333 8044 144792 0 0 0 0 0 21874 166666\n"
+                                        "D 1 -4200 16089 289602 0 0 0 43731 333333\n"
+                                        "L NODA 0 0\n"
+                                        "L NODB 0 0\n"
+                                        "R 200000 50000\n";
+/* KILN has one generation zone. */
+enum { KILN_SHARE = 4 * (1 + PLANT_TYPES) };
+/* The tutorial's four zones: A lies behind B, and B behind D, the centre; C has no TEC. */
+enum { ZONE_A = 1, ZONE_B, ZONE_C, ZONE_D, TUTORIAL_ZONES = ZONE_D };
 
 /* What a call is given, but for the answer. */
 struct lent {
@@ -35,6 +48,8 @@ struct lent {
     size_t length;
     const int64_t *run[RUNS];
     size_t count[RUNS];
+    const uint8_t *share;
+    size_t share_length;
     uint8_t *sheet;
     size_t room;
 };
@@ -42,6 +57,13 @@ struct lent {
 static uint8_t file[LONGEST_FILE], changed_file[LONGEST_FILE], sheet[ROOM];
 /* KILN's solutions, and those of KILN in edition 2. */
 static struct run runs[RUNS], runs_2[RUNS];
+/* The tutorial's case with its solutions, its share file, and its sheet. */
+static uint8_t tutorial_file[LONGEST_FILE], tutorial_share[LONGEST_SHARE];
+static size_t tutorial_length, tutorial_share_length;
+static struct run tutorial_runs[RUNS];
+static char tutorial_sheet[ROOM];
+/* A share file that may be changed, with room for one that is too long. */
+static uint8_t share[LONGEST_SHARE + 200];
 static int failures;
 
 static void check(int holds, const char *what) {
@@ -61,13 +83,24 @@ static void lend_run(struct lent *lent, unsigned k, const struct run *run) {
     lent->count[k] = run->count;
 }
 
-/* KILN with a fresh buffer. */
+static void lend_share(struct lent *lent, size_t length) {
+    lent->share = share;
+    lent->share_length = length;
+}
+
+static void no_share(struct lent *lent) {
+    lent->share = NULL;
+    lent->share_length = 0;
+}
+
+/* KILN with a fresh buffer, and no share file. */
 static struct lent kiln(size_t length) {
     struct lent lent;
     lent.file = file;
     lent.length = length;
     for (unsigned k = 0; k < RUNS; k++)
         lend_run(&lent, k, &runs[k]);
+    no_share(&lent);
     memset(sheet, UNTOUCHED, sizeof sheet);
     lent.sheet = sheet;
     lent.room = sizeof sheet;
@@ -194,7 +227,20 @@ static void no_sheet(struct lent *lent) {
     lent->room = 0;
 }
 
-/* The four calls. The two of three runs leave peak's runs out. */
+/* The six calls. Those of five runs leave the share file out, those of three peak's runs too. */
+static uint64_t write_shared(const struct lent *lent, uint64_t *answer) {
+    return wirepulley_write_shared(lent->file, lent->length, lent->run[BASE], lent->count[BASE], lent->run[WIDER], lent->count[WIDER],
+                                   lent->run[LOCAL], lent->count[LOCAL], lent->run[PEAK_BASE], lent->count[PEAK_BASE],
+                                   lent->run[PEAK_WIDER], lent->count[PEAK_WIDER], lent->share, lent->share_length, lent->sheet,
+                                   lent->room, answer);
+}
+
+static uint64_t judge_shared(const struct lent *lent, uint64_t *answer) {
+    return wirepulley_judge_shared(lent->file, lent->length, lent->run[BASE], lent->count[BASE], lent->run[WIDER], lent->count[WIDER],
+                                   lent->run[LOCAL], lent->count[LOCAL], lent->run[PEAK_BASE], lent->count[PEAK_BASE],
+                                   lent->run[PEAK_WIDER], lent->count[PEAK_WIDER], lent->share, lent->share_length, answer);
+}
+
 static uint64_t write_five(const struct lent *lent, uint64_t *answer) {
     return wirepulley_write_five(lent->file, lent->length, lent->run[BASE], lent->count[BASE], lent->run[WIDER], lent->count[WIDER],
                                  lent->run[LOCAL], lent->count[LOCAL], lent->run[PEAK_BASE], lent->count[PEAK_BASE],
@@ -220,7 +266,8 @@ static uint64_t judge_three(const struct lent *lent, uint64_t *answer) {
 typedef uint64_t call(const struct lent *lent, uint64_t *answer);
 /* Each form as it judges and as it writes. */
 enum { JUDGE, WRITE };
-static call *const FIVE[] = {judge_five, write_five}, *const THREE[] = {judge_three, write_three};
+static call *const SHARED[] = {judge_shared, write_shared}, *const FIVE[] = {judge_five, write_five},
+                  *const THREE[] = {judge_three, write_three};
 
 static int answers(call *one, const struct lent *lent, uint64_t number, uint64_t system, uint64_t row, uint64_t length) {
     uint64_t answer[WIREPULLEY_ANSWER];
@@ -234,8 +281,11 @@ static int untouched(const uint8_t *bytes, size_t count) {
     return 1;
 }
 
-/* Whether the form of three runs is given all that is lent. */
-static int is_three(const struct lent *lent) { return lent->count[PEAK_BASE] == 0 && lent->count[PEAK_WIDER] == 0; }
+/* Whether the form of five runs is given all that is lent, and that of three. */
+static int is_five(const struct lent *lent) { return lent->share_length == 0; }
+static int is_three(const struct lent *lent) {
+    return is_five(lent) && lent->count[PEAK_BASE] == 0 && lent->count[PEAK_WIDER] == 0;
+}
 
 /* Both functions of a form refuse by these numbers, and the buffer stays as it was. */
 static void refused_by(call *const form[], const char *what, const struct lent *lent, uint64_t number, uint64_t system, uint64_t row) {
@@ -246,7 +296,9 @@ static void refused_by(call *const form[], const char *what, const struct lent *
 
 /* So do those of every form that can be given this. */
 static void refused(const char *what, const struct lent *lent, uint64_t number, uint64_t system, uint64_t row) {
-    refused_by(FIVE, what, lent, number, system, row);
+    refused_by(SHARED, what, lent, number, system, row);
+    if (is_five(lent))
+        refused_by(FIVE, what, lent, number, system, row);
     if (is_three(lent))
         refused_by(THREE, what, lent, number, system, row);
 }
@@ -264,7 +316,9 @@ static void accepted_by(call *const form[], const char *what, const struct lent 
 
 /* So do those of every form that can be given this. */
 static void accepted(const char *what, const struct lent *lent, const char *expected) {
-    accepted_by(FIVE, what, lent, expected);
+    accepted_by(SHARED, what, lent, expected);
+    if (is_five(lent))
+        accepted_by(FIVE, what, lent, expected);
     if (is_three(lent))
         accepted_by(THREE, what, lent, expected);
 }
@@ -389,6 +443,7 @@ static void test_edition_2(size_t length) {
     struct lent lent = kiln_of_edition_2(length);
     accepted("edition 2", &lent, KILN_SHEET_2);
     check(holds_runs(&lent, runs_2), "five solutions stand in edition 2");
+    needs_room(SHARED, lent, KILN_SHEET_2);
     needs_room(FIVE, lent, KILN_SHEET_2);
     refused_by(THREE, "edition 2 with three runs", &lent, 1, 0, 0);
     static const uint32_t OTHERS[] = {1, 3, 256 + 2, UINT32_MAX};
@@ -505,6 +560,102 @@ static void test_order_of_systems(size_t length) {
     accepted("all systems are mended", &lent, KILN_SHEET_2);
 }
 
+/* A share file of KILN in edition 2: all zeros is a centre, and load factors of 0. An empty one is none. */
+static void test_share(size_t length) {
+    struct lent lent = kiln_of_edition_2(length);
+    memset(share, 0, sizeof share);
+    lend_share(&lent, 0);
+    accepted("an empty share file", &lent, KILN_SHEET_2);
+    lend_share(&lent, KILN_SHARE);
+    accepted("a share file", &lent, KILN_SHEET_SHARED);
+    needs_room(SHARED, lent, KILN_SHEET_SHARED);
+    accepted_by(FIVE, "the form of five runs has no share file", &lent, KILN_SHEET_2);
+    for (size_t count = 1; count <= sizeof share; count++) {
+        lend_share(&lent, count);
+        if (count != KILN_SHARE)
+            refused("a share file of a wrong length", &lent, 16, 0, 0);
+    }
+    no_sheet(&lent);
+    refused("a share file of a wrong length, without a sheet", &lent, 16, 0, 0);
+}
+
+/* Row 0 is for load factors too, and comes before a zone. */
+static void test_load_factors(size_t length) {
+    struct lent lent = kiln_of_edition_2(length);
+    memset(share, 0, sizeof share);
+    lend_share(&lent, KILN_SHARE);
+    for (unsigned plant = 1; plant <= PLANT_TYPES; plant++) {
+        put_u32(share + 4 * plant, 1001);
+        refused("a load factor above its range", &lent, 16, 0, 0);
+        put_u32(share + 4 * plant, UINT32_MAX);
+        refused("the greatest number as a load factor", &lent, 16, 0, 0);
+        put_u32(share + 4 * plant, 1000);
+        accepted("the greatest load factor", &lent, KILN_SHEET_SHARED);
+    }
+    put_u32(share, 1);
+    refused("a zone that names itself", &lent, 16, 0, 1);
+    put_u32(share, 2);
+    refused("a zone that names one that does not exist", &lent, 16, 0, 1);
+    put_u32(share + 4, 1001);
+    refused("a zone that names one that does not exist, and a load factor", &lent, 16, 0, 0);
+}
+
+/* 16 comes after 14 and before 8 of the base solution. Edition 1 has none. */
+static void test_order_of_16(size_t length) {
+    struct lent lent = edition_2_of_types(length, NUCLEAR, OTHER);
+    lend_share(&lent, 1);
+    refused("a share file of one byte, and generation that does not scale", &lent, 14, 0, 0);
+    lent = kiln_of_edition_2(length);
+    lend_share(&lent, 1);
+    struct run base = runs[BASE];
+    base.numbers[0] = INT64_MIN;
+    lend_run(&lent, BASE, &base);
+    refused("a share file of one byte, and a base number out of range", &lent, 16, 0, 0);
+    lent.length--;
+    refused("a share file of one byte, and a cut file", &lent, 1, 0, 0);
+    lent = kiln(length);
+    memset(share, UINT8_MAX, sizeof share);
+    static const size_t LENGTHS[] = {1, KILN_SHARE, sizeof share};
+    for (size_t i = 0; i < sizeof LENGTHS / sizeof LENGTHS[0]; i++) {
+        lend_share(&lent, LENGTHS[i]);
+        accepted("any share file in edition 1", &lent, KILN_SHEET);
+    }
+}
+
+/* The tutorial's case with a copy of its share file that may be changed. */
+static struct lent tutorial(void) {
+    struct lent lent = kiln(0);
+    lent.file = tutorial_file;
+    lent.length = tutorial_length;
+    for (unsigned k = 0; k < RUNS; k++)
+        lend_run(&lent, k, &tutorial_runs[k]);
+    memcpy(share, tutorial_share, sizeof tutorial_share);
+    lend_share(&lent, tutorial_share_length);
+    return lent;
+}
+
+/* The tutorial is refused at a row where this zone names that one in its share file. */
+static void zone_is_refused(const char *what, unsigned zone, uint32_t next, uint64_t row) {
+    struct lent lent = tutorial();
+    put_u32(share + 4 * (zone - 1), next);
+    refused(what, &lent, 16, 0, row);
+}
+
+static void test_tutorial(void) {
+    struct lent lent = tutorial();
+    check(tutorial_share_length == 4 * (TUTORIAL_ZONES + PLANT_TYPES), "the tutorial's share file is of four zones");
+    accepted("the tutorial with its share file", &lent, tutorial_sheet);
+    needs_room(SHARED, lent, tutorial_sheet);
+    lent.share_length -= 4;
+    refused("a load factor too few", &lent, 16, 0, 0);
+    zone_is_refused("a zone that does not exist", ZONE_B, TUTORIAL_ZONES + 1, ZONE_B);
+    zone_is_refused("a zone without TEC is named", ZONE_B, ZONE_C, ZONE_B);
+    zone_is_refused("a zone without TEC names one", ZONE_C, ZONE_D, ZONE_C);
+    zone_is_refused("of two centres the higher number is the second", ZONE_A, 0, ZONE_D);
+    zone_is_refused("a circle of all zones", ZONE_D, ZONE_A, ZONE_A);
+    zone_is_refused("a zone that leads into a circle", ZONE_D, ZONE_B, ZONE_A);
+}
+
 /* A file of so many bytes, of an edition, whose trailer says of each section: offset, count. So many numbers are taken of each of its
  * solutions, and none of those that the edition has not. */
 static void takes(size_t length, uint32_t edition, uint32_t offset, uint32_t count, size_t expected) {
@@ -542,7 +693,7 @@ static int is_no_file(struct lent lent) {
     copy_runs(lent.file, lent.length, copied);
     for (unsigned k = 0; k < RUNS; k++)
         lend_run(&lent, k, &copied[k]);
-    return answers(write_five, &lent, 1, 0, 0, 0) && untouched(sheet, sizeof sheet);
+    return answers(write_shared, &lent, 1, 0, 0, 0) && untouched(sheet, sizeof sheet);
 }
 
 static void test_damaged_files(size_t length) {
@@ -579,9 +730,9 @@ static int prints(uint64_t number, const char *expected) {
 
 static void test_words(void) {
     static const char UNKNOWN[] = "a reason this program does not know";
-    static const uint64_t BEYOND[] = {16, 17, 255, UINT64_MAX / 8 + 1, UINT64_MAX};
-    for (uint64_t number = 0; number <= 15; number++) {
-        check(strcmp(reason(number), UNKNOWN) != 0, "numbers to 15 are known");
+    static const uint64_t BEYOND[] = {17, 18, 255, UINT64_MAX / 8 + 1, UINT64_MAX};
+    for (uint64_t number = 0; number <= 16; number++) {
+        check(strcmp(reason(number), UNKNOWN) != 0, "numbers to 16 are known");
         for (uint64_t other = 0; other < number; other++)
             check(strcmp(reason(number), reason(other)) != 0, "each number has words of its own");
     }
@@ -595,20 +746,42 @@ static void test_words(void) {
                      "others have less than is left\n"),
           "the words of 14");
     check(prints(15, "refused 15 2 7\nexample: it is in doubt whether a circuit counts for year round or for peak\n"), "the words of 15");
-    check(prints(16, "refused 16 2 7\nexample: a reason this program does not know\n"), "the words of 16");
+    check(prints(16, "refused 16 2 7\nexample: the share file has a wrong length or load factor (row 0), or a zone names one that it may "
+                     "not, is a second centre, or circles\n"),
+          "the words of 16");
+    check(prints(17, "refused 17 2 7\nexample: a reason this program does not know\n"), "the words of 17");
     check(prints(UINT64_MAX, "refused 18446744073709551615 2 7\nexample: a reason this program does not know\n"),
           "the words of the last number");
 }
 
-int main(void) {
+/* The bytes of a file, at most so many; none where it cannot be opened. */
+static size_t read_file(const char *name, void *bytes, size_t most) {
+    FILE *from = fopen(name, "rb");
+    if (from == NULL)
+        return 0;
+    size_t length = fread(bytes, 1, most, from);
+    fclose(from);
+    return length;
+}
+
+/* Takes in the tutorial's three files: whether each is there. */
+static int read_tutorial(char *const names[3]) {
+    tutorial_length = read_file(names[0], tutorial_file, sizeof tutorial_file);
+    tutorial_share_length = read_file(names[1], tutorial_share, sizeof tutorial_share);
+    copy_runs(tutorial_file, tutorial_length, tutorial_runs);
+    return tutorial_length > 0 && tutorial_share_length > 0 && read_file(names[2], tutorial_sheet, sizeof tutorial_sheet - 1) > 0;
+}
+
+int main(int argc, char **argv) {
     size_t length = fread(file, 1, sizeof file, stdin);
-    if (length < SHORTEST_FILE) {
-        puts("test: no case on standard input");
+    if (length < SHORTEST_FILE || argc != 4 || !read_tutorial(argv + 1)) {
+        puts("test: no case on standard input, or no case, share file and sheet as arguments");
         return 1;
     }
     copy_runs(file, length, runs);
     struct lent lent = kiln(length);
     accepted("KILN is accepted", &lent, KILN_SHEET);
+    needs_room(SHARED, lent, KILN_SHEET);
     needs_room(FIVE, lent, KILN_SHEET);
     needs_room(THREE, lent, KILN_SHEET);
     test_no_file_and_no_runs(length);
@@ -623,6 +796,10 @@ int main(void) {
     test_background_in_doubt(length);
     test_direction_in_doubt(length);
     test_order_of_systems(length);
+    test_share(length);
+    test_load_factors(length);
+    test_order_of_16(length);
+    test_tutorial();
     test_claims();
     test_damaged_files(length);
     test_words();

@@ -11,11 +11,11 @@
  *   - `sheet` and `answer` overlap neither each other nor anything else that the call is given.
  *
  * A case is of edition 1 or 2. Edition 1 has one background and three solutions: base, wider and local. Edition 2 has two backgrounds,
- * year round and peak: its base and wider solutions are year round's, and peak has a base and a wider solution of its own.
- * wirepulley_write_five and wirepulley_judge_five take either edition. wirepulley_write and wirepulley_judge take edition 1 alone: a
- * client of edition 1 stays as it is.
+ * year round and peak: its base and wider solutions are year round's, and peak has a base and a wider solution of its own. A share file
+ * may go with it. wirepulley_write_shared and wirepulley_judge_shared take all of this. wirepulley_write_five and wirepulley_judge_five
+ * take either edition without a share file, wirepulley_write and wirepulley_judge edition 1 alone: their clients stay as they are.
  *
- * An answer is four numbers. Rows count from 1. A newer library may have refusals above 15, so look a number up in a table of your own
+ * An answer is four numbers. Rows count from 1. A newer library may have refusals above 16, so look a number up in a table of your own
  * only where the table has it. This table goes by number; the order of judging stands below it.
  *
  *   number                          system     row                           length
@@ -50,10 +50,13 @@
  *      than is left of it (below)
  *   15 a background in doubt, in    0          the lowest such circuit       0
  *      edition 2: a circuit's year round flow is greater than its peak flow by more than 400,000,000 and up to 800,000,000 mW
+ *   16 the share file of edition 2  0          0 for its length or a load    0
+ *      is wrong (below)                        factor, else the lowest zone
+ *                                              with a fault
  *
  * Systems: 1 base, 2 wider, 3 local (in edition 2: year round's base and wider, and local), 4 peak base, 5 peak wider. The first that
- * holds is answered, in this order: 1 to 7; 13; 14; 8, 9, 10 of system 1, then of 4; 15; 11; 8, 9, 10 of system 2, then of 5, then of 3;
- * 12. Edition 1 has no 14, no 15 and no systems 4 and 5.
+ * holds is answered, in this order: 1 to 7; 13; 14; 16; 8, 9, 10 of system 1, then of 4; 15; 11; 8, 9, 10 of system 2, then of 5, then
+ * of 3; 12. Edition 1 has no 14, 15 and 16 and no systems 4 and 5.
  *
  * A file is of version 1 or 2, as its last eight bytes say (version, length). In version 2 a circuit row has 48 bytes: behind the 44 of
  * version 1 a factor in thousandths, for a subsea or HVDC circuit. It is used for both lengths of the row in place of the settings'
@@ -72,6 +75,16 @@
  * The sheet of edition 2. Its `C` line has peak's C, then year round's. A `G` or `D` line has the zone; peak's metres, metres after C and
  * tariff; year round's three; the residual, and the total of both tariffs and the residual. `L` and `R` lines are those of edition 1.
  *
+ * The share file of edition 2 is numbers of four bytes, little-endian: for each generation zone, 1 first, the next zone inward, 0 for the
+ * one centre and for zones without TEC; then the load factors of plant types 1 to 7 in thousandths, 0 to 1,000. So its length is
+ * 4 x (generation zones + 7) bytes, at most 156. An empty one is none, and edition 1 does not look at it. A zone has a fault where it
+ * names one that does not exist or has no TEC, names one though it has no TEC itself, is a second centre (it has TEC and names none, and
+ * so does a lower zone), or where following the numbers from it never ends. TEC of every plant type counts here.
+ *
+ * With a share file year round's three on a `G` line are the not-shared metres, these plus C and their tariff; the shared metres and their
+ * tariff follow. The total leaves the shared tariff out: that is paid on other kilowatts, the zone's chargeable TEC of each plant type
+ * times the type's load factor, added up and rounded down to a kilowatt. The other lines have their form, and C is the same.
+ *
  * Interconnectors do not pay. Their TEC counts in scaling and in zonal averages, and not in C, generation's income and its residual.
  * So what the sheet charges on chargeable TEC and on demand, plus its two remainders, is the allowed revenue. A generation zone or a
  * node whose TEC is all of interconnectors still has its line, and nobody pays by it. In edition 2 plant type 1 (intermittent) does not
@@ -87,8 +100,9 @@
 extern "C" {
 #endif
 
-/* No sheet is longer: a buffer of this many bytes is never refused as 12. For edition 1 alone 14,240 are enough. */
-#define WIREPULLEY_LONGEST_SHEET 16362
+/* No sheet is longer: a buffer of this many bytes is never refused as 12. Without a share file 16,362 are enough, for edition 1 alone
+ * 14,240. */
+#define WIREPULLEY_LONGEST_SHEET 17258
 
 /* No call takes more bytes of stack than this, whatever it is given: leave a thread that calls the library so much beside its own. Before
  * edition 2 it was 160,000: a client that is linked anew has to be compiled anew, if it goes by this number. */
@@ -105,20 +119,40 @@ extern "C" {
  *   local, local_len             local solution, the same
  *   peak_base, peak_base_len     peak's base solution, the same; edition 1 has none, so the count is 0
  *   peak_wider, peak_wider_len   peak's wider solution, the same; edition 1 has none, so the count is 0
+ *   share, share_len             the bytes of a share file; where there is none the count is 0
  *   sheet, sheet_len             accepted: the sheet is at the front, and the bytes behind it are as they were.
  *                                Refused: every byte is as it was.
  *   answer                       gets number, system, row and length, whatever they are
  *
  * Returns the answer's number. */
+uint64_t wirepulley_write_shared(const uint8_t *file, size_t file_len, const int64_t *base, size_t base_len, const int64_t *wider,
+                                 size_t wider_len, const int64_t *local, size_t local_len, const int64_t *peak_base,
+                                 size_t peak_base_len, const int64_t *peak_wider, size_t peak_wider_len, const uint8_t *share,
+                                 size_t share_len, uint8_t *sheet, size_t sheet_len, uint64_t answer[WIREPULLEY_ANSWER]);
+
+/* Judges a case of either edition and writes no sheet: the same answer as wirepulley_write_shared gives with room enough for the sheet. So
+ * where the case is accepted, length is the length that a buffer for the sheet needs. The arguments are those of
+ * wirepulley_write_shared.
+ *
+ * Returns the answer's number, never 12. */
+uint64_t wirepulley_judge_shared(const uint8_t *file, size_t file_len, const int64_t *base, size_t base_len, const int64_t *wider,
+                                 size_t wider_len, const int64_t *local, size_t local_len, const int64_t *peak_base,
+                                 size_t peak_base_len, const int64_t *peak_wider, size_t peak_wider_len, const uint8_t *share,
+                                 size_t share_len, uint64_t answer[WIREPULLEY_ANSWER]);
+
+/* The form of wirepulley_write_shared without a share file: what that gives where the share's count is 0. The arguments are those of
+ * wirepulley_write_shared.
+ *
+ * Returns the answer's number, never 16. */
 uint64_t wirepulley_write_five(const uint8_t *file, size_t file_len, const int64_t *base, size_t base_len, const int64_t *wider,
                                size_t wider_len, const int64_t *local, size_t local_len, const int64_t *peak_base,
                                size_t peak_base_len, const int64_t *peak_wider, size_t peak_wider_len, uint8_t *sheet,
                                size_t sheet_len, uint64_t answer[WIREPULLEY_ANSWER]);
 
-/* Judges a case of either edition and writes no sheet: the same answer as wirepulley_write_five gives with room enough for the sheet. So
- * where the case is accepted, length is the length that a buffer for the sheet needs. The arguments are those of wirepulley_write_five.
+/* The form of wirepulley_judge_shared without a share file: the same answer as wirepulley_write_five gives with room enough for the
+ * sheet.
  *
- * Returns the answer's number, never 12. */
+ * Returns the answer's number, neither 12 nor 16. */
 uint64_t wirepulley_judge_five(const uint8_t *file, size_t file_len, const int64_t *base, size_t base_len, const int64_t *wider,
                                size_t wider_len, const int64_t *local, size_t local_len, const int64_t *peak_base,
                                size_t peak_base_len, const int64_t *peak_wider, size_t peak_wider_len,

@@ -2,18 +2,20 @@
 
 mod bytes;
 mod pairs;
+mod shares;
+pub use shares::sound_share;
 
 use crate::bands::{self, at_edge};
 use crate::faults::{self, Draft, Fault, Told};
-use crate::input::{Input, Outcome, LONGEST_SHEET};
+use crate::input::{shown, Input, Outcome, LONGEST_SHEET};
 use crate::library::Library;
 use crate::networks::{network, tastes, Form, Shape, EDITION_2, SHAPES, VERSION_1, VERSION_2};
-use crate::program::{run, Archive};
+use crate::program::{Archive, Differing, Tariff};
 use crate::tally::Tally;
 use reference::file::{whole_case, Case, Edition, Version};
+use reference::program_output_with_share;
 use reference::random::{spoiled, Chance};
 use reference::replay::{self, Told as Said};
-use reference::{program_output, text};
 use std::io::Result;
 use std::time::Instant;
 
@@ -34,7 +36,7 @@ pub struct Plan {
 
 impl Plan {
     pub const SHORT: Plan = Plan {
-        sizes: [(12, 900, 8), (60, 60, 8), (255, 6, 4), (256, 50, 2)],
+        sizes: [(12, 840, 8), (60, 60, 8), (255, 6, 4), (256, 60, 2)],
         random_bytes: 1_000,
         replay: true,
         tariff: 200,
@@ -61,6 +63,11 @@ const NETWORK_IN_VERSION_2: &str = "a network by chance, in version 2";
 const TWO_BY_THREE: &str = "edition 2, accepted with five runs and refused as 1 with three";
 const ONE_BY_THREE: &str = "edition 1, accepted with five runs and with three";
 
+/// 02, CR 6: what the forms leave behind of a case that is lent a share file and accepted without.
+const ONE_BY_SHARE: &str = "edition 1, accepted with a share file and without";
+const TWO_BY_SHARE: &str = "edition 2, accepted with a share file and without";
+const REFUSED_BY_SHARE: &str = "edition 2, refused as 16 with a share file and accepted without";
+
 pub struct Compare {
     plan: Plan,
     seed: u64,
@@ -70,7 +77,9 @@ pub struct Compare {
     faults: Vec<Fault>,
     tally: Tally,
     archive: Archive,
-    through_tariff: u64,
+    tariff: Tariff,
+    /// Cases with a share file through `tariff` and through `replay`.
+    with_share: [u64; 2],
     differences: u64,
     started: Instant,
 }
@@ -85,6 +94,7 @@ impl Compare {
         for cause in [LISTED_IN_VERSION_2, NETWORK_IN_VERSION_2, TWO_BY_THREE, ONE_BY_THREE] {
             tally.expect(cause);
         }
+        [ONE_BY_SHARE, TWO_BY_SHARE, REFUSED_BY_SHARE].iter().for_each(|cause| tally.expect(cause));
         bands::ACCEPTED.iter().for_each(|(edge, _)| tally.expect(&at_edge_said(edge)));
         pairs::asked_orders().iter().for_each(|order| tally.expect(order));
         Ok(Compare {
@@ -92,11 +102,12 @@ impl Compare {
             seed,
             chance: Chance(seed),
             library,
+            tariff: Tariff::start(&commands[1])?,
             commands,
             faults,
             tally,
             archive: Archive::default(),
-            through_tariff: 0,
+            with_share: [0; 2],
             differences: 0,
             started: Instant::now(),
         })
@@ -115,17 +126,17 @@ impl Compare {
         }
         self.random_bytes()?;
         if self.archive.len() > 0 {
-            if let Some((file, printed, expected)) = self.archive.differing(&self.commands[2])? {
-                self.differs(
-                    "replay",
-                    &text::show(&file),
-                    &String::from_utf8_lossy(&printed),
-                    &String::from_utf8_lossy(&expected),
-                );
+            if let Some(differing) = self.archive.differing(&self.commands[2])? {
+                self.program_differs("replay", differing);
             }
         }
         let rare = self.tally.report(self.plan.least_answer, self.plan.least_cause);
-        println!("programs: {} files through tariff, {} through replay", self.through_tariff, self.archive.len());
+        let [tariff, replay] = self.with_share;
+        println!(
+            "programs: {} cases through tariff, {tariff} of them with a share file, {} through replay, {replay} with one",
+            self.tariff.files,
+            self.archive.len()
+        );
         println!(
             "seed {}, {} inputs, {} differences, {:.0} s",
             self.seed,
@@ -146,7 +157,7 @@ impl Compare {
                 Said::Refused(number, system, row) => Some((number as u64, system as u64, row as u64)),
                 Said::Open => None,
             };
-            let input = Input::new(case.file, runs);
+            let input = Input::new(case.file, runs).with_share(case.share);
             self.check_in_both(input, told, "a case of the replay's list", LISTED_IN_VERSION_2)?;
         }
         Ok(())
@@ -176,21 +187,22 @@ impl Compare {
         let tastes = tastes(form.1);
         let taste = tastes[number % tastes.len()];
         let case = network(&mut self.chance, shape, taste, nodes, form);
-        let input = Input::of(&case);
-        let outcome = input.expected();
-        self.check_in_both(input, None, "a network by chance", NETWORK_IN_VERSION_2)?;
+        let mut draft = Draft { share: self.share_of(&case), case, sheet: 0 };
+        let outcome = draft.input().expected();
+        self.check_in_both(draft.input(), None, "a network by chance", NETWORK_IN_VERSION_2)?;
         if outcome.answer()[0] != 0 {
-            return self.spoiled(&case, each);
+            return self.spoiled(&draft, each);
         }
-        let sheet = outcome.answer()[3] as usize;
-        self.tally.met_accepted(&case, &outcome.five.sheet[..sheet]);
-        self.accepted(&case, sheet)?;
+        draft.sheet = outcome.answer()[3] as usize;
+        self.tally.met_accepted(&draft.case, &outcome.shared.sheet[..draft.sheet]);
+        self.tally.met_share(&draft.case, &draft.share);
+        self.accepted(&draft)?;
         self.tally.met(&format!("accepted, a network of shape: {}", shape.0));
         self.tally.met(&format!("accepted, edition {}, figures: {taste}", form.1.number()));
-        let draft = Draft { case, sheet };
+        self.shares(&draft)?;
         self.single_faults(&draft, each)?;
         self.pairs(&draft, each)?;
-        self.spoiled(&draft.case, each / 4)
+        self.spoiled(&draft, each / 4)
     }
 
     /// Of the greatest networks most have as many circuits as their form holds; of the others nine in twenty are of edition 2.
@@ -211,9 +223,10 @@ impl Compare {
 
     /// An accepted case: exact and longer buffers, solutions in the file that are not those lent, misses up to their limit, flows at
     /// the edges of the bands.
-    fn accepted(&mut self, case: &Case, sheet: usize) -> Result<()> {
-        let mut input = Input::of(case);
-        input.sheet_len = sheet;
+    fn accepted(&mut self, draft: &Draft) -> Result<()> {
+        let (case, mut input) = (&draft.case, draft.input());
+        let lent = |case: &Case| Input::of(case).with_share(draft.share.clone());
+        input.sheet_len = draft.sheet;
         self.check(input.clone(), Some((0, 0, 0)), "accepted in a buffer of exactly its length")?;
         input.sheet_len -= 1;
         self.check(input.clone(), Some((12, 0, 0)), "refused in a buffer one byte short")?;
@@ -227,11 +240,11 @@ impl Compare {
         if let Some((place, step)) = faults::step_past(case, system, &mut self.chance) {
             let mut case = case.clone();
             case.runs[system][place] += step - step.signum();
-            self.check(Input::of(&case), Some((0, 0, 0)), "accepted with misses up to 100,000,000")?;
+            self.check(lent(&case), Some((0, 0, 0)), "accepted with misses up to 100,000,000")?;
         }
         for (name, edge) in bands::ACCEPTED {
             if let Some((moved, _)) = at_edge(case, edge, None, &mut self.chance) {
-                self.check(Input::of(&moved), Some((0, 0, 0)), &at_edge_said(name))?;
+                self.check(lent(&moved), Some((0, 0, 0)), &at_edge_said(name))?;
             }
         }
         Ok(())
@@ -258,10 +271,11 @@ impl Compare {
     }
 
     /// Copies with one thing changed by chance, whatever comes of it.
-    fn spoiled(&mut self, case: &Case, count: usize) -> Result<()> {
+    fn spoiled(&mut self, draft: &Draft, count: usize) -> Result<()> {
         for _ in 0..count {
             let seed = self.chance.bits();
-            let input = self.with_any_buffer(Input::of(&spoiled(case, seed)), 0);
+            let input = Input::of(&spoiled(&draft.case, seed)).with_share(draft.share.clone());
+            let input = self.with_any_buffer(input, 0);
             self.check(input, None, "a field changed by chance")?;
         }
         Ok(())
@@ -306,13 +320,27 @@ impl Compare {
             );
         }
         self.tally.met(cause);
-        match (number, input.edition(), expected.three.written.0) {
-            (0, Some(Edition::One), 0) => self.tally.met(ONE_BY_THREE),
-            (0, Some(Edition::Two), 1) => self.tally.met(TWO_BY_THREE),
+        self.forms(input, &expected);
+        self.programs(&input.file, &input.share)?;
+        Ok(outcome)
+    }
+
+    /// Counts what the forms leave behind of a case that is accepted with five runs.
+    fn forms(&mut self, input: &Input, expected: &Outcome) {
+        if expected.five.written.0 != 0 {
+            return;
+        }
+        match (input.edition(), expected.three.written.0) {
+            (Some(Edition::One), 0) => self.tally.met(ONE_BY_THREE),
+            (Some(Edition::Two), 1) => self.tally.met(TWO_BY_THREE),
             _ => (),
         }
-        self.programs(&input.file)?;
-        Ok(outcome)
+        match (input.edition(), expected.shared.written.0, input.share.is_empty()) {
+            (Some(Edition::One), 0, false) => self.tally.met(ONE_BY_SHARE),
+            (Some(Edition::Two), 0, false) => self.tally.met(TWO_BY_SHARE),
+            (Some(Edition::Two), 16, false) => self.tally.met(REFUSED_BY_SHARE),
+            _ => (),
+        }
     }
 
     /// What the library left behind of an input, where it came back, held to what it has to be.
@@ -333,24 +361,29 @@ impl Compare {
         Ok(outcome)
     }
 
-    /// A share of the files through the programs.
-    fn programs(&mut self, file: &[u8]) -> Result<()> {
-        if !self.commands[2].is_empty() && self.tally.inputs % self.plan.archive == 0 && self.archive.takes(file) {
-            self.archive.add(file);
+    /// One case in some through the programs.
+    fn programs(&mut self, file: &[u8], share: &[u8]) -> Result<()> {
+        let archived = !self.commands[2].is_empty() && self.archive.takes(file, share);
+        if archived && self.tally.inputs % self.plan.archive == 0 {
+            self.with_share[1] += !share.is_empty() as u64;
+            self.archive.add(file, share);
         }
-        if !self.commands[1].is_empty() && self.tally.inputs % self.plan.tariff == 0 {
-            self.through_tariff += 1;
-            let (printed, expected) = (run(&self.commands[1], file)?, program_output(file));
+        if self.tariff.is_asked() && self.tally.inputs % self.plan.tariff == 0 {
+            self.with_share[0] += !share.is_empty() as u64;
+            let (printed, expected) = (self.tariff.prints(file, share)?, program_output_with_share(file, share));
             if printed != expected {
-                self.differs(
-                    "tariff",
-                    &text::show(file),
-                    &String::from_utf8_lossy(&printed),
-                    &String::from_utf8_lossy(&expected),
-                );
+                let [file, share] = [file, share].map(<[u8]>::to_vec);
+                self.program_differs("tariff", Differing { file, share, printed, expected });
             }
         }
         Ok(())
+    }
+
+    /// Tells a difference of a program.
+    fn program_differs(&mut self, program: &str, differing: Differing) {
+        let Differing { file, share, printed, expected } = differing;
+        let [printed, expected] = [printed, expected].map(|bytes| String::from_utf8_lossy(&bytes).into_owned());
+        self.differs(program, &shown(&file, &share), &printed, &expected);
     }
 
     /// Tells a difference. After twenty the rest is only counted.

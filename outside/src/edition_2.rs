@@ -48,8 +48,8 @@ fn of_types(case: &Case) -> Vec<Feature> {
     ]
 }
 
-/// Of each generation zone the plant types with TEC.
-fn zones_by_types(case: &Case) -> BTreeMap<u32, BTreeSet<u32>> {
+/// Of each generation zone with TEC the plant types that it is of.
+pub fn zones_by_types(case: &Case) -> BTreeMap<u32, BTreeSet<u32>> {
     let zones: BTreeMap<Name, u32> = case.nodes.iter().map(|row| (row.name, row.generation_zone)).collect();
     let mut types: BTreeMap<u32, BTreeSet<u32>> = BTreeMap::new();
     for row in case.stations.iter().filter(|row| row.tec > 0) {

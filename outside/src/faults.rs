@@ -6,6 +6,7 @@ mod proposals;
 pub use proposals::{misses_pass, step_past};
 mod rows;
 mod settings;
+mod shares;
 mod tables;
 
 use crate::input::Input;
@@ -21,15 +22,24 @@ pub type Told = (u64, u64, u64);
 /// A case in the making: its tables and solutions, then its bytes and what is lent.
 pub struct Draft {
     pub case: Case,
+    /// 02, CR 6: the share file that is lent with it, sound or empty; any bytes in edition 1.
+    pub share: Vec<u8>,
     /// The length of the sheet of the case without faults.
     pub sheet: usize,
+}
+
+impl Draft {
+    /// What is lent without faults.
+    pub fn input(&self) -> Input {
+        Input::of(&self.case).with_share(self.share.clone())
+    }
 }
 
 /// Where a fault is planted. Each gives the row that 01 names, or nothing where the case has no place for it.
 pub enum Plant {
     /// In the tables or the solutions; the trailer is made afterwards.
     Case(Box<dyn Fn(&mut Case, &mut Chance) -> Option<u64>>),
-    /// In the file's bytes or the lent runs and buffers.
+    /// In the file's bytes, the share file's or the lent runs and buffers.
     Input(Box<dyn Fn(&mut Input, &mut Chance) -> Option<u64>>),
 }
 
@@ -44,24 +54,25 @@ pub struct Fault {
 }
 
 impl Fault {
-    /// The place in the order: "1 to 7", 13 "after 7" (02, CR 1), 14 "after 13" (CR 5); "8, 9, 10 for system 1; 11; 8, 9, 10 for
-    /// system 2, then 3; 12", and in edition 2 "8 to 10 for systems 1 and 4; 15 ..; 11 ..; 8 to 10 for 2, 5 and 3".
+    /// The place in the order: "1 to 7", 13 "after 7" (02, CR 1), 14 "after 13" (CR 5), 16 "after 14" (CR 6); "8, 9, 10 for system
+    /// 1; 11; 8, 9, 10 for system 2, then 3; 12", and in edition 2 "8 to 10 for systems 1 and 4; 15 ..; 11 ..; 8 to 10 for 2, 5 and 3".
     pub fn order(&self) -> u64 {
         // Behind the base systems 15 and 11 take two places.
         let start = |system: u64| match system {
-            1 => 10,
-            4 => 13,
-            2 => 18,
-            5 => 21,
-            _ => 24,
+            1 => 11,
+            4 => 14,
+            2 => 19,
+            5 => 22,
+            _ => 25,
         };
         match (self.number, self.system) {
             (13, _) => 8,
             (14, _) => 9,
+            (16, _) => 10,
             (8..=10, system) => start(system) + self.number - 8,
-            (15, _) => 16,
-            (11, _) => 17,
-            (12, _) => 27,
+            (15, _) => 17,
+            (11, _) => 18,
+            (12, _) => 28,
             (number, _) => number,
         }
     }
@@ -139,6 +150,7 @@ pub fn all() -> Vec<Fault> {
     settings::add(&mut list);
     rows::add(&mut list);
     tables::add(&mut list);
+    shares::add(&mut list);
     proposals::add(&mut list);
     list.list
 }
@@ -161,7 +173,7 @@ pub fn planted(draft: &Draft, faults: &mut [&Fault], chance: &mut Chance) -> Opt
             say(fault, plant(&mut case, chance))?;
         }
     }
-    let mut input = Input::of(&case);
+    let mut input = Input::of(&case).with_share(draft.share.clone());
     input.sheet_len = draft.sheet;
     for fault in faults.iter() {
         if let Plant::Input(plant) = &fault.plant {

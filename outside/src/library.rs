@@ -13,14 +13,16 @@ pub struct Library {
 }
 
 /// A program with its words, its input and output piped.
-pub fn piped(command: &[String]) -> Result<Child> {
-    Command::new(&command[0]).args(&command[1..]).stdin(Stdio::piped()).stdout(Stdio::piped()).spawn()
+pub fn piped(command: &[String]) -> Command {
+    let mut piped = Command::new(&command[0]);
+    piped.args(&command[1..]).stdin(Stdio::piped()).stdout(Stdio::piped());
+    piped
 }
 
 impl Library {
     /// Starts the caller.
     pub fn start(command: &[String]) -> Result<Library> {
-        let mut child = piped(command)?;
+        let mut child = piped(command).spawn()?;
         let to = BufWriter::new(child.stdin.take().expect("piped"));
         let from = BufReader::new(child.stdout.take().expect("piped"));
         Ok(Library { command: command.to_vec(), child, to, from })
@@ -28,7 +30,8 @@ impl Library {
 
     /// Every entry once. An error is the end of the caller, by a signal where the library touched what it was not lent.
     pub fn call(&mut self, input: &Input) -> Result<Outcome> {
-        let counts = [input.file.len()].into_iter().chain(input.runs.iter().map(Vec::len)).chain([input.sheet_len]);
+        let behind = [input.share.len(), input.sheet_len];
+        let counts = [input.file.len()].into_iter().chain(input.runs.iter().map(Vec::len)).chain(behind);
         for number in [input.place, input.fill].into_iter().chain(counts.map(|count| count as u32)) {
             self.to.write_all(&number.to_le_bytes())?;
         }
@@ -36,8 +39,10 @@ impl Library {
         for number in input.runs.iter().flatten() {
             self.to.write_all(&number.to_le_bytes())?;
         }
+        self.to.write_all(&input.share)?;
         self.to.flush()?;
-        Ok(Outcome { five: self.left(input.sheet_len)?, three: self.left(input.sheet_len)? })
+        let mut left = || self.left(input.sheet_len);
+        Ok(Outcome { shared: left()?, five: left()?, three: left()? })
     }
 
     /// What both entries of a form left behind.

@@ -11,6 +11,7 @@ mod library;
 mod networks;
 mod program;
 mod seeds;
+mod shares;
 mod spurs;
 mod tally;
 
@@ -20,7 +21,8 @@ use std::process::exit;
 const USAGE: &str = "usage: outside short|long [--seed N] --run WORDS --caller PROGRAM [--tariff PROGRAM --replay PROGRAM]
 Holds the library (through PROGRAM caller) and the programs to the reference. WORDS, which may be empty, run an x86-64 program.
   short    some 30,000 inputs     long    more than 200,000 inputs
-outside seeds FOLDER writes inputs of the fuzz target: the replay's list, and networks of edition 2 without faults and with one.
+outside seeds FOLDER writes inputs of the fuzz target: the replay's list, and networks of edition 2 without faults and with one, by
+turns without and with a share file.
 Exit status: 0 no difference and no answer or cause too rare; 1 otherwise; 2 it could not be tried.";
 
 fn main() {
@@ -38,9 +40,9 @@ fn main() {
         match word.as_str() {
             "--seed" => seed = Some(value.parse().unwrap_or_else(|_| fail("--seed needs a number"))),
             "--run" => prefix = value.split_whitespace().map(String::from).collect(),
-            "--caller" => programs[0] = vec![value],
-            "--tariff" => programs[1] = vec![value],
-            "--replay" => programs[2] = vec![value],
+            "--caller" => programs[0] = vec![absolute(&value)],
+            "--tariff" => programs[1] = vec![absolute(&value)],
+            "--replay" => programs[2] = vec![absolute(&value)],
             _ => fail(USAGE),
         }
     }
@@ -53,6 +55,12 @@ fn main() {
     let passed =
         Compare::start(plan, seed, commands).and_then(Compare::run).unwrap_or_else(|error| fail(&error.to_string()));
     exit(if passed { 0 } else { 1 });
+}
+
+/// A program's whole path: it may run in another folder.
+fn absolute(program: &str) -> String {
+    let path = std::path::absolute(program).unwrap_or_else(|error| fail(&format!("{program}: {error}")));
+    path.into_os_string().into_string().unwrap_or_else(|_| fail("a program's path is not plain text"))
 }
 
 fn write_seeds(folder: &str) {

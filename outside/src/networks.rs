@@ -123,6 +123,8 @@ struct Figures<'a> {
     plants: &'static [u32],
     /// 02, CR 3: circuits may have factors of their own.
     factors: bool,
+    /// 02, CR 6: many generation zones, and each as likely for a node, so that chains of a share file are long.
+    many_zones: bool,
 }
 
 impl Figures<'_> {
@@ -134,9 +136,19 @@ impl Figures<'_> {
         }
     }
 
+    /// How many generation zones a network of so many nodes has.
+    fn generation_zones(&mut self, nodes: usize) -> u32 {
+        let most = (2 * nodes as u64).min(32);
+        match self.many_zones {
+            true if nodes == 256 => 32,
+            true => self.chance.of(&[most, self.chance.0 % most + 1]) as u32,
+            false => self.within(1, 32),
+        }
+    }
+
     fn settings(&mut self, nodes: usize) -> Settings {
         let settings = Settings {
-            generation_zones: self.within(1, 32),
+            generation_zones: self.generation_zones(nodes),
             demand_zones: self.within(1, 32),
             p: self.within(0, 1_000),
             constant: self.within(1, 10_000),
@@ -174,9 +186,10 @@ impl Figures<'_> {
             _ if self.taste == "at the ends of ranges" => self.chance.of(&[0, 1, 20_000_000]),
             _ => self.chance.spread(0, 3_000_000),
         };
+        let zones = settings.generation_zones as u64;
         NodeRow {
             name,
-            generation_zone: self.within(1, settings.generation_zones as u64),
+            generation_zone: if self.many_zones { self.chance.within(1, zones) as u32 } else { self.within(1, zones) },
             demand_zone: self.within(1, settings.demand_zones as u64),
             demand,
         }
@@ -298,7 +311,8 @@ fn drawn(chance: &mut Chance, (_, shape): Shape, taste: &'static str, nodes: usi
     let stations = if nodes == 256 { 512 } else { chance.within(fewest, 2 * nodes as u64) as usize };
     let factors = version == Version::Two && chance.within(0, 3) > 0;
     let plants = plants(chance, edition, taste);
-    let mut figures = Figures { chance, taste, edition, plants, factors };
+    let many_zones = edition == Edition::Two && (nodes == 256 || chance.within(0, 1) == 0);
+    let mut figures = Figures { chance, taste, edition, plants, factors, many_zones };
     let settings = figures.settings(nodes);
     let mut case = Case {
         version,

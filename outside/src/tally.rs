@@ -4,6 +4,7 @@ use crate::bands::{flow_is_idle, has_length, Flows};
 use crate::edition_2::of_edition_2;
 use crate::faults::Told;
 use crate::halves::negative_halves;
+use crate::shares::of_share;
 use reference::file::{Case, CircuitRow, Edition, Name, StationRow, Version};
 use reference::tables::INTERCONNECTOR;
 use std::collections::{BTreeMap, BTreeSet};
@@ -12,8 +13,8 @@ use std::collections::{BTreeMap, BTreeSet};
 #[derive(Default)]
 pub struct Tally {
     pub inputs: u64,
-    /// By number, 1 to 15; 0 is accepted.
-    answers: [u64; 16],
+    /// By number, 1 to 16; 0 is accepted.
+    answers: [u64; 17],
     /// 02, CR 5: of files that name edition 2, by number and system.
     of_edition_2: BTreeMap<(u64, u64), u64>,
     pub causes: BTreeMap<String, u64>,
@@ -22,7 +23,7 @@ pub struct Tally {
 
 /// 02, CR 5: every number and system that edition 2 is answered with.
 fn answers_of_edition_2() -> impl Iterator<Item = (u64, u64)> {
-    let alone = [0, 1, 2, 3, 4, 5, 6, 7, 12, 13, 14, 15].map(|number| (number, 0));
+    let alone = [0, 1, 2, 3, 4, 5, 6, 7, 12, 13, 14, 15, 16].map(|number| (number, 0));
     let of_systems = [8, 9, 10].into_iter().flat_map(|number| (1..=5).map(move |system| (number, system)));
     alone.into_iter().chain(of_systems).chain([(11, 1), (11, 4)])
 }
@@ -71,9 +72,21 @@ impl Tally {
         }
     }
 
+    /// 02, CR 6: what an accepted case has of a share file.
+    pub fn met_share(&mut self, case: &Case, share: &[u8]) {
+        of_share(case, share).iter().filter(|(_, met)| *met).for_each(|(name, _)| self.met(&accepted_said(name)));
+    }
+
+    /// How often a case was accepted with something.
+    pub fn accepted_with(&self, name: &str) -> u64 {
+        self.causes.get(&accepted_said(name)).copied().unwrap_or_default()
+    }
+
     /// Every end of a range has to be met, and every feature.
     pub fn expect_accepted(&mut self) {
-        features(&reference::replay::bases::kiln(), b"").iter().for_each(|(name, _)| self.expect(name));
+        let kiln = reference::replay::bases::kiln();
+        features(&kiln, b"").iter().for_each(|(name, _)| self.expect(name));
+        of_share(&kiln, b"").iter().for_each(|(name, _)| self.expect(&accepted_said(name)));
         self.of_edition_2 = answers_of_edition_2().map(|answer| (answer, 0)).collect();
     }
 
@@ -94,6 +107,11 @@ impl Tally {
         println!("orders: {pairs} inputs with two faults, {} different pairs of number and system; the first was answered each time", self.orders.len());
         rare
     }
+}
+
+/// What an accepted case has, among the causes.
+fn accepted_said(name: &str) -> String {
+    format!("accepted with {name}")
 }
 
 /// Prints counts under a title, each on a line, and gives the names of those that are too low.

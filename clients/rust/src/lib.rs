@@ -26,6 +26,13 @@
 //! tariff before year round's; a total is both tariffs and the residual. Intermittent stations (plant type 1) do not pay peak's tariff,
 //! so they pay the total less that.
 //!
+//! # Share files
+//!
+//! A case of edition 2 may come with a share file, `solutions.with(&file).with_share(&share)`. It says which generation zone lies behind
+//! which, and each plant type's load factor. Year round's three on a `G` line are then the not-shared metres, these plus C and their
+//! tariff; the shared metres and their tariff follow. The total leaves the shared tariff out, which is paid on chargeable TEC times load
+//! factor. An empty share file is as none, and edition 1 does not look at it.
+//!
 //! # Versions
 //!
 //! A file is of version 1 or 2. In version 2 a circuit may have a factor of its own, in thousandths, for a subsea or HVDC circuit; at
@@ -42,15 +49,16 @@ mod solutions;
 pub use refusal::{Refusal, System};
 pub use solutions::Solutions;
 
-/// No sheet is longer: a buffer of this many bytes is never refused as too short. For edition 1 alone 14,240 are enough.
+/// No sheet is longer: a buffer of this many bytes is never refused as too short. Without a share file 16,362 are enough, for edition 1
+/// alone 14,240.
 pub const LONGEST_SHEET: usize = include!(concat!(env!("OUT_DIR"), "/WIREPULLEY_LONGEST_SHEET"));
 
 /// No call takes more bytes of stack, whatever it is given.
 pub const STACK: usize = include!(concat!(env!("OUT_DIR"), "/WIREPULLEY_STACK"));
 
-// The forms of five runs, which take either edition.
+// The forms with a share file, which take either edition.
 extern "C" {
-    fn wirepulley_write_five(
+    fn wirepulley_write_shared(
         file: *const u8,
         file_len: usize,
         base: *const i64,
@@ -63,11 +71,13 @@ extern "C" {
         peak_base_len: usize,
         peak_wider: *const i64,
         peak_wider_len: usize,
+        share: *const u8,
+        share_len: usize,
         sheet: *mut u8,
         sheet_len: usize,
         answer: *mut [u64; 4],
     ) -> u64;
-    fn wirepulley_judge_five(
+    fn wirepulley_judge_shared(
         file: *const u8,
         file_len: usize,
         base: *const i64,
@@ -80,6 +90,8 @@ extern "C" {
         peak_base_len: usize,
         peak_wider: *const i64,
         peak_wider_len: usize,
+        share: *const u8,
+        share_len: usize,
         answer: *mut [u64; 4],
     ) -> u64;
 }
@@ -87,7 +99,7 @@ extern "C" {
 /// What the library answers, as document 01 numbers it.
 #[derive(Clone, Copy, Debug, PartialEq, Eq)]
 pub struct Answer {
-    /// 0 where the case is accepted, else a refusal's: 1 to 15, or more from a newer library.
+    /// 0 where the case is accepted, else a refusal's: 1 to 16, or more from a newer library.
     pub number: u64,
     /// 1 base, 2 wider, 3 local, 4 peak base, 5 peak wider; 0 where the answer is about none of them.
     pub system: u64,
@@ -112,7 +124,7 @@ impl Answer {
     }
 }
 
-/// A case in memory: the bytes of its file, and the solutions that are judged in place of those in the file.
+/// A case in memory: the bytes of its file, the solutions that are judged in place of those in the file, and its share file.
 /// A solution is a potential for each node, then a flow for each circuit, in table order. In edition 2 base and wider are year round's.
 #[derive(Clone, Copy, Debug)]
 pub struct Case<'a> {
@@ -124,9 +136,16 @@ pub struct Case<'a> {
     pub peak_base: &'a [i64],
     /// Empty in edition 1, which has no peak.
     pub peak_wider: &'a [i64],
+    /// The bytes of a share file, empty where there is none.
+    pub share: &'a [u8],
 }
 
-impl Case<'_> {
+impl<'a> Case<'a> {
+    /// The same case with a share file.
+    pub fn with_share(self, share: &'a [u8]) -> Case<'a> {
+        Case { share, ..self }
+    }
+
     /// Judges the case and writes its sheet at the front of the buffer: its length. The bytes behind it are as they were; after a
     /// refusal all of them are.
     pub fn write(&self, sheet: &mut [u8]) -> Result<usize, Refusal> {
@@ -135,11 +154,11 @@ impl Case<'_> {
 
     /// The same with the answer as numbers.
     pub fn answer(&self, sheet: &mut [u8]) -> Answer {
-        let Case { file, base, wider, local, peak_base, peak_wider } = self;
+        let Case { file, base, wider, local, peak_base, peak_wider, share } = self;
         let mut answer = [0; 4];
         // SAFETY: each pointer and count are those of a slice that outlives the call, and the answer has four numbers. The two that are written to are lent alone.
         unsafe {
-            wirepulley_write_five(
+            wirepulley_write_shared(
                 file.as_ptr(),
                 file.len(),
                 base.as_ptr(),
@@ -152,6 +171,8 @@ impl Case<'_> {
                 peak_base.len(),
                 peak_wider.as_ptr(),
                 peak_wider.len(),
+                share.as_ptr(),
+                share.len(),
                 sheet.as_mut_ptr(),
                 sheet.len(),
                 &mut answer,
@@ -167,11 +188,11 @@ impl Case<'_> {
 
     /// The same with the answer as numbers: those of `answer` with room enough for the sheet.
     pub fn judgement(&self) -> Answer {
-        let Case { file, base, wider, local, peak_base, peak_wider } = self;
+        let Case { file, base, wider, local, peak_base, peak_wider, share } = self;
         let mut answer = [0; 4];
         // SAFETY: each pointer and count are those of a slice that outlives the call, and the answer has four numbers. It is lent alone.
         unsafe {
-            wirepulley_judge_five(
+            wirepulley_judge_shared(
                 file.as_ptr(),
                 file.len(),
                 base.as_ptr(),
@@ -184,6 +205,8 @@ impl Case<'_> {
                 peak_base.len(),
                 peak_wider.as_ptr(),
                 peak_wider.len(),
+                share.as_ptr(),
+                share.len(),
                 &mut answer,
             )
         };

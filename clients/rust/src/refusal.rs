@@ -48,8 +48,8 @@ impl System {
 /// What stopped a case, and what it asks for. Rows count from 1. A newer client may have more reasons, so a match has an arm for those to
 /// come.
 ///
-/// The first that holds is told, in this order: 1 to 7; 13; 14; 8, 9, 10 of system 1 (base), then of 4 (peak base); 15; 11; 8, 9, 10 of
-/// system 2 (wider), then of 5 (peak wider), then of 3 (local); 12. Edition 1 has no 14, no 15 and no systems 4 and 5.
+/// The first that holds is told, in this order: 1 to 7; 13; 14; 16; 8, 9, 10 of system 1 (base), then of 4 (peak base); 15; 11; 8, 9, 10
+/// of system 2 (wider), then of 5 (peak wider), then of 3 (local); 12. Edition 1 has no 14, 15 and 16 and no systems 4 and 5.
 #[derive(Clone, Copy, Debug, PartialEq, Eq)]
 #[non_exhaustive]
 pub enum Refusal {
@@ -96,6 +96,13 @@ pub enum Refusal {
     /// 15, edition 2: a circuit's flow year round is greater in magnitude than at peak by more than 400,000,000 and at most 800,000,000 mW,
     /// so it is in doubt which of them it counts for. Change the case by a little: two solvers could differ.
     BackgroundInDoubt { circuit: u64 },
+    /// 16 with row 0, edition 2: the share file has another length than 4 bytes for each generation zone and each of the seven plant types,
+    /// or a load factor above 1,000 thousandths. Write the file again for the zones of this case.
+    ShareFile,
+    /// 16 with a row, edition 2: a generation zone of the share file names one that does not exist or has no TEC, names one though it has no
+    /// TEC itself, is a second centre (a lower zone with TEC names none too), or following the numbers from it never ends. TEC of every
+    /// plant type counts. Correct the zone's number, or that of one which it leads to.
+    ShareZone { zone: u64 },
     /// A reason that this client does not know: another number, or one of these numbers with a system or row that it never has.
     /// A newer client may have a variant of its own for it; what `number`, `system` and `row` say stays the same.
     Unknown { number: u64, system: u64, row: u64 },
@@ -129,6 +136,8 @@ impl Refusal {
             (13, 0, 0) => Refusal::ChargeableTec,
             (14, 0, 0) => Refusal::Unscalable,
             (15, 0, circuit) => Refusal::BackgroundInDoubt { circuit },
+            (16, 0, 0) => Refusal::ShareFile,
+            (16, 0, zone) => Refusal::ShareZone { zone },
             _ => return None,
         })
     }
@@ -151,6 +160,8 @@ impl Refusal {
             Refusal::ChargeableTec => (13, 0, 0),
             Refusal::Unscalable => (14, 0, 0),
             Refusal::BackgroundInDoubt { circuit } => (15, 0, circuit),
+            Refusal::ShareFile => (16, 0, 0),
+            Refusal::ShareZone { zone } => (16, 0, zone),
             Refusal::Unknown { number, system, row } => (number, system, row),
         }
     }
@@ -194,6 +205,9 @@ const NUMBER: &str = "out of range, or the reference's potential is not 0";
 const CHARGEABLE: &str = "no TEC is chargeable: all of it is of interconnectors (plant type 3)";
 const UNSCALABLE: &str = "generation does not scale to demand in a background: fixed plant types come to more, or the others have less than is left";
 
+const SHARE_FILE: &str = "the share file has a wrong length, or a load factor above 1,000 thousandths";
+const SHARE_ZONE: &str = "names one that it may not name, is a second centre, or its chain circles";
+
 impl Refusal {
     /// The words, without the number.
     fn say(self, to: &mut fmt::Formatter) -> fmt::Result {
@@ -217,6 +231,8 @@ impl Refusal {
             Refusal::BackgroundInDoubt { circuit } => {
                 write!(to, "it is in doubt whether circuit {circuit} counts for year round or for peak")
             }
+            Refusal::ShareFile => write!(to, "{SHARE_FILE}"),
+            Refusal::ShareZone { zone } => write!(to, "share file: zone {zone} {SHARE_ZONE}"),
             Refusal::Unknown { .. } => write!(to, "a reason this client does not know; use a newer client"),
         }
     }

@@ -49,10 +49,10 @@ impl Solutions {
         }
     }
 
-    /// A case of a file with these solutions.
+    /// A case of a file with these solutions, and no share file.
     pub fn with<'a>(&'a self, file: &'a [u8]) -> Case<'a> {
         let Solutions { base, wider, local, peak_base, peak_wider } = self;
-        Case { file, base, wider, local, peak_base, peak_wider }
+        Case { file, base, wider, local, peak_base, peak_wider, share: &[] }
     }
 }
 

@@ -1,4 +1,4 @@
-//! Calls of the real library; those of edition 2 stand in `editions.rs`.
+//! Calls of the real library; those of edition 2 stand in `editions.rs`, those with a share file in `shares.rs`.
 
 mod files;
 
@@ -81,7 +81,7 @@ fn the_lent_runs_are_judged() {
 fn empty_slices_are_judged() {
     let solutions = Solutions::of_file(KILN);
     let case = solutions.with(KILN);
-    let nothing = Case { file: &[], base: &[], wider: &[], local: &[], peak_base: &[], peak_wider: &[] };
+    let nothing = Case { file: &[], base: &[], wider: &[], local: &[], peak_base: &[], peak_wider: &[], share: &[] };
     let lacking = [
         Case { file: &[], ..case },
         Case { base: &[], ..case },
@@ -261,6 +261,7 @@ fn sort_of(refusal: Refusal) -> &'static str {
             "known"
         }
         Refusal::Unscalable | Refusal::BackgroundInDoubt { .. } => "known",
+        Refusal::ShareFile | Refusal::ShareZone { .. } => "known",
         Refusal::Unknown { .. } => "unknown",
         _ => "to come",
     }
@@ -269,5 +270,5 @@ fn sort_of(refusal: Refusal) -> &'static str {
 #[test]
 fn a_match_has_an_arm_for_reasons_to_come() {
     assert_eq!(sort_of(Refusal::File), "known");
-    assert_eq!(sort_of(Refusal::Unknown { number: 16, system: 0, row: 0 }), "unknown");
+    assert_eq!(sort_of(Refusal::Unknown { number: 17, system: 0, row: 0 }), "unknown");
 }

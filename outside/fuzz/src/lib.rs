@@ -1,11 +1,13 @@
-//! The reference as C calls it: the entry with a lent buffer, and the solver for the mutator.
+//! The reference as C calls it: the entry with a lent buffer, and the solver and share files for the mutator.
 
 use reference::file::{whole_case, Case, Edition, Version, RUNS};
+use reference::random_share::{sound, spoiled};
 use reference::solver::solved;
-use reference::{judge_case, judge_into, Answer};
+use reference::tables::sound_tables;
+use reference::{judge_case_with_share, judge_into_with_share, Answer};
 use std::slice::{from_raw_parts, from_raw_parts_mut};
 
-/// What `wirepulley_write_five` has to answer and to leave in the buffer, and `wirepulley_write` where peak's runs are empty.
+/// What `wirepulley_write_shared` has to answer and to leave in the buffer, and the other forms where what they are not lent is empty.
 ///
 /// # Safety
 /// Each pointer leads to as many elements as its count says, four for `answer`.
@@ -15,16 +17,19 @@ pub unsafe extern "C" fn reference_write(
     file_len: usize,
     runs: *const *const i64,
     run_lens: *const usize,
+    share: *const u8,
+    share_len: usize,
     sheet: *mut u8,
     sheet_len: usize,
     answer: *mut u64,
 ) {
+    let (file, share) = (from_raw_parts(file, file_len), from_raw_parts(share, share_len));
     let buffer = from_raw_parts_mut(sheet, sheet_len);
-    tell(judge_into(from_raw_parts(file, file_len), lent(runs, run_lens), buffer), answer);
+    tell(judge_into_with_share(file, lent(runs, run_lens), share, buffer), answer);
 }
 
-/// What `wirepulley_judge_five` has to answer, and `wirepulley_judge` where peak's runs are empty: the answer with room enough for the
-/// sheet.
+/// What `wirepulley_judge_shared` has to answer, and the other forms where what they are not lent is empty: the answer with room enough
+/// for the sheet.
 ///
 /// # Safety
 /// Each pointer leads to as many elements as its count says, four for `answer`.
@@ -34,9 +39,12 @@ pub unsafe extern "C" fn reference_judge(
     file_len: usize,
     runs: *const *const i64,
     run_lens: *const usize,
+    share: *const u8,
+    share_len: usize,
     answer: *mut u64,
 ) {
-    let judged = match judge_case(from_raw_parts(file, file_len), lent(runs, run_lens)) {
+    let (file, share) = (from_raw_parts(file, file_len), from_raw_parts(share, share_len));
+    let judged = match judge_case_with_share(file, lent(runs, run_lens), share) {
         Ok(sheet) => Answer::Accepted(sheet.len()),
         Err(refusal) => Answer::Refused(refusal),
     };
@@ -107,4 +115,28 @@ pub unsafe extern "C" fn reference_solve(file: *mut u8, file_len: usize) {
     if let Some(case) = whole_case(file).filter(|case| case.nodes.len() <= 40) {
         file.copy_from_slice(&solved(&case).0.bytes());
     }
+}
+
+/// Writes a share file by chance for a whole file whose tables are sound, with a fault where `fault` is not 0. Gives its length, 0 for
+/// another file or where `most` bytes are not enough.
+///
+/// # Safety
+/// The pointers lead to `file_len` and to `most` bytes.
+#[no_mangle]
+pub unsafe extern "C" fn reference_share(
+    file: *const u8,
+    file_len: usize,
+    seed: u32,
+    fault: i32,
+    share: *mut u8,
+    most: usize,
+) -> usize {
+    let tables = whole_case(from_raw_parts(file, file_len)).and_then(|case| sound_tables(&case).ok());
+    let drawn = tables.map(|tables| match fault {
+        0 => sound(&tables, seed as u64).bytes(),
+        _ => spoiled(&tables, seed as u64).bytes,
+    });
+    let bytes = drawn.filter(|bytes| bytes.len() <= most).unwrap_or_default();
+    from_raw_parts_mut(share, most)[..bytes.len()].copy_from_slice(&bytes);
+    bytes.len()
 }

@@ -14,7 +14,8 @@ impl Compare {
             let file = self.bytes(length);
             let runs =
                 std::array::from_fn(|_| (0..self.chance.within(0, 9)).map(|_| self.chance.bits() as i64).collect());
-            let input = Input::new(file, runs);
+            let count = self.chance.of(&[0, self.chance.0 as usize % 200]);
+            let input = Input::new(file, runs).with_share(self.bytes(count));
             if number % 4 == 0 && length >= 128 {
                 let named = self.named(input.clone());
                 self.check(named, Some((1, 0, 0)), "bytes by chance that name an edition, a version and their length")?;

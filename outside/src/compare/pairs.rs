@@ -11,7 +11,7 @@ use std::io::Result;
 type Pair = ((u64, u64), (u64, u64));
 
 /// Pairs whose order 01 and 02 are asked about most.
-const ORDERS: [Pair; 20] = [
+const ORDERS: [Pair; 26] = [
     ((3, 0), (4, 0)),
     ((4, 0), (5, 0)),
     ((6, 0), (7, 0)),
@@ -32,6 +32,12 @@ const ORDERS: [Pair; 20] = [
     ((11, 4), (8, 2)),
     ((10, 2), (8, 5)),
     ((10, 5), (8, 3)),
+    ((7, 0), (16, 0)),
+    ((13, 0), (16, 0)),
+    ((14, 0), (16, 0)),
+    ((16, 0), (8, 1)),
+    ((16, 0), (15, 0)),
+    ((16, 0), (12, 0)),
 ];
 
 /// 02, CR 5: 15 goes before 11 whatever their rows are.
@@ -102,7 +108,7 @@ impl Compare {
 fn may_undo(faults: [&Fault; 2]) -> bool {
     let [first, second] = faults;
     let doubts = faults.iter().all(|fault| [11, 15].contains(&fault.number));
-    (first.key() == second.key() && [1, 6, 9, 10].contains(&first.number))
+    (first.key() == second.key() && [1, 6, 9, 10, 16].contains(&first.number))
         || (doubts && faults.iter().any(|fault| fault.moves_flow()))
 }
 

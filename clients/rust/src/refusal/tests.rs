@@ -6,7 +6,7 @@ use crate::Answer;
 /// What the library answers (number, system, row), which refusal that is, and its words.
 type Known = ((u64, u64, u64), Refusal, &'static str);
 
-const ROW_FREE: [Known; 11] = [
+const ROW_FREE: [Known; 12] = [
     (
         (1, 0, 0),
         Refusal::File,
@@ -26,9 +26,10 @@ const ROW_FREE: [Known; 11] = [
         Refusal::Unscalable,
         "generation does not scale to demand in a background: fixed plant types come to more, or the others have less than is left",
     ),
+    ((16, 0, 0), Refusal::ShareFile, "the share file has a wrong length, or a load factor above 1,000 thousandths"),
 ];
 
-const OF_A_ROW: [Known; 5] = [
+const OF_A_ROW: [Known; 6] = [
     ((3, 0, 21), Refusal::Node { row: 21 }, "node 21 is malformed, out of range, or has the name of an earlier node"),
     (
         (4, 0, 22),
@@ -45,6 +46,11 @@ const OF_A_ROW: [Known; 5] = [
         (15, 0, 25),
         Refusal::BackgroundInDoubt { circuit: 25 },
         "it is in doubt whether circuit 25 counts for year round or for peak",
+    ),
+    (
+        (16, 0, 26),
+        Refusal::ShareZone { zone: 26 },
+        "share file: zone 26 names one that it may not name, is a second centre, or its chain circles",
     ),
 ];
 
@@ -136,14 +142,14 @@ fn each_known_answer_is_its_own_refusal_in_its_own_words() {
 
 #[test]
 fn every_number_of_the_table_is_tried() {
-    for number in 1..=15 {
+    for number in 1..=16 {
         assert!(known().any(|((tried, ..), ..)| tried == number), "{number}");
     }
 }
 
 #[test]
 fn a_number_outside_the_table_is_unknown() {
-    for number in [16, 17, 255, 256 + 1, (1 << 32) + 1, u64::MAX - 1, u64::MAX] {
+    for number in [17, 18, 255, 256 + 1, (1 << 32) + 1, u64::MAX - 1, u64::MAX] {
         for system in ENDS {
             for row in ENDS {
                 let refusal = Refusal::Unknown { number, system, row };
@@ -160,7 +166,7 @@ fn a_number_outside_the_table_is_unknown() {
 }
 
 /// Numbers of the table with a system or a row that they never have.
-const STRANGE: [(u64, u64, u64); 35] = [
+const STRANGE: [(u64, u64, u64); 37] = [
     (1, 0, 1),
     (1, 1, 0),
     (2, 0, 9),
@@ -196,6 +202,8 @@ const STRANGE: [(u64, u64, u64); 35] = [
     (14, 4, 0),
     (15, 1, 1),
     (15, 4, 1),
+    (16, 1, 0),
+    (16, 4, 1),
 ];
 
 #[test]
@@ -207,12 +215,12 @@ fn a_known_number_with_a_strange_system_or_row_is_unknown() {
 
 #[test]
 fn every_answer_is_carried_as_it_came() {
-    for number in (1..=300).chain([1 << 32, (1 << 32) + 12, (1 << 32) + 15, u64::MAX]) {
+    for number in (1..=300).chain([1 << 32, (1 << 32) + 12, (1 << 32) + 16, u64::MAX]) {
         for system in ENDS {
             for row in ENDS {
                 let refusal = Refusal::of(answer(number, system, row)).expect("a number other than 0 is a refusal");
                 assert_eq!(carried(refusal), (number, system, row));
-                assert!(number <= 15 || matches!(refusal, Refusal::Unknown { .. }));
+                assert!(number <= 16 || matches!(refusal, Refusal::Unknown { .. }));
             }
         }
     }
