@@ -9,7 +9,7 @@ ghost use Rattle.boundaries.specs.Boundaries.{splits};
 use meaning::{Kw, Metres};
 
 // What a share file says of a case: whether it is in force; and of each zone the next one inward, low carbon and carbon TEC, and the kilowatts that pay its shared tariff.
-#[derive(Drop)]
+#[derive(Clone, Copy)]
 pub struct Shares {
     pub in_force: bool,
     pub next: [usize; 32],
@@ -19,7 +19,7 @@ pub struct Shares {
 }
 
 // A zone's metres in two parts.
-#[derive(Drop)]
+#[derive(Clone, Copy)]
 pub struct Split {
     pub shared: Metres,
     pub not_shared: Metres,

@@ -9,7 +9,7 @@ use plants::Counted;
 use tables::Opened;
 
 // What 1 to 11 and 13 to 16 make of a case, and its figures: all zero where it is stopped.
-#[derive(Drop)]
+#[derive(Clone, Copy)]
 pub struct Charged {
     pub judgement: Judgement,
     pub figures: Figures,

@@ -11,7 +11,7 @@ ghost use Rattle.circuit_table.specs.Columns.{circuits_of};
 use meaning::Judgement;
 
 // Numbers of each circuit's end nodes, the count of nodes where there is none; reactance, expanded length in mm, local mark.
-#[derive(Drop)]
+#[derive(Clone, Copy)]
 pub struct CircuitColumns {
     pub first: [usize; 512],
     pub second: [usize; 512],
@@ -21,7 +21,7 @@ pub struct CircuitColumns {
 }
 
 // The table judged, and its columns: names are resolved once for both.
-#[derive(Drop)]
+#[derive(Clone, Copy)]
 pub struct JudgedCircuits {
     pub judgement: Judgement,
     pub columns: CircuitColumns,

@@ -11,7 +11,7 @@ use numbers::Heading;
 
 // A case in columns: its edition, the count of nodes, the reference from 0, numbers of each circuit, and the supply of each node in the two base systems.
 // In edition 1 there is one, and peak's supply is 0.
-#[derive(Drop)]
+#[derive(Clone, Copy)]
 pub struct Case {
     pub edition: Edition,
     pub nodes: usize,

@@ -27,7 +27,7 @@ pub const PEAK_BASE: usize = 7;
 pub const PEAK_WIDER: usize = 8;
 
 // Rows of each table.
-#[derive(Drop)]
+#[derive(Clone, Copy)]
 pub struct RowCounts {
     pub nodes: usize,
     pub circuits: usize,

@@ -18,7 +18,7 @@ use words::{line_of, with_byte, with_name, with_word};
 pub const WIDTH: usize = 240;
 
 // The text of a line, zeros behind it, and its length.
-#[derive(Drop)]
+#[derive(Clone, Copy)]
 pub struct Line {
     pub bytes: [u8; WIDTH],
     pub len: usize,

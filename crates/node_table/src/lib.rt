@@ -10,7 +10,7 @@ ghost use Rattle.node_table.specs.Columns.{nodes_of};
 use meaning::{Judgement, Kw};
 
 // Zones and demand of each node.
-#[derive(Drop)]
+#[derive(Clone, Copy)]
 pub struct NodeColumns {
     pub generation_zone: [usize; 256],
     pub demand_zone: [usize; 256],

@@ -9,7 +9,7 @@ ghost use Rattle.numbers.specs.Numbers.{heading_by, decided_in, clear_in, decide
 use meaning::{Background, Counting, Direction, Edition, System};
 
 // 02, request 5: the background that a circuit counts for, and its base flow there.
-#[derive(Drop)]
+#[derive(Clone, Copy)]
 pub struct Heading {
     pub counting: Counting,
     pub flow: i64,

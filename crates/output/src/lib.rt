@@ -10,7 +10,7 @@ ghost use Rattle.meaning.specs.Calls.{Prints};
 use meaning::{Answer, Printed, Refusal};
 
 // A solution copied out of the file: its numbers, zeros behind them, and how many it has.
-#[derive(Drop)]
+#[derive(Clone, Copy)]
 struct Run {
     numbers: [i64; 768],
     count: usize,

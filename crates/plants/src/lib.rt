@@ -13,7 +13,7 @@ use meaning::{Background, Edition, Kw, Plant};
 
 // What counts of TEC: all of it, what pays, what of this pays at peak; in a background of an edition what is fixed, and the TEC of the variable types;
 // low carbon TEC, carbon TEC, and the TEC of one plant type.
-#[derive(Drop)]
+#[derive(Clone, Copy)]
 pub enum Counted {
     All,
     Paying,

@@ -8,7 +8,7 @@ ghost use Rattle.rests.specs.Rests.{start_of, less_of};
 use meaning::{Kw, MicroPerKw};
 
 // `each` micro-pounds for every kilowatt that pays, and `over` micro-pounds besides.
-#[derive(Drop)]
+#[derive(Clone, Copy)]
 pub struct Rest {
     pub each: i64,
     pub over: u64,

@@ -12,7 +12,7 @@ use meaning::{Judgement, Kw};
 use plants::Counted;
 
 // The number of each station's node, its plant type and TEC.
-#[derive(Drop)]
+#[derive(Clone, Copy)]
 pub struct StationColumns {
     pub node: [usize; 512],
     pub plant: [u64; 512],
@@ -20,7 +20,7 @@ pub struct StationColumns {
 }
 
 // The table judged, and its TEC added up by node and plant type, type t of node v at 7 v + t - 1: names are resolved once for all.
-#[derive(Drop)]
+#[derive(Clone, Copy)]
 pub struct JudgedStations {
     pub judgement: Judgement,
     pub by_type: [Kw; 1792],

@@ -14,7 +14,7 @@ use meaning::{Judgement, Kw, Refusal, Settings};
 use node_table::NodeColumns;
 
 // A case file opened: what stops it first among 1 to 7, 13 and 14, and its columns; TEC by node and plant type as `station_table` has it.
-#[derive(Drop)]
+#[derive(Clone, Copy)]
 pub struct Opened {
     pub judgement: Judgement,
     pub counts: RowCounts,

@@ -7,7 +7,7 @@ use meaning::{Kw, LocalFigures, Metres};
 use rests::Rest;
 
 // The local lines of the nodes, and the rest without what their tariffs bring in.
-#[derive(Drop)]
+#[derive(Clone, Copy)]
 pub struct Local {
     pub lines: [LocalFigures; 256],
     pub rest: Rest,

@@ -8,7 +8,7 @@ use meaning::{Kw, Metres};
 use zones::ZoneSums;
 
 // Over the zones of a side, metres times the kilowatts that pay, and those kilowatts.
-#[derive(Drop)]
+#[derive(Clone, Copy)]
 pub struct Over {
     pub metres: i64,
     pub total: Kw,

@@ -9,7 +9,7 @@ use meaning::{Kw, Metres, SharedFigures};
 use rests::Rest;
 
 // The zones' figures, and the rest without what their tariffs bring in.
-#[derive(Drop)]
+#[derive(Clone, Copy)]
 pub struct Shared {
     pub lines: [SharedFigures; 32],
     pub rest: Rest,

@@ -9,7 +9,7 @@ use rests::Rest;
 use zones::ZoneSums;
 
 // What prices the zones of a side: C, expansion constant and security factor.
-#[derive(Drop)]
+#[derive(Clone, Copy)]
 pub struct Terms {
     pub side: Side,
     pub c: Metres,
@@ -18,7 +18,7 @@ pub struct Terms {
 }
 
 // The zones' figures, and the rest without what their tariffs bring in.
-#[derive(Drop)]
+#[derive(Clone, Copy)]
 pub struct Wider {
     pub lines: [WiderFigures; 32],
     pub rest: Rest,

@@ -9,7 +9,7 @@ use meaning::{Edition, Kw, Settings, Side};
 use zones::ZoneSums;
 
 // Zones 1 to count of a side.
-#[derive(Drop)]
+#[derive(Clone, Copy)]
 pub struct Zonal {
     pub count: usize,
     pub sums: [ZoneSums; 32],
@@ -17,14 +17,14 @@ pub struct Zonal {
 }
 
 // The zones of both sides.
-#[derive(Drop)]
+#[derive(Clone, Copy)]
 pub struct Sides {
     pub generation: Zonal,
     pub demand: Zonal,
 }
 
 // The sides of both backgrounds.
-#[derive(Drop)]
+#[derive(Clone, Copy)]
 pub struct Backgrounds {
     pub year_round: Sides,
     pub peak: Sides,

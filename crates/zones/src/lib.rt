@@ -7,7 +7,7 @@ ghost use Rattle.zones.specs.Sums.{nodes_in, zone_sums};
 use meaning::{Kw, Side};
 
 // Step 7: what a zone's nodes add up to: kilowatts that weigh, distances times those, and kilowatts that pay.
-#[derive(Drop)]
+#[derive(Clone, Copy)]
 pub struct ZoneSums {
     pub weight: Kw,
     pub weighed: i64,

@@ -6,7 +6,7 @@ use crate::ZoneSums;
 use meaning::{Kw, Metres, Side};
 
 // What a node adds, and to the sums of which zone, from 0.
-#[derive(Drop)]
+#[derive(Clone, Copy)]
 pub struct Part {
     pub slot: usize,
     pub weight: Kw,
