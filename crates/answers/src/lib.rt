@@ -1,4 +1,6 @@
 // What an answer says, as 01 lists it: number, system and row. And which of two stages stops a case.
+#![tactic(auto)]
+
 ghost use Rattle.std.specs.Prelude.{◌≡◌};
 ghost use Rattle.meaning.specs.declared.System.TheVariants.{Base, Wider};
 ghost use Rattle.meaning.specs.declared.Answer.TheVariants.{Refused};

@@ -1,4 +1,6 @@
 // Sets of numbers below 256, one bit a number in four 64-bit words.
+#![tactic(auto)]
+
 ghost use Rattle.std.specs.Prelude.{◌≡◌, ◌&&◌, ◌||◌, not, ℕ, ◌/◌, eqb, ltb};
 ghost use Rattle.integers.specs.Numbers.{count};
 ghost use Rattle.meaning.specs.First.{IsFirst};

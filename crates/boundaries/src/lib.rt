@@ -1,4 +1,6 @@
 // 02, request 6: year round's zonal metres split along the chains into shared and not-shared metres. A number out of its range counts as nothing.
+#![tactic(auto)]
+
 mod at;
 mod part;
 mod sums;

@@ -1,4 +1,6 @@
 // 02, request 6: the file `share.bin` judged, refusal 16; what it says, in arrays; and the chains that it draws, walked. Every input has its answer.
+#![tactic(auto)]
+
 mod frame;
 mod zone;
 

@@ -1,4 +1,6 @@
 // 01, steps 6 to 10: what each zone and each node pays. The figures of a case that nothing stops.
+#![tactic(auto)]
+
 ghost use Rattle.std.specs.Prelude.{◌≡◌};
 ghost use Rattle.meaning.specs.Study.{runs_of};
 ghost use Rattle.charges.specs.Charged.{peak_payers, shares_in, charged_of};

@@ -1,4 +1,6 @@
 // The circuits' table: its columns, and refusal 4 of document 01. A file that is not whole reads as one without rows, and so has no bad one.
+#![tactic(auto)]
+
 mod factor;
 mod lengths;
 mod row;

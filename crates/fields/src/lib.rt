@@ -1,4 +1,6 @@
 // Total readers of a case file's numbers and rows: every slice and every place has its answer, and a byte past the end reads as 0.
+#![tactic(auto)]
+
 mod bytes;
 
 ghost use Rattle.std.specs.Prelude.{◌≡◌, ◌+◌, leb};

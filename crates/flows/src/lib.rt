@@ -1,4 +1,6 @@
 // The arithmetic over circuits that all systems share: 01, steps 2, 4 and 5, of a case in columns and runs of any numbers.
+#![tactic(auto)]
+
 mod circuit;
 mod marks;
 mod reading;

@@ -1,4 +1,6 @@
 // Magnitudes, and the two divisions of document 01, of every z and d. Definitions are in specs/Numbers.antt, laws of whole numbers in proofs/.
+#![tactic(auto)]
+
 ghost use Rattle.std.specs.Prelude.{◌≡◌, ◌/◌, nat_abs};
 ghost use Rattle.std.specs.Int.Signed.{mag};
 ghost use Rattle.integers.specs.Numbers.{floor_div, rounded as rounded_of, nearest as nearest_of};

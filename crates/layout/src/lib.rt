@@ -1,4 +1,6 @@
 // A case file's frame: whether it is whole, the rows of its tables and its settings. Every slice has its answer: a file that is not whole reads as one without rows.
+#![tactic(auto)]
+
 mod settings_row;
 mod trailer;
 

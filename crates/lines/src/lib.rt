@@ -1,4 +1,6 @@
 // The lines of a sheet, and the line of a refusal, made by value: any figures have one, and it fits.
+#![tactic(auto)]
+
 mod digits;
 mod words;
 

@@ -1,4 +1,5 @@
 // The types that definitions and code share. What they mean is said in specs/; there is no code here.
+#![tactic(auto)]
 
 // 01, Quantities: kilowatts, metres of marginal distance, micro-pounds per kilowatt. A number of one never stands for another.
 #[derive(Clone, Copy)]

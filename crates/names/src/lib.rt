@@ -1,4 +1,6 @@
 // Names in a case file: every slice and every place has its answer, also where the file's end cuts a name.
+#![tactic(auto)]
+
 mod bytes;
 mod name_rows;
 mod padding;

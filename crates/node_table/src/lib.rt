@@ -1,4 +1,6 @@
 // The nodes' table: its columns, and refusal 3 of document 01. A file that is not whole reads as one without rows, and so has no bad one.
+#![tactic(auto)]
+
 mod fill;
 mod row;
 

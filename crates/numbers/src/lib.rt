@@ -1,4 +1,6 @@
 // The numbers of a proposed solution, each by itself: any i64, also the lowest, which has no magnitude.
+#![tactic(auto)]
+
 ghost use Rattle.std.specs.Prelude.{◌≡◌, ◌<◌, leb, nat_abs, length};
 ghost use Rattle.meaning.specs.Rows.{failing};
 ghost use Rattle.meaning.specs.Proposal.{number_in_range};

@@ -1,4 +1,6 @@
 // The program's whole output, from the bytes that it read: the sheet, or why there is none.
+#![tactic(auto)]
+
 mod runs;
 
 ghost use Rattle.std.specs.Prelude.{◌≡◌, true, take};

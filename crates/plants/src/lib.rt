@@ -1,4 +1,6 @@
 // Plant types: what counts of the TEC of one: all that weighs, what pays, what is fixed or variable in a background, what is low carbon or carbon.
+#![tactic(auto)]
+
 mod carbon;
 mod kind;
 mod peak;

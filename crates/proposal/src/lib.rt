@@ -1,4 +1,6 @@
 // A case judged: refusals 1 to 11 of document 01 and 13 to 16 of 02, in their order. Proposed solutions are judged once over supply and offset.
+#![tactic(auto)]
+
 mod case;
 mod doubt;
 mod kernel;

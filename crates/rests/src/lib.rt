@@ -1,5 +1,7 @@
 // 01, step 10: what is left of a target, held as a residual for each kilowatt that pays and a remainder below their number. A tariff on some of them is taken off
 // without ever writing down the product, so no income has to fit 64 bits, and at the end the residual and the remainder stand there.
+#![tactic(auto)]
+
 mod parts;
 
 ghost use Rattle.std.specs.Prelude.{◌≡◌};

@@ -1,4 +1,6 @@
 // 02, request 6: what a share file says of a case that was opened: refusal 16, and the arrays that the split of its metres asks for.
+#![tactic(auto)]
+
 ghost use Rattle.std.specs.Prelude.{◌≡◌};
 ghost use Rattle.shares.specs.OfCase.{stage_of, shares_of, no_shares};
 

@@ -1,1 +1,2 @@
 // What is proved of sharing: no code.
+#![tactic(auto)]

@@ -1,4 +1,6 @@
 // The library's entry: a case judged, its figures made, its sheet written into the lent buffer.
+#![tactic(auto)]
+
 ghost use Rattle.std.specs.Prelude.{◌≡◌, length};
 ghost use Rattle.meaning.specs.Study.{runs_of};
 ghost use Rattle.meaning.specs.Outcome.{Settled, buffer_stage, settled_by, answer_of};

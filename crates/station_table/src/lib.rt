@@ -1,4 +1,6 @@
 // The stations' table: its columns, the TEC of each node by plant type and what counts of it, and refusal 5 of document 01. A file that is not whole reads as one without rows, and so has no bad one.
+#![tactic(auto)]
+
 mod row;
 mod tec;
 

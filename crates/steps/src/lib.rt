@@ -1,4 +1,6 @@
 // 01, steps 6 and 7: the divisions of one number by another, for every input; and figures that say nothing.
+#![tactic(auto)]
+
 ghost use Rattle.std.specs.Prelude.{◌≡◌};
 ghost use Rattle.meaning.specs.Charging.{metres as metres_of, turned, average_of, no_wider, no_shared};
 ghost use Rattle.meaning.specs.Columns.{no_line, no_local};

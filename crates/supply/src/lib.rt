@@ -1,4 +1,6 @@
 // 01, steps 1 and 3, and 02, request 5: what each node supplies to the base system of a background.
+#![tactic(auto)]
+
 mod nodes;
 mod scaled;
 

@@ -1,4 +1,6 @@
 // The case file judged: refusals 1 to 7 of document 01, then 13 and 14 of document 02, and the columns of a file.
+#![tactic(auto)]
+
 mod chain;
 mod read;
 mod settings;

@@ -1,4 +1,6 @@
 // 01, steps 6 to 10 of a case, from its columns: C, tariffs, residuals and remainders. Every input has its answer: no figures where a setting or a total is out of range.
+#![tactic(auto)]
+
 mod case;
 mod lines;
 mod metres;

@@ -1,4 +1,6 @@
 // The text of figures, and the line of a refusal, written into a lent buffer: all of it, or nothing.
+#![tactic(auto)]
+
 mod put;
 mod sections;
 

@@ -1,4 +1,6 @@
 // 01, 7, and 02, 13: total demand, total TEC and the TEC that pays, added up as far as their range and judged.
+#![tactic(auto)]
+
 ghost use Rattle.std.specs.Prelude.{◌≡◌, leb};
 ghost use Rattle.meaning.specs.Grid.{sound_totals};
 ghost use Rattle.totals.specs.Totals.{total_of};

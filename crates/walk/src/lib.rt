@@ -1,4 +1,6 @@
 // 6: a walk along the circuits from the reference. Reached and visited nodes are sets, one bit a node in four words.
+#![tactic(auto)]
+
 mod circuits;
 
 ghost use Rattle.std.specs.Prelude.{◌≡◌};

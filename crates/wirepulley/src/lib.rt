@@ -1,4 +1,6 @@
 // The library as C and Rust call it: a slice is a pointer and a count there, and an answer is four numbers.
+#![tactic(auto)]
+
 ghost use Rattle.std.specs.Prelude.{[]};
 ghost use Rattle.meaning.specs.Study.{runs_of, three_runs};
 ghost use Rattle.meaning.specs.Outcome.{answer_of};

@@ -1,4 +1,6 @@
 // 02, request 6: a case's kilowatts by generation zone, as a share file needs them: what counts of TEC, and what pays the shared tariff.
+#![tactic(auto)]
+
 mod load;
 mod range;
 

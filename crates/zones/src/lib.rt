@@ -1,4 +1,6 @@
 // 01, steps 6 and 7 of a side: what the nodes of each zone add up to. A node with a number out of 01's ranges adds nothing.
+#![tactic(auto)]
+
 mod node;
 
 ghost use Rattle.std.specs.Prelude.{◌≡◌};

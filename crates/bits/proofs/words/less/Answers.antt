@@ -1,0 +1,5 @@
+use Rattle.bits.proofs.Bits.{bit_less}
+use Rattle.bits.proofs.words.less.Goals as goal
+
+pub returns : goal.returns
+returns c = bit_less c.args.word c.args.other

@@ -1,0 +1,35 @@
+use mathlib.Core.Path.{◌≡◌, ◌∙◌}
+use lib.IntN.{ℤ, ◌-ℤ◌}
+use mir.Syntax.{w64}
+use mir.Val.{SFits, to_z, of_z}
+use Rattle.integers.proofs.Machine.{Back, fit_back, back}
+use Rattle.meaning.specs.Sharing.{along}
+use Rattle.chains.specs.Columns.{next_in}
+use Rattle.boundaries.specs.Boundaries.{near}
+use Rattle.boundaries.specs.Parts.{part_in, one_of}
+use Rattle.boundaries.proofs.Laws.{rest_fits}
+use Rattle.boundaries.proofs.sums.one.Goals as goal
+use Rattle.boundaries.proofs.sums.one.Goals.{After-along-shared, After-metres_at-all, Start}
+
+module _ (s : Start) where
+  abbrev shared : ℤ
+  shared = along s.args.zones (next_in s.args.next.now) (part_in s.args.parts.now) s.args.zones s.args.z
+
+  fits : SFits w64 (near s.args.metres s.args.z -ℤ shared)
+  fits = rest_fits s.args.zones s.args.next.now s.args.metres s.pre.1 s.pre.0 s.args.z
+
+  bf : Back (near s.args.metres s.args.z -ℤ shared)
+  bf = fit_back fits
+
+bs : (c : After-along-shared) → to_z w64 (of_z w64 c.along-shared.result) ≡ shared c.before
+bs c = back _ c.along-shared.type-inv ∙ c.along-shared.ensures
+
+bm : (c : After-metres_at-all) → to_z w64 (of_z w64 c.metres_at_lem.result) ≡ near c.args.metres c.args.z
+bm c = back _ c.metres_at_lem.type-inv ∙ c.metres_at_lem.ensures
+
+pub overflow_sub-result : goal.overflow_sub-result
+overflow_sub-result c = simp (bs, bm) (fits c.before.before)
+
+pub returns : goal.returns
+unfolding one_of
+returns c = simp (bs, bm, bf)

@@ -1,0 +1,47 @@
+use mathlib.Core.Path.{sym, ◌∙◌}
+use Prim.Native.Nat.{◌+◌, ◌-◌, ◌≤◌}
+use native.Mathlib.Omega.{arith}
+use Rattle.meaning.proofs.Columns.{column_none, column_turn}
+use Rattle.chains.proofs.Laws.{factors_on, factor_read, factors_filled}
+use Rattle.chains.proofs.load_factors.Goals as goal
+use Rattle.chains.proofs.load_factors.Goals.{In-loop-t}
+
+pub loop-t-init : goal.loop-t-init
+loop-t-init c = (omega arith, sym (column_none 0 7 _))
+
+on : (c : In-loop-t) → let l = c.before in (l.args.zones ≤ 32) × (l.loop-t.t + 1 ≤ 7)
+on c = let t = factors_on c.args.zones c.before.loop-t.t c.loop-t-test.true in (t.0, omega (arith, t.1))
+
+pub overflow_add-zones : goal.overflow_add-zones
+overflow_add-zones c = omega (arith, on c)
+
+pub overflow_mul-zones : goal.overflow_mul-zones
+overflow_mul-zones c = omega (arith, on c)
+
+pub u32_at-requires : goal.u32_at-requires
+u32_at-requires c = tt
+
+pub offset_bounds-all-t : goal.offset_bounds-all-t
+offset_bounds-all-t c = omega (arith, on c.before)
+
+pub bounds-all-t : goal.bounds-all-t
+bounds-all-t c = omega (arith, on c.before)
+
+pub overflow_add-t : goal.overflow_add-t
+overflow_add-t c = omega (arith, on c.before)
+
+pub loop-t-smaller : goal.loop-t-smaller
+loop-t-smaller c = omega (arith, on c.before)
+
+pub loop-t-preserved : goal.loop-t-preserved
+loop-t-preserved c =
+    let l = c.before.before in
+    let a = l.args in
+    let t = on c.before in
+    (t.1, column_turn 0 7 _ l.loop-t.t (omega (arith, t.1)) l.loop-t.invariant.1 (c.u32_at.ensures.value ∙ factor_read a.share.now a.zones l.loop-t.t t.0))
+
+pub returns : goal.returns
+returns c =
+    let l = c.before in
+    let a = l.args in
+    l.loop-t.invariant.1 ∙ factors_filled a.share.now a.zones l.loop-t.t l.loop-t.invariant.0 c.loop-t-test.false

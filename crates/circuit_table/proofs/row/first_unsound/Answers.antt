@@ -1,0 +1,43 @@
+use mathlib.Core.Path.{◌≡◌, sym, ap, ◌∙◌}
+use mathlib.Core.Bool.{not}
+use Prim.Native.Nat.{◌-◌}
+use native.Mathlib.Omega.{arith}
+use Rattle.meaning.specs.File.{row_at, circuit_at}
+use Rattle.meaning.specs.Tables.{sound_circuit_row}
+use Rattle.meaning.proofs.Frame.{row_low}
+use Rattle.meaning.proofs.Rows.{passed_zero, passed_more}
+use Rattle.meaning.proofs.First.{first_stops, first_ends}
+use Rattle.layout.specs.Readable.{readable}
+use Rattle.circuit_table.proofs.CircuitLaws.{few, ends_at}
+use Rattle.circuit_table.proofs.row.first_unsound.Goals as goal
+use Rattle.circuit_table.proofs.row.first_unsound.Goals.{After-sound_row}
+
+-- what the test tells of a row
+told : (c : After-sound_row)
+    → let l = c.before.before.before.before.before in
+    let a = l.args in sound_circuit_row (readable a.file.now).nodes (circuit_at a.file.now a.rows.size (row_at a.rows l.loop-i.i)) ≡ c.sound_row.result
+told c = sym (rw c.before.row_at.ensures at c.sound_row.ensures)
+
+pub loop-i-init : goal.loop-i-init
+loop-i-init c = (omega arith, passed_zero _)
+
+pub bounds-columns-i : goal.bounds-columns-i
+bounds-columns-i c = omega (arith, few _ c.requires)
+
+pub bounds-columns-i-in-loop-i : goal.bounds-columns-i-in-loop-i
+bounds-columns-i-in-loop-i c = omega (arith, few _ c.requires)
+
+pub sound_row-requires : goal.sound_row-requires
+sound_row-requires c =
+    let l = c.before.before.before.before in
+    let s = l.before.before in
+    rw c.row_at.ensures (ends_at _ s.requires l.loop-i.i (omega arith) (row_low s.args.rows (omega arith) (omega arith) (omega arith)))
+
+pub loop-i-preserved : goal.loop-i-preserved
+loop-i-preserved c = (omega arith, passed_more c.before.before.before.before.before.before.loop-i.invariant.1 (ap not (told c.before ∙ c.if-sound_row.true)))
+
+pub returns-else-sound_row : goal.returns-else-sound_row
+returns-else-sound_row c = first_stops c.before.before.before.before.before.before.loop-i.invariant.1 (omega arith) (ap not (told c.before ∙ c.if-sound_row.false))
+
+pub returns : goal.returns
+returns c = first_ends c.before.loop-i.invariant.1 (omega arith)

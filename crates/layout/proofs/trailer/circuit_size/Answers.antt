@@ -1,0 +1,12 @@
+use mathlib.Core.Path.{sym, ap}
+use borrow.Author.Tests.{ne_eqb}
+use Rattle.meaning.specs.File.{circuit_size}
+use Rattle.layout.proofs.trailer.circuit_size.Goals as goal
+
+pub returns-in-2 : goal.returns-in-2
+unfolding circuit_size
+returns-in-2 c = sym (ap circuit_size c.in_default.keys1)
+
+pub returns-in_default : goal.returns-in_default
+unfolding circuit_size
+returns-in_default c = simp (ne_eqb _ _ c.in_default.rest.1)

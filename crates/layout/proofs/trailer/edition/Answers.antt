@@ -1,0 +1,13 @@
+use mathlib.Core.Path.{refl, sym, ◌∙◌, ap}
+use borrow.Author.Tests.{ne_eqb}
+use Rattle.meaning.specs.Editions.{edition_of}
+use Rattle.meaning.specs.File.{edition_at}
+use Rattle.layout.proofs.trailer.edition.Goals as goal
+
+pub returns-in-2 : goal.returns-in-2
+unfolding edition_at edition_of
+returns-in-2 c = ap edition_of (sym c.in_default.keys1 ∙ c.before.u32_at.ensures.value)
+
+pub returns-in_default : goal.returns-in_default
+unfolding edition_at edition_of
+returns-in_default c = rw (sym c.before.u32_at.ensures.value, ne_eqb _ _ c.in_default.rest.1) refl

@@ -1,0 +1,13 @@
+use Prim.Native.Nat.{◌-◌}
+use native.Mathlib.Omega.{arith}
+use Rattle.layout.proofs.FileLaws.{solved_none, solved_on, solved_is}
+use Rattle.layout.proofs.trailer.solved.Goals as goal
+
+pub loop-section-init : goal.loop-section-init
+loop-section-init c = solved_none
+
+pub loop-section-preserved : goal.loop-section-preserved
+loop-section-preserved c = let l = c.before.before in solved_on l.loop-section.invariant (omega (arith, l.before.sections-sections.ensures.0)) c.count.ensures.0
+
+pub returns : goal.returns
+returns c = solved_is c.before.loop-section.invariant (omega (arith, c.before.before.sections-sections.ensures.0))

@@ -1,0 +1,26 @@
+use mathlib.Core.Path.{◌≡◌}
+use Prim.Native.Nat.{◌-◌}
+use native.Mathlib.Omega.{arith}
+use lib.ListN.{length}
+use Rattle.integers.proofs.Machine.{back}
+use Rattle.lines.proofs.Making.{both, longer, put_one, rows_start, rows_more}
+use Rattle.lines.proofs.Numbers.{spaced, ends_spaced}
+use Rattle.lines.proofs.digits.with_numbers.Goals as goal
+
+pub loop-i-init : goal.loop-i-init
+loop-i-init c = (omega arith, rows_start _ _ (spaced c.args.numbers.now))
+
+pub loop-i-preserved : goal.loop-i-preserved
+unfolding spaced
+loop-i-preserved c =
+    let r = c.before.before in
+    let l = r.before.before in
+    let next = rw (back _ r.z-1.given) at c.put_number-len.ensures in
+    (omega arith, longer (rows_more {w = 21} (spaced l.args.numbers.now) l.loop-i.i l.loop-i.invariant.1 next) (omega arith))
+
+pub returns : goal.returns
+returns c =
+    let l = c.before in
+    let zs = l.args.numbers.now in
+    let e : l.loop-i.i ≡ length zs = omega arith in
+    rw (ends_spaced zs) (both (rw e at l.loop-i.invariant.1) (put_one l.loop-i.bytes l.loop-i.len 10))

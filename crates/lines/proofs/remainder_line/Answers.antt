@@ -1,0 +1,13 @@
+-- `lines::remainder_line` meets its contract: each call adds the next part of the text.
+use Rattle.integers.proofs.Machine.{fit_back}
+use Rattle.meaning.specs.Text.{line}
+use Rattle.meaning.specs.Sheet.{remainder_fields}
+use Rattle.lines.proofs.Making.{both}
+use Rattle.lines.proofs.remainder_line.Goals as goal
+
+pub returns : goal.returns
+unfolding remainder_fields line
+returns c =
+    let w = c.before.before in
+    let s = w.before.before in
+    both w.Line-of.ensures (rw (fit_back s.ranges.generation, fit_back s.ranges.demand) at c.with_numbers.ensures)

@@ -1,0 +1,19 @@
+use Prim.Native.Nat.{◌-◌}
+use native.Mathlib.Omega.{arith}
+use lib.Seq.{take_all}
+use Rattle.lines.proofs.Making.{within, copy_none, copy_more}
+use Rattle.lines.proofs.words.with_word.Goals as goal
+
+pub loop-i-init : goal.loop-i-init
+loop-i-init c = (omega arith, copy_none _ _)
+
+pub loop-i-preserved : goal.loop-i-preserved
+loop-i-preserved c =
+    let l = c.before.before in
+    (omega arith, copy_more l.args.word.now l.loop-i.i (omega arith) l.loop-i.invariant.1)
+
+pub returns : goal.returns
+returns c =
+    let l = c.before in
+    let w = l.args.word.now in
+    within (rw (take_all l.loop-i.i w (omega arith)) at l.loop-i.invariant.1) (omega arith)

@@ -1,0 +1,20 @@
+use mathlib.Core.Path.{refl, sym, ◌∙◌}
+use Prim.Native.Nat.{◌-◌}
+use native.Mathlib.Omega.{arith}
+use Rattle.names.proofs.NameLaws.{left_on, left_done}
+use Rattle.names.proofs.padding.padded_tail.Goals as goal
+
+pub loop-i-init : goal.loop-i-init
+loop-i-init c = (omega arith, refl)
+
+pub loop-i-preserved : goal.loop-i-preserved
+loop-i-preserved c =
+    let l = c.before.before.before in
+    let a = l.args in
+    (omega arith, l.loop-i.invariant.1 ∙ left_on a.file.now a.at l.loop-i.i l.loop-i.good l.loop-i.named _ (omega arith) (omega arith) c.is_name_byte-named.ensures)
+
+pub returns : goal.returns
+returns c =
+    let l = c.before in
+    let a = l.args in
+    sym (l.loop-i.invariant.1 ∙ left_done a.file.now a.at l.loop-i.i l.loop-i.good l.loop-i.named (omega arith))

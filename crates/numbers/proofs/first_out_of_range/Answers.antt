@@ -1,0 +1,40 @@
+use mathlib.Core.Path.{◌≡◌, sym, ◌∙◌}
+use mathlib.Core.Bool.{Bool}
+use mathlib.Core.List.{List}
+use Prim.Native.Nat.{ℕ, ◌-◌}
+use native.Mathlib.Omega.{arith}
+use lib.IntN.{ℤ}
+use lib.ListN.{length}
+use Rattle.meaning.specs.Proposal.{number_in_range}
+use Rattle.numbers.specs.Numbers.{pinned}
+use Rattle.numbers.proofs.Found.{pass_none, pass_more, row_here, row_none}
+use Rattle.numbers.proofs.first_out_of_range.Goals as goal
+
+-- the test that a row of the run is put to
+abbrev test : (n reference limit : ℕ) → List ℤ → ℕ → Bool
+test n reference limit run = number_in_range (pinned n reference) limit run
+
+pub loop-i-init : goal.loop-i-init
+loop-i-init c = (omega arith, pass_none _)
+
+pub number_in_range-requires : goal.number_in_range-requires
+number_in_range-requires c = omega arith
+
+pub overflow_add-i : goal.overflow_add-i
+overflow_add-i c = omega arith
+
+pub loop-i-smaller : goal.loop-i-smaller
+loop-i-smaller c = omega arith
+
+pub loop-i-preserved : goal.loop-i-preserved
+loop-i-preserved c = (omega arith, pass_more c.before.before.before.loop-i.invariant.1 (sym c.before.number_in_range.ensures ∙ c.if-number_in_range.true))
+
+pub returns-else-number_in_range : goal.returns-else-number_in_range
+returns-else-number_in_range c =
+    let l = c.before.before.before in
+    row_here _ _ _ l.loop-i.invariant.1 (omega arith) (rw (← c.before.number_in_range.ensures) c.if-number_in_range.false)
+
+pub returns : goal.returns
+returns c =
+    let e : c.before.loop-i.i ≡ length c.args.run.now = omega arith in
+    e ∙ row_none _ _ (rw e at c.before.loop-i.invariant.1)

@@ -1,0 +1,29 @@
+-- `output::runs::run_of` meets its contract: no solution is longer than its array.
+use Prim.Native.Nat.{◌+◌, ◌-◌, ◌≤◌}
+use mathlib.Core.Path.{◌≡◌, ◌∙◌, ap}
+use native.Mathlib.Omega.{arith}
+use lib.IntN.{pos}
+use Rattle.meaning.specs.File.{table, i64}
+use Rattle.meaning.proofs.Columns.{column_length}
+use Rattle.layout.specs.Readable.{section_in}
+use Rattle.layout.proofs.Rows.{solution_few}
+use Rattle.output.proofs.RunLaws.{cut_table}
+use Rattle.output.proofs.runs.run_of.Goals as goal
+use Rattle.output.proofs.runs.run_of.Goals.{After-section-rows}
+
+few : (s : After-section-rows) → s.section-rows.result.count ≤ 768
+few s =
+    let a = s.before.before in
+    let e : a.args.section ≡ 4 + (a.args.section - 4) = omega (arith, a.requires) in
+    solution_few a.args.file.now (a.args.section - 4) (s.section-rows.ensures ∙ ap (section_in a.args.file.now) e)
+
+pub returns : goal.returns
+returns c =
+    let r = c.before in
+    let s = r.before in
+    let file = s.args.file.now in
+    record {
+      numbers = cut_table file s.section-rows.result (few s) r.run_at.ensures ∙ ap (table (i64 file)) s.section-rows.ensures;
+      room = rw r.run_at.ensures (column_length (pos 0) 768 _ _);
+      inside = few s;
+    }

@@ -1,0 +1,31 @@
+use mathlib.Core.Path.{sym, ap}
+use Rattle.meaning.specs.Figures.{low_carbon}
+use Rattle.plants.proofs.carbon.low.Goals as goal
+
+pub returns-in-Intermittent : goal.returns-in-Intermittent
+unfolding low_carbon
+returns-in-Intermittent c = sym (ap low_carbon c.enum_told-1.given.1)
+
+pub returns-in-NuclearAndCcs : goal.returns-in-NuclearAndCcs
+unfolding low_carbon
+returns-in-NuclearAndCcs c = sym (ap low_carbon c.enum_told-in-NuclearAndCcs-1.given.1)
+
+pub returns-in-Interconnector : goal.returns-in-Interconnector
+unfolding low_carbon
+returns-in-Interconnector c = sym (ap low_carbon c.enum_told-in-Interconnector-1.given.1)
+
+pub returns-in-Hydro : goal.returns-in-Hydro
+unfolding low_carbon
+returns-in-Hydro c = sym (ap low_carbon c.enum_told-in-Hydro-1.given.1)
+
+pub returns-in-PumpedStorage : goal.returns-in-PumpedStorage
+unfolding low_carbon
+returns-in-PumpedStorage c = sym (ap low_carbon c.enum_told-in-PumpedStorage-1.given.1)
+
+pub returns-in-Peaking : goal.returns-in-Peaking
+unfolding low_carbon
+returns-in-Peaking c = sym (ap low_carbon c.enum_told-in-Peaking-1.given.1)
+
+pub returns-in-Other : goal.returns-in-Other
+unfolding low_carbon
+returns-in-Other c = sym (ap low_carbon c.enum_told-in-Other-1.given.1)

@@ -1,0 +1,11 @@
+use mathlib.Core.Path.{refl}
+use Rattle.meaning.specs.Generation.{is_variable}
+use Rattle.plants.proofs.share.variable.Goals as goal
+
+pub returns-in-Fixed : goal.returns-in-Fixed
+unfolding is_variable
+returns-in-Fixed c = rw c.enum_told-1.given.1 refl
+
+pub returns-in-Variable : goal.returns-in-Variable
+unfolding is_variable
+returns-in-Variable c = rw c.enum_told-in-Variable-1.given.1 refl

@@ -1,0 +1,27 @@
+use mathlib.Core.Path.{◌≡◌, sym, ◌∙◌}
+use mathlib.Core.Bool.{true, false}
+use lib.IntN.{nat_abs}
+use Rattle.integers.proofs.Machine.{fit_back}
+use Rattle.rests.proofs.Laws.{says_divides, start_in, start_out}
+use Rattle.rests.proofs.start.Goals as goal
+use Rattle.rests.proofs.start.Goals.{After-magnitude}
+
+-- the test, as it is said
+tested : (c : After-magnitude) → c.magnitude.result ≡ nat_abs c.args.target
+tested c = simp (fit_back c.ranges.target) at c.magnitude.ensures
+
+pub divided-requires : goal.divided-requires
+divided-requires c =
+    let s = c.before.before in
+    simp (fit_back s.ranges.target) (says_divides s.args.target s.args.payers.0 (simp (tested c.before) at c.if-k-magnitude.true))
+
+pub returns-then-k-magnitude : goal.returns-then-k-magnitude
+returns-then-k-magnitude c =
+    let s = c.before.before.before in
+    simp (fit_back s.ranges.target) at c.divided.ensures
+    ∙ sym (start_in s.args.target s.args.payers.0 (simp (tested c.before.before) at c.before.if-k-magnitude.true))
+
+pub returns : goal.returns
+returns c =
+    let s = c.before.before in
+    sym (start_out s.args.target s.args.payers.0 (simp (tested c.before) at c.if-k-magnitude.false))

@@ -1,0 +1,19 @@
+use mathlib.Core.Path.{refl}
+use Rattle.supply.specs.Supply.{supply_in}
+use Rattle.supply.proofs.in_system.Goals as goal
+
+pub returns-in-YearRound : goal.returns-in-YearRound
+unfolding supply_in
+returns-in-YearRound c = rw (c.before.before.before.system-1.given.1, c.enum_told-1.given.1) refl
+
+pub returns-in-Peak : goal.returns-in-Peak
+unfolding supply_in
+returns-in-Peak c = rw (c.before.before.before.system-1.given.1, c.enum_told-in-Peak-1.given.1) refl
+
+pub returns-in-Wider : goal.returns-in-Wider
+unfolding supply_in
+returns-in-Wider c = rw c.enum_told-in-Wider-1.given.1 refl
+
+pub returns-in-Local : goal.returns-in-Local
+unfolding supply_in
+returns-in-Local c = rw c.enum_told-in-Local-1.given.1 refl

@@ -1,0 +1,54 @@
+use mathlib.Core.Path.{◌≡◌, ◌∙◌}
+use Prim.Native.Nat.{ℕ, ◌-◌, ◌≤◌}
+use native.Mathlib.Omega.{arith}
+use Rattle.integers.proofs.Sum.{sum-zero, sum_more}
+use Rattle.meaning.specs.Scaled.{whole_share}
+use Rattle.meaning.specs.Columns.{kw_at}
+use Rattle.supply.proofs.Shares.{tec_small, share_is, missing_holds, missing_all}
+use Rattle.supply.proofs.scaled.missing_kw.Goals as goal
+use Rattle.supply.proofs.scaled.missing_kw.Goals.{After-share-missing, At-loop-v}
+
+pub loop-v-init : goal.loop-v-init
+loop-v-init c =
+    let a = c.args in
+    (omega arith, omega (arith, sum-zero (whole_share a.n (kw_at a.t2) a.demand.0)))
+
+pub offset_bounds-tec-v : goal.offset_bounds-tec-v
+offset_bounds-tec-v c = omega arith
+
+pub bounds-tec-v : goal.bounds-tec-v
+bounds-tec-v c = omega arith
+
+-- a turn's share
+module _ (c : After-share-missing) where
+  abbrev l : At-loop-v
+  l = c.before.before.before
+
+  abbrev share : ℕ → ℕ
+  share = let a = l.args in whole_share a.n (kw_at a.t2) a.demand.0
+
+  answered : c.share-missing.result.0 ≡ share l.loop-v.v
+  answered = c.share-missing.ensures ∙ share_is _ _ _ _ l.before.pre l.loop-v.v
+
+  holds : share l.loop-v.v ≤ l.loop-v.missing
+  holds = missing_holds _ _ _ _ l.before.pre l.loop-v.missing l.loop-v.v l.loop-v.inv.1 (omega arith)
+
+pub share-missing-requires : goal.share-missing-requires
+share-missing-requires c = let s = c.before.before.before in (tec_small _ _ _ _ s.requires _ (omega arith), omega arith, omega arith)
+
+pub overflow_sub-missing : goal.overflow_sub-missing
+overflow_sub-missing c = omega (arith, answered c.before, holds c.before)
+
+pub overflow_add-v : goal.overflow_add-v
+overflow_add-v c = omega arith
+
+pub loop-v-smaller : goal.loop-v-smaller
+loop-v-smaller c = omega arith
+
+pub loop-v-preserved : goal.loop-v-preserved
+loop-v-preserved c = let b = c.before in (omega arith, omega (arith, answered b, holds b, sum_more (l b).loop-v.v (share b)))
+
+pub returns : goal.returns
+returns c =
+    let e : c.before.loop-v.v ≡ c.args.n = omega arith in
+    missing_all _ _ _ _ c.requires _ (rw e at c.before.loop-v.invariant.1)

@@ -1,0 +1,13 @@
+use Rattle.tariffs.proofs.case.generation_of.Goals as goal
+
+pub side_figures-requires : goal.side_figures-requires
+side_figures-requires c =
+    let u = c.before.before in
+    let t = u.before in
+    rw (t.terms_of-terms.ensures, u.terms_of-peak_terms.ensures) t.requires
+
+pub returns : goal.returns
+returns c =
+    let u = c.before.before.before in
+    let t = u.before in
+    rw (t.terms_of-terms.ensures, u.terms_of-peak_terms.ensures) at c.side_figures.ensures

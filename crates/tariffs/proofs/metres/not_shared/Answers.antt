@@ -1,0 +1,44 @@
+use mathlib.Core.Path.{◌≡◌, refl, sym}
+use mathlib.Core.List.{List}
+use Prim.Native.Nat.{ℕ, ◌-◌}
+use native.Mathlib.Omega.{arith}
+use lib.IntN.{pos}
+use Rattle.meaning.specs.declared.Metres.{Metres}
+use Rattle.meaning.specs.Columns.{distance}
+use Rattle.meaning.proofs.Columns.{column_none, column_turn}
+use Rattle.boundaries.specs.declared.Split.{Split}
+use Rattle.tariffs.specs.Sides.{parts_in, not_shared_over}
+use Rattle.tariffs.proofs.metres.not_shared.Goals as goal
+
+abbrev mine : List Split → ℕ → Metres
+mine parts k = (parts_in parts k).not_shared
+
+pub loop-k-init : goal.loop-k-init
+loop-k-init c = (omega arith, sym (column_none _ _ _))
+
+pub offset_bounds-parts-k : goal.offset_bounds-parts-k
+offset_bounds-parts-k c = omega arith
+
+pub bounds-parts-k : goal.bounds-parts-k
+bounds-parts-k c = omega arith
+
+pub offset_bounds-all-k : goal.offset_bounds-all-k
+offset_bounds-all-k c = omega arith
+
+pub bounds-all-k : goal.bounds-all-k
+bounds-all-k c = omega arith
+
+pub overflow_add-k : goal.overflow_add-k
+overflow_add-k c = omega arith
+
+pub loop-k-smaller : goal.loop-k-smaller
+loop-k-smaller c = omega arith
+
+pub loop-k-preserved : goal.loop-k-preserved
+loop-k-preserved c =
+    let l = c.before.before.before in
+    (omega arith, column_turn (distance (pos 0)) 32 _ l.loop-k.k (omega arith) l.loop-k.invariant.1 refl)
+
+pub returns : goal.returns
+unfolding not_shared_over
+returns c = let e : c.before.loop-k.k ≡ 32 = omega arith in rw e at c.before.loop-k.invariant.1

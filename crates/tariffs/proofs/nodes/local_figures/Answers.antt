@@ -1,0 +1,101 @@
+use mathlib.Core.Path.{◌≡◌, refl, sym, ◌∙◌, ap}
+use mathlib.Core.List.{List}
+use Prim.Native.Nat.{ℕ, ◌-◌}
+use native.Mathlib.Omega.{arith}
+use lib.IntN.{ℤ}
+use lib.ListN.{replicate}
+use Rattle.integers.proofs.Machine.{back}
+use Rattle.meaning.specs.declared.Kw.{Kw}
+use Rattle.meaning.specs.declared.LocalFigures.{LocalFigures}
+use Rattle.meaning.specs.Columns.{kw_at, no_local}
+use Rattle.meaning.specs.Charging.{tariff}
+use Rattle.meaning.specs.Proposal.{potential}
+use Rattle.meaning.proofs.Columns.{column_none, column_turn}
+use Rattle.rests.proofs.Laws.{less_none, less_turn}
+use Rattle.tariffs.specs.Case.{local_from, node_from, local_of}
+use Rattle.tariffs.proofs.nodes.local_figures.Goals as goal
+use Rattle.tariffs.proofs.nodes.local_figures.Goals.{After-node_line-line, At-loop-v, Start}
+
+abbrev line : (tec : List Kw) (local : List ℤ) (constant factor : ℕ) → ℕ → LocalFigures
+line tec local constant factor v = node_from (kw_at tec v) (potential local v) constant factor
+
+abbrev charge : (local : List ℤ) (constant factor : ℕ) → ℕ → ℤ
+charge local constant factor v = tariff (local_from (potential local v)) constant factor
+
+pub no_local-lines-requires : goal.no_local-lines-requires
+no_local-lines-requires c = tt
+
+pub loop-v-init : goal.loop-v-init
+loop-v-init c = (omega arith, ap (replicate 256) c.no_local-lines.ensures ∙ sym (column_none _ _ _), sym (less_none _ _ _ _))
+
+pub offset_bounds-tec-v : goal.offset_bounds-tec-v
+offset_bounds-tec-v c = omega (arith, c.requires.few)
+
+pub bounds-tec-v : goal.bounds-tec-v
+bounds-tec-v c = omega (arith, c.requires.few)
+
+pub offset_bounds-local-v : goal.offset_bounds-local-v
+offset_bounds-local-v c = omega (arith, c.requires.few)
+
+pub bounds-local-v : goal.bounds-local-v
+bounds-local-v c = omega (arith, c.requires.run)
+
+pub node_line-line-requires : goal.node_line-line-requires
+node_line-line-requires c = let p = c.requires in (p.constant, p.factor)
+
+-- a turn's line
+module _ (c : After-node_line-line) where
+  abbrev L : At-loop-v
+  L = c.before.before.before.before
+
+  abbrev S : Start
+  S = L.before.before
+
+  abbrev I : ℕ
+  I = L.loop-v.v
+
+  abbrev lines : ℕ → LocalFigures
+  lines = line S.args.tec S.args.local.now S.args.constant S.args.factor
+
+  made : c.node_line-line.result ≡ lines I
+  made = simp (back (potential S.args.local.now I) c.before.node_line-arg-in-loop-v-1.given) at c.node_line-line.ensures
+
+  priced : c.node_line-line.result.tariff.0 ≡ charge S.args.local.now S.args.constant S.args.factor I
+  unfolding node_from
+  priced = ap (λ (l : LocalFigures). l.tariff.0) made
+
+pub offset_bounds-paying-v : goal.offset_bounds-paying-v
+offset_bounds-paying-v c = omega (arith, (S c).requires.few)
+
+pub bounds-paying-v : goal.bounds-paying-v
+bounds-paying-v c = omega (arith, (S c).requires.few)
+
+pub less-left-requires : goal.less-left-requires
+less-left-requires c = tt
+
+pub offset_bounds-lines-v : goal.offset_bounds-lines-v
+offset_bounds-lines-v c = omega (arith, (S c.before.before).pre.few)
+
+pub bounds-lines-v : goal.bounds-lines-v
+bounds-lines-v c = omega (arith, (S c.before.before).pre.few)
+
+pub overflow_add-v : goal.overflow_add-v
+overflow_add-v c = omega arith
+
+pub loop-v-smaller : goal.loop-v-smaller
+loop-v-smaller c = omega arith
+
+pub loop-v-preserved : goal.loop-v-preserved
+loop-v-preserved c =
+    let l = c.before.before in (
+      omega arith,
+      column_turn no_local 256 _ (I l) (omega (arith, (S l).requires.few)) (L l).loop-v.invariant.1 (made l),
+      less_turn _ _ _ _ (I l) (L l).loop-v.invariant.2 (priced l) c.less-left.ensures,
+    )
+
+pub returns : goal.returns
+unfolding local_of
+returns c =
+    let l = c.before in
+    let e : l.loop-v.v ≡ l.args.nodes = omega arith in
+    rw (l.loop-v.invariant.1, l.loop-v.invariant.2, e) refl

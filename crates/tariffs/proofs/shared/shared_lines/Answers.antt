@@ -1,0 +1,81 @@
+use mathlib.Core.Path.{◌≡◌, refl, sym, ◌∙◌, ap}
+use mathlib.Core.List.{List}
+use Prim.Native.Nat.{ℕ, ◌-◌}
+use native.Mathlib.Omega.{arith}
+use lib.IntN.{ℤ}
+use lib.ListN.{replicate}
+use Rattle.meaning.specs.declared.SharedFigures.{SharedFigures}
+use Rattle.meaning.specs.Charging.{no_shared}
+use Rattle.meaning.proofs.Columns.{column_none, column_turn}
+use Rattle.rests.proofs.Laws.{less_none, less_turn}
+use Rattle.boundaries.specs.declared.Split.{Split}
+use Rattle.tariffs.specs.declared.wider.Terms.{Terms}
+use Rattle.tariffs.specs.Sides.{parts_in, shared_tariff_from, shared_from, shared_over}
+use Rattle.tariffs.proofs.shared.shared_lines.Goals as goal
+use Rattle.tariffs.proofs.shared.shared_lines.Goals.{After-shared_line-line}
+
+abbrev line : Terms → List Split → ℕ → SharedFigures
+line terms parts k = shared_from terms (parts_in parts k).shared.0
+
+abbrev price : Terms → List Split → ℕ → ℤ
+price terms parts k = shared_tariff_from terms (parts_in parts k).shared.0
+
+pub no_shared-lines-requires : goal.no_shared-lines-requires
+no_shared-lines-requires c = tt
+
+pub loop-k-init : goal.loop-k-init
+loop-k-init c = (omega arith, ap (replicate 32) c.no_shared-lines.ensures ∙ sym (column_none _ _ _), sym (less_none _ _ _ _))
+
+pub offset_bounds-parts-k : goal.offset_bounds-parts-k
+offset_bounds-parts-k c = omega arith
+
+pub bounds-parts-k : goal.bounds-parts-k
+bounds-parts-k c = omega arith
+
+pub shared_line-line-requires : goal.shared_line-line-requires
+shared_line-line-requires c =
+    let l = c.before.before in
+    let p = l.requires in
+    (p.0.shared l.loop-k.k (omega arith), p.2)
+
+-- a turn's tariff
+priced : (c : After-shared_line-line) → (let l = c.before.before.before in let a = l.args in c.shared_line-line.result.tariff.0 ≡ price a.terms a.t1 l.loop-k.k)
+unfolding shared_from
+priced c = ap (λ (w : SharedFigures). w.tariff.0) c.shared_line-line.ensures
+
+pub offset_bounds-kw-k : goal.offset_bounds-kw-k
+offset_bounds-kw-k c = omega arith
+
+pub bounds-kw-k : goal.bounds-kw-k
+bounds-kw-k c = omega arith
+
+pub less-left-requires : goal.less-left-requires
+less-left-requires c = tt
+
+pub offset_bounds-lines-k : goal.offset_bounds-lines-k
+offset_bounds-lines-k c = omega arith
+
+pub bounds-lines-k : goal.bounds-lines-k
+bounds-lines-k c = omega arith
+
+pub overflow_add-k : goal.overflow_add-k
+overflow_add-k c = omega arith
+
+pub loop-k-smaller : goal.loop-k-smaller
+loop-k-smaller c = omega arith
+
+pub loop-k-preserved : goal.loop-k-preserved
+loop-k-preserved c =
+    let w = c.before.before in
+    let l = w.before.before.before in (
+      omega arith,
+      column_turn no_shared 32 _ l.loop-k.k (omega arith) l.loop-k.invariant.1 w.shared_line-line.ensures,
+      less_turn _ _ _ _ l.loop-k.k l.loop-k.invariant.2 (priced w) c.less-left.ensures,
+    )
+
+pub returns : goal.returns
+unfolding shared_over
+returns c =
+    let l = c.before in
+    let e : l.loop-k.k ≡ l.args.count = omega arith in
+    rw (l.loop-k.invariant.1, l.loop-k.invariant.2, e) refl

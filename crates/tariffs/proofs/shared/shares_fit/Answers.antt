@@ -1,0 +1,45 @@
+use mathlib.Core.Path.{sym}
+use Prim.Native.Nat.{◌≤◌, ◌-◌}
+use native.Mathlib.Omega.{arith}
+use Rattle.tariffs.proofs.Laws.{shared_few, more_fit, shares_say, shares_fail}
+use Rattle.tariffs.proofs.shared.shares_fit.Goals as goal
+use Rattle.tariffs.proofs.shared.shares_fit.Goals.{After-shared_zones-zones}
+
+pub shared_zones-zones-requires : goal.shared_zones-zones-requires
+shared_zones-zones-requires c = tt
+
+pub loop-k-init : goal.loop-k-init
+loop-k-init c = (omega arith, λ j h. absurd (omega arith))
+
+-- the zones that are looked at
+few : (c : After-shared_zones-zones) → c.shared_zones-zones.result ≤ 32
+few c = let s = c.before.before in rw c.shared_zones-zones.ensures (shared_few s.args.shares.in_force s.args.count s.requires)
+
+pub offset_bounds-kw-k : goal.offset_bounds-kw-k
+offset_bounds-kw-k c = omega (arith, few c.before.before)
+
+pub bounds-kw-k : goal.bounds-kw-k
+bounds-kw-k c = omega (arith, few c.before.before)
+
+pub returns-then-kw-k : goal.returns-then-kw-k
+returns-then-kw-k c =
+    let l = c.before.before.before in
+    let z = l.before in
+    let a = z.args in
+    shares_fail a.shares a.count a.payers.0 l.loop-k.k (omega (arith, z.shared_zones-zones.ensures)) (omega arith)
+
+pub overflow_add-k : goal.overflow_add-k
+overflow_add-k c = omega (arith, few c.before.before.before.before)
+
+pub loop-k-smaller : goal.loop-k-smaller
+loop-k-smaller c = omega arith
+
+pub loop-k-preserved : goal.loop-k-preserved
+loop-k-preserved c = let l = c.before.before.before in let a = l.args in (omega arith, more_fit a.shares.kw-1 a.payers.0 l.loop-k.k l.loop-k.invariant.1 (omega arith))
+
+pub returns : goal.returns
+returns c =
+    let l = c.before in
+    let z = l.before in
+    let a = z.args in
+    sym ((shares_say a.shares a.count a.payers.0).1 (record { each = λ k h. l.loop-k.invariant.1 k (omega (arith, z.shared_zones-zones.ensures)) }))

@@ -1,0 +1,82 @@
+use mathlib.Core.Path.{◌≡◌, refl, sym, ◌∙◌, ap}
+use mathlib.Core.List.{List}
+use Prim.Native.Nat.{ℕ, ◌-◌}
+use native.Mathlib.Omega.{arith}
+use lib.IntN.{ℤ}
+use lib.ListN.{replicate}
+use Rattle.meaning.specs.declared.Metres.{Metres}
+use Rattle.meaning.specs.declared.WiderFigures.{WiderFigures}
+use Rattle.meaning.specs.Columns.{metres_at}
+use Rattle.meaning.specs.Charging.{no_wider}
+use Rattle.meaning.proofs.Columns.{column_none, column_turn}
+use Rattle.rests.proofs.Laws.{less_none, less_turn}
+use Rattle.tariffs.specs.declared.wider.Terms.{Terms}
+use Rattle.tariffs.specs.Sides.{tariff_from, wider_from, wider_over}
+use Rattle.tariffs.proofs.wider.wider_lines.Goals as goal
+use Rattle.tariffs.proofs.wider.wider_lines.Goals.{After-wider_line-line}
+
+abbrev line : Terms → List Metres → ℕ → WiderFigures
+line terms metres k = wider_from terms (metres_at metres k)
+
+abbrev price : Terms → List Metres → ℕ → ℤ
+price terms metres k = tariff_from terms (metres_at metres k)
+
+pub no_wider-lines-requires : goal.no_wider-lines-requires
+no_wider-lines-requires c = tt
+
+pub loop-k-init : goal.loop-k-init
+loop-k-init c = (omega arith, ap (replicate 32) c.no_wider-lines.ensures ∙ sym (column_none _ _ _), sym (less_none _ _ _ _))
+
+pub offset_bounds-sums-k : goal.offset_bounds-sums-k
+offset_bounds-sums-k c = omega arith
+
+pub bounds-sums-k : goal.bounds-sums-k
+bounds-sums-k c = omega arith
+
+pub offset_bounds-metres-k : goal.offset_bounds-metres-k
+offset_bounds-metres-k c = omega arith
+
+pub bounds-metres-k : goal.bounds-metres-k
+bounds-metres-k c = omega arith
+
+pub wider_line-line-requires : goal.wider_line-line-requires
+wider_line-line-requires c =
+    let l = c.before.before.before in
+    let p = l.requires in
+    (p.0.each l.loop-k.k (omega arith), p.2)
+
+pub less-left-requires : goal.less-left-requires
+less-left-requires c = tt
+
+pub offset_bounds-lines-k : goal.offset_bounds-lines-k
+offset_bounds-lines-k c = omega arith
+
+pub bounds-lines-k : goal.bounds-lines-k
+bounds-lines-k c = omega arith
+
+pub overflow_add-k : goal.overflow_add-k
+overflow_add-k c = omega arith
+
+pub loop-k-smaller : goal.loop-k-smaller
+loop-k-smaller c = omega arith
+
+-- a turn's tariff
+priced : (c : After-wider_line-line) → (let l = c.before.before.before.before in let a = l.args in c.wider_line-line.result.tariff.0 ≡ price a.terms a.t1 l.loop-k.k)
+unfolding wider_from
+priced c = ap (λ (w : WiderFigures). w.tariff.0) c.wider_line-line.ensures
+
+pub loop-k-preserved : goal.loop-k-preserved
+loop-k-preserved c =
+    let w = c.before in
+    let l = w.before.before.before.before in (
+      omega arith,
+      column_turn no_wider 32 _ l.loop-k.k (omega arith) l.loop-k.invariant.1 w.wider_line-line.ensures,
+      less_turn _ _ _ _ l.loop-k.k l.loop-k.invariant.2 (priced w) c.less-left.ensures,
+    )
+
+pub returns : goal.returns
+unfolding wider_over
+returns c =
+    let l = c.before in
+    let e : l.loop-k.k ≡ l.args.count = omega arith in
+    rw (l.loop-k.invariant.1, l.loop-k.invariant.2, e) refl

@@ -1,0 +1,14 @@
+-- The invariant: a column of the zones passed, and the rest without what they bring in.
+use mathlib.Core.Path.{◌≡◌}
+use Prim.Native.Nat.{◌≤◌, ◌-◌}
+use Rattle.meaning.specs.Columns.{column}
+use Rattle.meaning.specs.Charging.{no_wider}
+use Rattle.rests.specs.Rests.{less_to}
+use Rattle.tariffs.specs.Sides.{pays_in}
+use Rattle.tariffs.proofs.wider.wider_lines.Given as goal
+
+abbrev pub invariant-loop-k : goal.invariant-loop-k
+invariant-loop-k l = (l.k ≤ l.count) × (l.lines ≡ column no_wider 32 l.k (line l.terms l.metres)) × (l.left ≡ less_to l.initial.left l.payers.0 (price l.terms l.metres) (pays_in l.sums) l.k)
+
+abbrev pub decreases-loop-k : goal.decreases-loop-k
+decreases-loop-k l = l.count - l.k

@@ -1,0 +1,22 @@
+-- `text::refuse` meets its contract.
+use mathlib.Core.Path.{refl}
+use native.Mathlib.Omega.{arith}
+use Rattle.meaning.specs.Outcome.{refused_line}
+use Rattle.lines.proofs.Making.{ready, copied}
+use Rattle.text.proofs.Sizing.{written}
+use Rattle.text.proofs.refuse.Goals as goal
+
+pub returns-then-out-lt96 : goal.returns-then-out-lt96
+returns-then-out-lt96 c = record { long = λ h. absurd (omega (arith, h, c.if-out-lt96.true)); short = λ h. (refl, refl) }
+
+pub put_line-requires : goal.put_line-requires
+put_line-requires c = ready c.refused_line.result c.refused_line.ensures (omega arith) 0 (omega arith)
+
+pub returns : goal.returns
+unfolding refused_line
+returns c =
+    let p = c.before.before in
+    let l = p.before in
+    let v = l.before.before in
+    let line = copied l.refused_line.result (rw v.of_refusal-carried.ensures at l.refused_line.ensures) (omega arith) p.put_line.ensures in
+    record { long = λ h. written line (omega (arith, h)); short = λ h. absurd (omega (arith, h, v.before.if-out-lt96.false)) }

@@ -1,0 +1,10 @@
+-- `wirepulley::wirepulley_write_five` meets its contract: what the entry settles, told.
+use mathlib.Core.Path.{ap}
+use Rattle.meaning.specs.Outcome.{Settled}
+use Rattle.wirepulley.proofs.Telling.{tells_same}
+use Rattle.wirepulley.proofs.wirepulley_write_five.Goals as goal
+
+pub returns : goal.returns
+returns c =
+    let e = c.before.before.before.before.write-answer.ensures.contract in
+    record { answer = tells_same _ _ (ap (λ (s : Settled). s.answer) e) c.tell.ensures; buffer = ap (λ (s : Settled). s.buffer) e }

@@ -1,0 +1,74 @@
+use Prim.Native.Nat.{◌-◌, ◌<◌}
+use native.Mathlib.Omega.{arith}
+use Rattle.meaning.proofs.Says.{says_lt, ◌also◌}
+use Rattle.zone_kw.proofs.ZoneLaws.{sums_none, sums_more, sums_past, sums_fit, sums_done}
+use Rattle.zone_kw.proofs.by_zone.Goals as goal
+use Rattle.zone_kw.proofs.by_zone.Goals.{In-loop-v}
+
+pub loop-v-init : goal.loop-v-init
+loop-v-init c = (omega arith, omega arith, sums_none c.args.zone c.args.kw)
+
+-- there is another node, and a row for it
+on : (c : In-loop-v) → let l = c.before in (l.loop-v.v < l.args.nodes) × (l.loop-v.v < 256)
+on c = (says_lt also says_lt).0 c.loop-v-test.true
+
+pub offset_bounds-zone-v : goal.offset_bounds-zone-v
+offset_bounds-zone-v c = omega (arith, (on c).1)
+
+pub bounds-zone-v : goal.bounds-zone-v
+bounds-zone-v c = (on c).1
+
+pub offset_bounds-kw-v : goal.offset_bounds-kw-v
+offset_bounds-kw-v c = omega (arith, (on c.before).1)
+
+pub bounds-kw-v : goal.bounds-kw-v
+bounds-kw-v c = (on c.before).1
+
+pub overflow_add-v : goal.overflow_add-v
+overflow_add-v c = omega arith
+
+pub offset_bounds-sums-slot : goal.offset_bounds-sums-slot
+offset_bounds-sums-slot c = omega arith
+
+pub bounds-sums-slot : goal.bounds-sums-slot
+bounds-sums-slot c = omega arith
+
+pub overflow_add-sums : goal.overflow_add-sums
+overflow_add-sums c =
+    let t = c.before.before.before in
+    let l = t.before in
+    omega (arith, sums_fit l.args.zone l.args.kw l.loop-v.v c.before.before.slot_of-slot.result l.loop-v.invariant.2 c.before.kept-more.ensures (on t).1 (omega arith))
+
+pub bounds-sums-slot-then-slot-lt32 : goal.bounds-sums-slot-then-slot-lt32
+bounds-sums-slot-then-slot-lt32 c = omega arith
+
+pub loop-v-smaller-then-slot-lt32 : goal.loop-v-smaller-then-slot-lt32
+loop-v-smaller-then-slot-lt32 c = omega (arith, (on c.before.before.before.before).1)
+
+pub loop-v-preserved-then-slot-lt32 : goal.loop-v-preserved-then-slot-lt32
+loop-v-preserved-then-slot-lt32 c =
+    let u = c.before.before in
+    let t = u.before.before in
+    let l = t.before in
+    let a = l.args in (
+      omega (arith, (on t).0),
+      omega (arith, (on t).1),
+      sums_more a.t2 a.t3 l.loop-v.v _ l.loop-v.invariant.2 u.before.slot_of-slot.ensures u.kept-more.ensures (omega arith),
+    )
+
+pub loop-v-smaller : goal.loop-v-smaller
+loop-v-smaller c = omega (arith, (on c.before.before.before).1)
+
+pub loop-v-preserved : goal.loop-v-preserved
+loop-v-preserved c =
+    let u = c.before in
+    let t = u.before.before in
+    let l = t.before in
+    let a = l.args in (
+      omega (arith, (on t).0),
+      omega (arith, (on t).1),
+      sums_past a.t2 a.t3 l.loop-v.v _ l.loop-v.invariant.2 u.before.slot_of-slot.ensures (omega arith),
+    )
+
+pub returns : goal.returns
+returns c = let l = c.before in sums_done _ _ _ l.loop-v.v l.loop-v.invariant.2 l.loop-v.invariant.0 l.loop-v.invariant.1 c.loop-v-test.false
