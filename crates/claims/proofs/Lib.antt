@@ -5,7 +5,7 @@ pub mod Listed
 pub mod Accepted
 -- demand 3: stations stay hidden
 pub mod Same
-pub mod Hidden
+pub mod HiddenStations
 pub mod Stations
 -- demand 3 and 02, request 12: one system of two cases, only directions count, solvers agree
 pub mod Close

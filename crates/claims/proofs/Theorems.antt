@@ -18,7 +18,7 @@ use Rattle.sizes.proofs.Accepted as Sizes
 use Rattle.claims.proofs.Accepted
 use Rattle.claims.proofs.Recovered
 use Rattle.claims.proofs.Agree
-use Rattle.claims.proofs.Hidden
+use Rattle.claims.proofs.HiddenStations
 use Rattle.claims.proofs.Stations
 use Rattle.claims.proofs.Interconnectors
 use Rattle.claims.proofs.Types
@@ -45,7 +45,7 @@ one_answer = Accepted.one_answer
 
 -- what judges without a buffer answers what writes with room enough
 pub judge_is_write : JudgeIsWrite
-judge_is_write = Hidden.judge_is_write
+judge_is_write = HiddenStations.judge_is_write
 
 -- demand 2: read back from its bytes, the sheet of an accepted case brings in the allowed revenue, less two printed remainders
 pub revenue_recovered : RevenueRecovered
@@ -61,7 +61,7 @@ solvers_agree = Agree.solvers_agree
 
 -- demand 3: how a node's capacity is divided among stations is not seen, in a refusal neither
 pub stations_hidden : StationsHidden
-stations_hidden = Hidden.stations_hidden
+stations_hidden = HiddenStations.stations_hidden
 
 -- demand 3: and a station divided in two, or listed elsewhere, leaves every capacity as it was
 pub capacity_kept : CapacityKept

@@ -40,7 +40,7 @@ use Rattle.meaning.proofs.Present.{one_background}
 use Rattle.meaning.proofs.Sheets.{SameSide, same_sheet}
 use Rattle.meaning.proofs.Sides.{of_peak, Corresponds, zones_same, payers_same}
 use Rattle.meaning.proofs.Bases.{Alike, C-same, priced_same, line_same, residual_alike, remainder_alike, zone_alike}
-use Rattle.claims.proofs.Hidden.{after_five, judged_after, answered, settled_answer}
+use Rattle.claims.proofs.HiddenStations.{after_five, judged_after, answered, settled_answer}
 use Rattle.claims.proofs.Interconnectors.{all_but_interconnectors_pay}
 
 module _ (s : Settings) (first : s.edition ≡ First) (ns : List Node) (cs : List Circuit) (k k' : List (List Kw)) where

@@ -6,7 +6,7 @@ use mathlib.Core.List.{List}
 use Prim.Native.Nat.{ℕ, suc, ◌≤◌, ◌<◌}
 use native.Mathlib.Omega.{arith}
 use lib.Dec.{eqb}
-use lib.IntN.{ℤ, pos, ◌+ℤ◌, ◌*ℤ◌}
+use lib.IntN.{ℤ, pos, ◌+ℤ◌, ◌-ℤ◌, ◌*ℤ◌}
 use lib.ListN.{length}
 use Rattle.integers.specs.Numbers.{sum, nearest}
 use Rattle.integers.proofs.Core.{Z}
@@ -134,7 +134,8 @@ module _ (to : Side → Side) (G G' : Grid) (runs runs' : Runs) (share : List �
   pub rest_same : (side : Side) → rest G' runs' share side ≡ rest G runs share (to side)
   unfolding charging.rest charging.priced basis
   rest_same side =
-      simp (targets side, over_backgrounds_lem _ _ edition (λ b h. over_same to b G G' runs runs' (x b h) side _ _ (prices b h side)), shared side, locals side)
+      let brought = over_backgrounds_lem _ _ edition (λ b h. over_same to b G G' runs runs' (x b h) side _ _ (prices b h side)) in
+      ap₂ ◌-ℤ◌ (ap₂ ◌-ℤ◌ (targets side) (ap₂ ◌+ℤ◌ brought (shared side))) (locals side)
 
   paid_same : (side : Side) → (priced G' runs' share side).payers ≡ (priced G runs share (to side)).payers
   unfolding charging.priced basis

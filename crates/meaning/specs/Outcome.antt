@@ -51,8 +51,8 @@ sheet_of file runs share = sheet (grid_of (study_of file)) runs share
 
 -- what an entry answers with room enough for the sheet: "Acceptance carries the sheet's length"
 unfoldable pub answered_by : Judgement → (sheet : List ℕ) → Answer
-answered_by Passes sheet = Accepted (length sheet)
-answered_by (Stops r) sheet = Refused r
+answered_by Passes bytes = Accepted (length bytes)
+answered_by (Stops r) bytes = Refused r
 
 unfoldable pub answer_of : (file : List ℕ) → Runs → (share : List ℕ) → Answer
 answer_of file runs share = answered_by (judged file runs share) (sheet_of file runs share)
@@ -76,8 +76,8 @@ buffer_stage sheet buffer = unless (leb (length sheet) (length buffer)) ShortBuf
 
 -- refused by what stops the case first, else the sheet
 unfoldable pub settled_by : Judgement → (sheet buffer : List ℕ) → Settled
-settled_by Passes sheet buffer = written sheet buffer
-settled_by (Stops r) sheet buffer = refused r buffer
+settled_by Passes bytes buffer = written bytes buffer
+settled_by (Stops r) bytes buffer = refused r buffer
 
 -- 1 to 11 and 13 to 16, then 12
 unfoldable pub settle : (file : List ℕ) → Runs → (share buffer : List ℕ) → Settled
@@ -93,8 +93,8 @@ unfoldable pub refused_line : Refusal → List ℕ
 refused_line r = line (refused_fields (values (Refused r)))
 
 unfoldable pub printed_by : Judgement → (sheet : List ℕ) → List ℕ
-printed_by Passes sheet = sheet
-printed_by (Stops r) sheet = refused_line r
+printed_by Passes bytes = bytes
+printed_by (Stops r) bytes = refused_line r
 
 -- one case on standard input, and the bytes of `share.bin`; "it never prints 12"
 unfoldable pub prints : (file share : List ℕ) → List ℕ

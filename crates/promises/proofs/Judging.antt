@@ -18,7 +18,7 @@ use Rattle.meaning.proofs.Answers.{stops≢passes, stops_same}
 use Rattle.meaning.proofs.Judged.{judge_case, judged_pass}
 use Rattle.claims.proofs.Accepted.{refused_same, accepted≢refused}
 use Rattle.claims.proofs.Listed.{case_listed, case_number}
-use Rattle.claims.proofs.Hidden.{judged_alike}
+use Rattle.claims.proofs.HiddenStations.{judged_alike}
 use Rattle.claims.proofs.Same.{same_grid}
 use Rattle.claims.proofs.Theorems.{judge_is_write, one_sheet_in_either_version, no_file_no_change}
 use Rattle.promises.specs.Judging.{RefusalJudged, EveryJudgePromised, JudgesHideStations, JudgesInEitherVersion}

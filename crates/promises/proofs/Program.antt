@@ -25,7 +25,7 @@ use Rattle.meaning.specs.OnlyDirections.{Asked, BothFirst, Holds}
 use Rattle.meaning.proofs.Judged.{judge_case, judged_pass}
 use Rattle.claims.proofs.Listed.{case_listed, case_number}
 use Rattle.claims.proofs.Told.{line_told}
-use Rattle.claims.proofs.Hidden.{judged_alike}
+use Rattle.claims.proofs.HiddenStations.{judged_alike}
 use Rattle.claims.proofs.Same.{same_grid}
 use Rattle.claims.proofs.Theorems.{revenue_recovered, solvers_agree, printed_mirror, one_sheet_in_either_version, only_directions_count, no_file_no_change, printed_parts, share_cut}
 use Rattle.output.proofs.Cut.{input_cut}
