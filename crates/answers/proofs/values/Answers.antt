@@ -4,7 +4,7 @@ use Rattle.answers.proofs.values.Goals as goal
 
 pub returns-in-Accepted : goal.returns-in-Accepted
 unfolding values
-returns-in-Accepted c = sym (ap values c.before.answer-1.given.1)
+returns-in-Accepted c = sym (ap values c.in-Accepted.is)
 
 pub returns-in-Refused : goal.returns-in-Refused
-returns-in-Refused c = c.of_refusal.ensures ∙ sym (ap values c.before.before.answer-in-Refused-1.given.1)
+returns-in-Refused c = c.of_refusal.ensures ∙ sym (ap values c.in-Refused.is)

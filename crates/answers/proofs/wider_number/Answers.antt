@@ -6,8 +6,8 @@ use Rattle.answers.proofs.wider_number.Goals as goal
 
 pub returns-in-YearRound : goal.returns-in-YearRound
 unfolding system_number
-returns-in-YearRound c = sym (ap (λ (b : Background). system_number (Wider b)) c.enum_told-1.given.1)
+returns-in-YearRound c = sym (ap (λ (b : Background). system_number (Wider b)) c.in-YearRound.is)
 
 pub returns-in-Peak : goal.returns-in-Peak
 unfolding system_number
-returns-in-Peak c = sym (ap (λ (b : Background). system_number (Wider b)) c.enum_told-in-Peak-1.given.1)
+returns-in-Peak c = sym (ap (λ (b : Background). system_number (Wider b)) c.in-Peak.is)

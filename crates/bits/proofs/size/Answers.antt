@@ -6,5 +6,5 @@ use Rattle.bits.proofs.size.Goals as goal
 pub returns : goal.returns
 returns c =
     let a = c.args in
-    ap₂ (λ (x y : ℕ). x + y) (ap₂ (λ (x y : ℕ). x + y) (ap₂ (λ (x y : ℕ). x + y) c.before.before.before.ones.ensures.0 c.before.before.ones-2.ensures.0) c.before.ones-3.ensures.0) c.ones-4.ensures.0
-    ∙ size_is a.t1
+    ap₂ (λ (x y : ℕ). x + y) (ap₂ (λ (x y : ℕ). x + y) (ap₂ (λ (x y : ℕ). x + y) c.ones.ensures.0 c.ones-2.ensures.0) c.ones-3.ensures.0) c.ones-4.ensures.0
+    ∙ size_is a.set

@@ -3,7 +3,7 @@ use Rattle.bits.proofs.Sets.{word_less, word_past}
 use Rattle.bits.proofs.word_without.Goals as goal
 
 pub returns-then-w-lt4 : goal.returns-then-w-lt4
-returns-then-w-lt4 c = let a = c.args in word_less a.t1 a.t2 a.w c.less.result c.less.ensures
+returns-then-w-lt4 c = let a = c.args in word_less a.a a.b a.w c.less.result c.less.ensures
 
 pub returns : goal.returns
-returns c = let a = c.args in word_past a.t1 a.t2 a.w (omega arith) (omega arith)
+returns c = let a = c.args in word_past a.a a.b a.w (omega arith) (omega arith)

@@ -27,7 +27,7 @@ pub overflow_add-i : goal.overflow_add-i
 overflow_add-i c = omega arith
 
 pub one-requires : goal.one-requires
-one-requires c = let l = c.before.before.before in (l.loop-i.invariant.1, l.loop-i.invariant.2)
+one-requires c = (c.loop-i.invariant.1, c.loop-i.invariant.2)
 
 pub offset_bounds-all-i : goal.offset_bounds-all-i
 offset_bounds-all-i c = omega arith
@@ -43,13 +43,10 @@ loop-i-smaller c = omega arith
 
 pub loop-i-preserved : goal.loop-i-preserved
 loop-i-preserved c =
-    let l = c.before.before.before.before in
-    (omega arith, l.loop-i.invariant.1, l.loop-i.invariant.2, column_turn _ 32 _ l.loop-i.i (omega arith) l.loop-i.invariant.3 (rw plus_one at c.one.ensures))
+    (omega arith, c.loop-i.invariant.1, c.loop-i.invariant.2, column_turn _ 32 _ c.loop-i.i (omega arith) c.loop-i.invariant.3 (rw plus_one at c.one.ensures))
 
 pub returns : goal.returns
 returns c =
-    let l = c.before in
-    let p = l.before in
-    let a = p.args in
-    column_done _ 32 _ 32 l.loop-i.i l.loop-i.invariant.3 l.loop-i.invariant.0 (omega arith)
-    ∙ splits_are a.shares a.zones a.metres p.before.before.zones_in-count.ensures p.parts-parts.ensures
+    let a = c.args in
+    column_done _ 32 _ 32 c.loop-i.i c.loop-i.invariant.3 c.loop-i.invariant.0 (omega arith)
+    ∙ splits_are a.shares a.zones a.metres c.zones_in-count.ensures c.parts-parts.ensures

@@ -9,8 +9,8 @@ use Rattle.chains.proofs.load_factors.Goals.{In-loop-t}
 pub loop-t-init : goal.loop-t-init
 loop-t-init c = (omega arith, sym (column_none 0 7 _))
 
-on : (c : In-loop-t) → let l = c.before in (l.args.zones ≤ 32) × (l.loop-t.t + 1 ≤ 7)
-on c = let t = factors_on c.args.zones c.before.loop-t.t c.loop-t-test.true in (t.0, omega (arith, t.1))
+on : (c : In-loop-t) → (c.args.zones ≤ 32) × (c.loop-t.t + 1 ≤ 7)
+on c = let t = factors_on c.args.zones c.loop-t.t c.loop-t-test.true in (t.0, omega (arith, t.1))
 
 pub overflow_add-zones : goal.overflow_add-zones
 overflow_add-zones c = omega (arith, on c)
@@ -35,13 +35,11 @@ loop-t-smaller c = omega (arith, on c.before)
 
 pub loop-t-preserved : goal.loop-t-preserved
 loop-t-preserved c =
-    let l = c.before.before in
-    let a = l.args in
+    let a = c.args in
     let t = on c.before in
-    (t.1, column_turn 0 7 _ l.loop-t.t (omega (arith, t.1)) l.loop-t.invariant.1 (c.u32_at.ensures.value ∙ factor_read a.share.now a.zones l.loop-t.t t.0))
+    (t.1, column_turn 0 7 _ c.loop-t.t (omega (arith, t.1)) c.loop-t.invariant.1 (c.u32_at.ensures.value ∙ factor_read a.share.now a.zones c.loop-t.t t.0))
 
 pub returns : goal.returns
 returns c =
-    let l = c.before in
-    let a = l.args in
-    l.loop-t.invariant.1 ∙ factors_filled a.share.now a.zones l.loop-t.t l.loop-t.invariant.0 c.loop-t-test.false
+    let a = c.args in
+    c.loop-t.invariant.1 ∙ factors_filled a.share.now a.zones c.loop-t.t c.loop-t.invariant.0 c.loop-t-test.false

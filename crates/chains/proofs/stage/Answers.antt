@@ -15,10 +15,10 @@ module _ (f : After-first_unsound-i) where
   s = f.before.before.before.before.before.before.before
 
   sound : sound_frame s.args.share.now s.args.zones ≡ true
-  sound = sym f.before.before.before.before.sound.ensures ∙ not_false f.before.before.before.if-not-sound.left
+  sound = sym f.sound.ensures ∙ not_false f.if-not-sound.left
 
   found : IsFirst (λ i. not (sound_zone s.args.zones (zone_kw s.args.tec) (next_in (inward_of s.args.share.now s.args.zones)) (suc i))) s.args.zones f.first_unsound-i.result
-  found = rw f.before.before.inward-next.ensures at f.first_unsound-i.ensures
+  found = rw f.inward-next.ensures at f.first_unsound-i.ensures
 
 pub returns-then-zones-gt32 : goal.returns-then-zones-gt32
 returns-then-zones-gt32 c = let a = c.args in stage_out a.share.now a.zones a.tec (omega arith)
@@ -26,7 +26,7 @@ returns-then-zones-gt32 c = let a = c.args in stage_out a.share.now a.zones a.te
 pub returns-then-not-sound : goal.returns-then-not-sound
 returns-then-not-sound c =
     let a = c.args in
-    stage_frame a.share.now a.zones a.tec (omega arith) (sym c.before.sound.ensures ∙ not_true c.if-not-sound.true)
+    stage_frame a.share.now a.zones a.tec (omega arith) (sym c.sound.ensures ∙ not_true c.if-not-sound.true)
 
 pub returns-then-i-zones : goal.returns-then-i-zones
 returns-then-i-zones c = let f = c.before in let a = (s f).args in stage_zone a.share.now a.zones a.tec (omega arith) (sound f) (found f) (omega arith)

@@ -13,7 +13,7 @@ pub bounds-next-z : goal.bounds-next-z
 bounds-next-z c = omega (arith, in_array c.args.z c.if-z.true)
 
 pub returns-then-z : goal.returns-then-z
-returns-then-z c = let a = c.args in zone_in 0 (number_at a.next.now) a.z c.before.if-z.true
+returns-then-z c = let a = c.args in zone_in 0 (number_at a.next.now) a.z c.if-z.true
 
 pub returns : goal.returns
 returns c = let a = c.args in zone_out 0 (number_at a.next.now) a.z c.if-z.false

@@ -26,16 +26,10 @@ module _ (c : After-open-opened) where
 
 pub returns-in-Stops : goal.returns-in-Stops
 returns-in-Stops c =
-    let d = c.before in
-    let a = d.before.before in
-    stopped (bytes a) (runs a) (share a) (read a) a.«open».ensures d.enum_told-1.given.1 c.no_figures.ensures
+    let a = c.before.before in
+    stopped (bytes a) (runs a) (share a) (read a) a.«open».ensures c.in-Stops.is c.no_figures.ensures
 
 pub returns-in-Passes : goal.returns-in-Passes
 returns-in-Passes c =
-    let h = c.before in
-    let k = h.before in
-    let p = k.before.before in
-    let t = p.before in
-    let d = t.before.before.before.before.before in
-    let a = d.before.before in
-    charged (bytes a) (runs a) (share a) (read a) a.«open».ensures d.enum_told-in-Passes-1.given.1 t.by_node-tec.ensures p.by_node-paying.ensures k.paying_at_peak-at_peak.ensures h.shares_in-shares.ensures c.figures.ensures
+    let a = c.before.before in
+    charged (bytes a) (runs a) (share a) (read a) a.«open».ensures c.in-Passes.is c.by_node-tec.ensures c.by_node-paying.ensures c.paying_at_peak-at_peak.ensures c.shares_in-shares.ensures c.figures.ensures

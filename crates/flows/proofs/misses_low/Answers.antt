@@ -20,7 +20,7 @@ pub loop-c-init : goal.loop-c-init
 loop-c-init c = (omega arith, omega arith, sym (sum-zero _))
 
 -- a turn's circuit is a row of the columns
-few : (c : In-loop-c) → c.before.loop-c.c < 512
+few : (c : In-loop-c) → c.loop-c.c < 512
 few c = omega arith
 
 pub offset_bounds-first-c : goal.offset_bounds-first-c
@@ -89,10 +89,10 @@ module _ (c : After-miss_size-total) where
   bq = back _ q.number_at-q.ok
 
   bf : Back (number s.args.run.now (s.args.n + l.loop-c.c))
-  bf = back _ c.before.before.miss_size-arg-in-loop-c-1.given
+  bf = back _ c.miss_size-arg-in-loop-c-1.given
 
   bo : Back (number s.args.offset.now l.loop-c.c)
-  bo = back _ c.before.miss_size-arg-in-loop-c-2-1.given
+  bo = back _ c.miss_size-arg-in-loop-c-2-1.given
 
   sized : c.miss_size-total.result ≡ size l.loop-c.c
   sized =
@@ -125,6 +125,5 @@ loop-c-preserved c = (omega arith, omega arith, next c.before)
 
 pub returns : goal.returns
 returns c =
-    let l = c.before in
-    let a = l.args in
-    all_low a.n a.first.now a.second.now a.x.now a.offset.now a.run.now _ _ (omega arith) l.loop-c.invariant.2 l.loop-c.invariant.1
+    let a = c.args in
+    all_low a.n a.first.now a.second.now a.x.now a.offset.now a.run.now _ _ (omega arith) c.loop-c.invariant.2 c.loop-c.invariant.1

@@ -16,7 +16,7 @@ pub loop-c-init : goal.loop-c-init
 loop-c-init c = (omega arith, netted_none _ _ _)
 
 -- a turn's circuit is a row of the columns
-few : (c : In-loop-c) → c.before.loop-c.c < 512
+few : (c : In-loop-c) → c.loop-c.c < 512
 few c = omega arith
 
 pub overflow_add-n : goal.overflow_add-n
@@ -44,14 +44,14 @@ module _ (c : After-carried-flow) where
 
   flow-is : c.carried-flow.result ≡ flows l.loop-c.c
   flow-is =
-      let b : Back (number s.args.run.now (s.args.n + l.loop-c.c)) = back _ c.before.carried-arg-1.given in
+      let b : Back (number s.args.run.now (s.args.n + l.loop-c.c)) = back _ c.carried-arg-1.given in
       simp b at c.carried-flow.ensures
 
   bf : Back (flows l.loop-c.c)
   bf = fit_back (carried_fits _)
 
   bt : Back (pos 0 -ℤ flows l.loop-c.c)
-  bt = fit_back (turned_flow _ _ flows (λ i. carried_small _) l.loop-c.c (omega arith) _ l.loop-c.inv.1)
+  bt = fit_back (turned_flow _ _ flows (λ i. carried_small _) l.loop-c.c (omega arith) _ l.loop-c.invariant.1)
 
 pub offset_bounds-first-c : goal.offset_bounds-first-c
 offset_bounds-first-c c = place_fits _ (few c.before.before.before)
@@ -77,9 +77,8 @@ overflow_sub-flow c =
 
 pub add_at-requires-in-loop-c : goal.add_at-requires-in-loop-c
 add_at-requires-in-loop-c c =
-    let a = c.before.before in
-    let d = a.before.before.before in
-    simp (flow-is d, bf d, bt d) (rw (simp (flow-is d, bf d) at a.add_at.ensures) (small_between _ _ (flows d) (λ i. carried_small _) (l d).loop-c.c (omega arith) _ (l d).loop-c.invariant.1))
+    let d = c.before.before.before in
+    simp (flow-is d, bf d, bt d) (rw (simp (flow-is d, bf d) at c.add_at.ensures) (small_between _ _ (flows d) (λ i. carried_small _) (l d).loop-c.c (omega arith) _ (l d).loop-c.invariant.1))
 
 pub overflow_add-c : goal.overflow_add-c
 overflow_add-c c = omega arith
@@ -89,12 +88,10 @@ loop-c-smaller c = omega arith
 
 pub loop-c-preserved : goal.loop-c-preserved
 loop-c-preserved c =
-    let a = c.before.before.before in
-    let d = a.before.before.before in
-    (omega arith, rw (simp (flow-is d, bf d, bt d) at c.add_at-in-loop-c.ensures, simp (flow-is d, bf d) at a.add_at.ensures) (netted_more _ _ (flows d) (λ i. carried_small _) (l d).loop-c.c (omega arith) _ (l d).loop-c.invariant.1))
+    let d = c.before.before.before in
+    (omega arith, rw (simp (flow-is d, bf d, bt d) at c.add_at-in-loop-c.ensures, simp (flow-is d, bf d) at c.add_at.ensures) (netted_more _ _ (flows d) (λ i. carried_small _) (l d).loop-c.c (omega arith) _ (l d).loop-c.invariant.1))
 
 pub returns : goal.returns
 returns c =
-    let l = c.before in
-    let a = l.args in
-    netted_all a.n a.first.now a.second.now a.run.now l.loop-c.c _ (omega arith) l.loop-c.invariant.1
+    let a = c.args in
+    netted_all a.n a.first.now a.second.now a.run.now c.loop-c.c _ (omega arith) c.loop-c.invariant.1

@@ -45,11 +45,9 @@ loop-c-smaller c = omega arith
 
 pub loop-c-preserved : goal.loop-c-preserved
 loop-c-preserved c =
-    let l = c.before.before.before.before.before in
-    (omega arith, column_turn (pos 0) 512 _ l.loop-c.c (omega arith) l.loop-c.invariant.1 (back _ c.offset_of.type-inv ∙ c.offset_of.ensures))
+    (omega arith, column_turn (pos 0) 512 _ c.loop-c.c (omega arith) c.loop-c.invariant.1 (back _ c.offset_of.type_inv ∙ c.offset_of.ensures))
 
 pub returns : goal.returns
 unfolding offsets_of
 returns c =
-    let l = c.before in
-    column_done (pos 0) 512 _ _ l.loop-c.c l.loop-c.invariant.1 (omega arith) (omega arith)
+    column_done (pos 0) 512 _ _ c.loop-c.c c.loop-c.invariant.1 (omega arith) (omega arith)

@@ -5,10 +5,10 @@ use native.Mathlib.Omega.{arith}
 use Rattle.layout.proofs.counts.Goals as goal
 
 pub row_counts-requires : goal.row_counts-requires
-row_counts-requires c = omega (arith, (whole_file _ (sym c.before.whole.ensures ∙ c.if-whole.true)).long)
+row_counts-requires c = omega (arith, (whole_file _ (sym c.whole.ensures ∙ c.if-whole.true)).long)
 
 pub returns-then-whole : goal.returns-then-whole
-returns-then-whole c = counts_whole _ c.row_Counts.ensures (sym c.before.before.whole.ensures ∙ c.before.if-whole.true)
+returns-then-whole c = counts_whole _ c.row_Counts.ensures (sym c.whole.ensures ∙ c.if-whole.true)
 
 pub returns : goal.returns
-returns c = counts_none _ (sym c.before.whole.ensures ∙ c.if-whole.false)
+returns c = counts_none _ (sym c.whole.ensures ∙ c.if-whole.false)

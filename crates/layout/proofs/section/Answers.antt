@@ -10,7 +10,7 @@ use Rattle.layout.proofs.section.Goals.{Then-number-sections}
 
 -- a number of a section, and a whole file
 passed : (c : Then-number-sections) → let a = c.args in (a.number < sections (edition_at a.file.now)) × (file_whole a.file.now ≡ true)
-passed c = (says_lt also says_true _).0 (rw (c.before.whole.ensures, c.before.before.sections.ensures.0) at c.if-number-sections.true)
+passed c = (says_lt also says_true _).0 (rw (c.whole.ensures, c.sections.ensures.0) at c.if-number-sections.true)
 
 pub section-requires : goal.section-requires
 section-requires c = let p = passed c in (p.1, p.0)
@@ -20,4 +20,4 @@ returns-then-number-sections c = let p = passed c.before in c.section.ensures �
 
 pub returns : goal.returns
 unfolding section_in
-returns c = rw (rw (c.before.whole.ensures, c.before.before.sections.ensures.0) at c.if-number-sections.false) refl
+returns c = rw (rw (c.whole.ensures, c.sections.ensures.0) at c.if-number-sections.false) refl

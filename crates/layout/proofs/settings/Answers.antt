@@ -3,7 +3,7 @@ use Rattle.layout.proofs.Rows.{settings_whole, settings_none}
 use Rattle.layout.proofs.settings.Goals as goal
 
 pub returns-then-whole : goal.returns-then-whole
-returns-then-whole c = settings_whole _ c.settings.ensures (sym c.before.before.whole.ensures ∙ c.before.if-whole.true)
+returns-then-whole c = settings_whole _ c.settings.ensures (sym c.whole.ensures ∙ c.if-whole.true)
 
 pub returns : goal.returns
-returns c = settings_none _ c.settings-2.ensures (sym c.before.before.before.whole.ensures ∙ c.before.before.if-whole.false)
+returns c = settings_none _ c.settings-2.ensures (sym c.whole.ensures ∙ c.if-whole.false)

@@ -10,7 +10,5 @@ returns-then-file-lt128 c = too_short _ (omega arith)
 pub returns : goal.returns
 unfolding stated_length
 returns c =
-    let l = c.before.before in
-    let k = l.before in
-    whole_rest _ _ _ _ _ (omega arith) (k.known.ensures ∙ ap₂ known_edition k.before.before.version.ensures k.before.u32_at.ensures.value) l.u32_at-2.ensures.value
-    c.before.counted.ensures c.chained.ensures
+    whole_rest _ _ _ _ _ (omega arith) (c.known.ensures ∙ ap₂ known_edition c.version.ensures c.u32_at.ensures.value) c.u32_at-2.ensures.value
+    c.counted.ensures c.chained.ensures

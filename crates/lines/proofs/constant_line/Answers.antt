@@ -11,21 +11,17 @@ use Rattle.lines.proofs.constant_line.Goals as goal
 pub returns-in-First : goal.returns-in-First
 unfolding constant_fields line
 returns-in-First c =
-    let t = c.before.before in
-    let e = t.before in
-    let w = e.before.before in
-    let a = w.args in
-    rw (ap (λ (e : Edition). constant_numbers e a.c.0 a.peak-c.0) e.enum_told-1.given.1)
-    (longer (both w.Line-of.ensures (rw (back a.c.0 (omega (arith, t.struct_told-1.given))) at c.with_numbers.ensures)) (omega arith))
+    let e = c.before in
+    let a = e.args in
+    rw (ap (λ (e : Edition). constant_numbers e a.c.0 a.peak-c.0) e.in-First.is)
+    (longer (both e.Line-of.ensures (rw (back a.c.0 (omega (arith, c.struct_told-1.given))) at c.with_numbers.ensures)) (omega arith))
 
 pub returns-in-Second : goal.returns-in-Second
 unfolding constant_fields line
 returns-in-Second c =
-    let t = c.before.before in
-    let e = t.before.before in
-    let w = e.before.before in
-    let a = w.args in
-    let bp = back a.peak-c.0 (omega (arith, t.before.struct_told-in-Second-1.given)) in
-    let bc = back a.c.0 (omega (arith, t.struct_told-in-Second-2-1.given)) in
-    rw (ap (λ (e : Edition). constant_numbers e a.c.0 a.peak-c.0) e.enum_told-in-Second-1.given.1)
-    (both w.Line-of.ensures (rw (bp, bc) at c.with_numbers-in-Second.ensures))
+    let e = c.before.before in
+    let a = e.args in
+    let bp = back a.peak-c.0 (omega (arith, c.struct_told-in-Second-1.given)) in
+    let bc = back a.c.0 (omega (arith, c.struct_told-in-Second-2-1.given)) in
+    rw (ap (λ (e : Edition). constant_numbers e a.c.0 a.peak-c.0) e.in-Second.is)
+    (both e.Line-of.ensures (rw (bp, bc) at c.with_numbers-in-Second.ensures))

@@ -5,8 +5,8 @@ use Rattle.lines.proofs.letter_of.Goals as goal
 
 pub returns-in-Generation : goal.returns-in-Generation
 unfolding letter
-returns-in-Generation c = rw (ap letter c.before.before.enum_told-1.given.1) c.Line-of.ensures
+returns-in-Generation c = rw (ap letter c.in-Generation.is) c.Line-of.ensures
 
 pub returns-in-Demand : goal.returns-in-Demand
 unfolding letter
-returns-in-Demand c = rw (ap letter c.before.before.enum_told-in-Demand-1.given.1) c.line_of-in-Demand.ensures
+returns-in-Demand c = rw (ap letter c.in-Demand.is) c.line_of-in-Demand.ensures

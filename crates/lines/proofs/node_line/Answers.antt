@@ -13,18 +13,13 @@ use Rattle.lines.proofs.node_line.Goals as goal
 pub returns-then-tec-eq0 : goal.returns-then-tec-eq0
 unfolding zeros
 returns-then-tec-eq0 c =
-    let s = c.before.before.before.before in
-    rw (node_none (unpadded (take 12 s.args.name.now)) s.args.l c.if-tec-eq0.true) (longer (put_none zeros 0) (omega arith))
+    rw (node_none (unpadded (take 12 c.args.name.now)) c.args.l c.if-tec-eq0.true) (longer (put_none zeros 0) (omega arith))
 
 pub returns : goal.returns
 unfolding node_fields line ends
 returns c =
-    let t = c.before.before in
-    let n = t.before in
-    let w = n.before in
-    let e = w.before.before in
-    let a = e.args in
-    let bm = back a.l.metres.0 (omega (arith, t.struct_told-1.given)) in
-    let bt = back a.l.tariff.0 (omega (arith, t.struct_told-1.given)) in
-    rw (node_full (unpadded (take 12 a.name.now)) a.l e.if-tec-eq0.false)
-    (both (both w.Line-of.ensures n.with_name-named.ensures) (rw (bm, bt) at c.with_numbers.ensures))
+    let a = c.args in
+    let bm = back a.l.metres.0 (omega (arith, c.struct_told-1.given)) in
+    let bt = back a.l.tariff.0 (omega (arith, c.struct_told-1.given)) in
+    rw (node_full (unpadded (take 12 a.name.now)) a.l c.if-tec-eq0.false)
+    (both (both c.Line-of.ensures c.with_name-named.ensures) (rw (bm, bt) at c.with_numbers.ensures))

@@ -7,7 +7,4 @@ use Rattle.lines.proofs.refused_line.Goals as goal
 pub returns : goal.returns
 unfolding refused_fields line ends
 returns c =
-    let r = c.before in
-    let s = r.before in
-    let n = s.before in
-    both n.before.Line-of.ensures (both n.with_count-l1.ensures (both s.with_count-l2.ensures (both r.with_count-l3.ensures c.with_byte.ensures)))
+    both c.Line-of.ensures (both c.with_count-l1.ensures (both c.with_count-l2.ensures (both c.with_count-l3.ensures c.with_byte.ensures)))

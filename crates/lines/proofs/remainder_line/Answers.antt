@@ -8,6 +8,4 @@ use Rattle.lines.proofs.remainder_line.Goals as goal
 pub returns : goal.returns
 unfolding remainder_fields line
 returns c =
-    let w = c.before.before in
-    let s = w.before.before in
-    both w.Line-of.ensures (rw (fit_back s.ranges.generation, fit_back s.ranges.demand) at c.with_numbers.ensures)
+    both c.Line-of.ensures (rw (fit_back c.ranges.generation, fit_back c.ranges.demand) at c.with_numbers.ensures)

@@ -11,9 +11,9 @@ returns c =
     let p = a.z.peak in
     let y = a.z.year_round in
     let s = a.z.shared in
-    let gp = c.before.before.before.before.struct_told-1.given in
-    let gy = c.before.before.before.struct_told-2-1.given in
-    let gs = c.before.before.struct_told-3-1.given in
+    let gp = c.struct_told-1.given in
+    let gy = c.struct_told-2-1.given in
+    let gs = c.struct_told-3-1.given in
     simp (
       back p.metres.0 (omega (arith, gp)),
       back p.after_c.0 (omega (arith, gp)),
@@ -23,6 +23,6 @@ returns c =
       back y.tariff.0 (omega (arith, gy)),
       back s.metres.0 (omega (arith, gs)),
       back s.tariff.0 (omega (arith, gs)),
-      back a.residual.0 (omega (arith, c.before.struct_told-4-1.given)),
+      back a.residual.0 (omega (arith, c.struct_told-4-1.given)),
       back a.z.total.0 (omega (arith, c.struct_told-5-1.given)),
     )

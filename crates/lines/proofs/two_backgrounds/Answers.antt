@@ -10,8 +10,8 @@ returns c =
     let a = c.args in
     let p = a.z.peak in
     let y = a.z.year_round in
-    let gp = c.before.before.before.struct_told-1.given in
-    let gy = c.before.before.struct_told-2-1.given in
+    let gp = c.struct_told-1.given in
+    let gy = c.struct_told-2-1.given in
     simp (
       back p.metres.0 (omega (arith, gp)),
       back p.after_c.0 (omega (arith, gp)),
@@ -19,6 +19,6 @@ returns c =
       back y.metres.0 (omega (arith, gy)),
       back y.after_c.0 (omega (arith, gy)),
       back y.tariff.0 (omega (arith, gy)),
-      back a.residual.0 (omega (arith, c.before.struct_told-3-1.given)),
+      back a.residual.0 (omega (arith, c.struct_told-3-1.given)),
       back a.z.total.0 (omega (arith, c.struct_told-4-1.given)),
     )

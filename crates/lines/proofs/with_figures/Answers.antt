@@ -9,23 +9,20 @@ use Rattle.lines.proofs.with_figures.Goals as goal
 pub returns-in-OneBackground : goal.returns-in-OneBackground
 unfolding zone_numbers
 returns-in-OneBackground c =
-    let n = c.before.before in
-    let a = n.args in
-    rw (ap (λ (f : Form). zone_numbers f a.residual.0 a.z) n.before.enum_told-1.given.1)
-    (longer (rw n.one_background-numbers.ensures at c.with_numbers.ensures) (omega arith))
+    let a = c.args in
+    rw (ap (λ (f : Form). zone_numbers f a.residual.0 a.z) c.in-OneBackground.is)
+    (longer (rw c.one_background-numbers.ensures at c.with_numbers.ensures) (omega arith))
 
 pub returns-in-TwoBackgrounds : goal.returns-in-TwoBackgrounds
 unfolding zone_numbers
 returns-in-TwoBackgrounds c =
-    let n = c.before.before in
-    let a = n.args in
-    rw (ap (λ (f : Form). zone_numbers f a.residual.0 a.z) n.before.enum_told-in-TwoBackgrounds-1.given.1)
-    (longer (rw n.two_backgrounds-numbers.ensures at c.with_numbers-in-TwoBackgrounds.ensures) (omega arith))
+    let a = c.args in
+    rw (ap (λ (f : Form). zone_numbers f a.residual.0 a.z) c.in-TwoBackgrounds.is)
+    (longer (rw c.two_backgrounds-numbers.ensures at c.with_numbers-in-TwoBackgrounds.ensures) (omega arith))
 
 pub returns-in-Sharing : goal.returns-in-Sharing
 unfolding zone_numbers
 returns-in-Sharing c =
-    let n = c.before.before in
-    let a = n.args in
-    rw (ap (λ (f : Form). zone_numbers f a.residual.0 a.z) n.before.enum_told-in-Sharing-1.given.1)
-    (rw n.sharing-numbers.ensures at c.with_numbers-in-Sharing.ensures)
+    let a = c.args in
+    rw (ap (λ (f : Form). zone_numbers f a.residual.0 a.z) c.in-Sharing.is)
+    (rw c.sharing-numbers.ensures at c.with_numbers-in-Sharing.ensures)

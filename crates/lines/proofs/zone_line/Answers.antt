@@ -6,16 +6,12 @@ use Rattle.lines.proofs.zone_line.Goals as goal
 
 pub returns-then-w-eq0 : goal.returns-then-w-eq0
 returns-then-w-eq0 c =
-    let t = c.before.before in
-    let n = t.before.before.before in
-    let a = n.args in
-    rw (zone_dash a.form a.side a.zone a.residual.0 a.z t.if-w-eq0.true)
-    (longer (both (both n.before.letter_of-lettered.ensures n.with_count-numbered.ensures) c.with_word.ensures) (omega arith))
+    let a = c.args in
+    rw (zone_dash a.form a.side a.zone a.residual.0 a.z c.if-w-eq0.true)
+    (longer (both (both c.letter_of-lettered.ensures c.with_count-numbered.ensures) c.with_word.ensures) (omega arith))
 
 pub returns : goal.returns
 returns c =
-    let e = c.before in
-    let n = e.before.before.before in
-    let a = n.args in
-    rw (zone_full a.form a.side a.zone a.residual.0 a.z e.if-w-eq0.false)
-    (longer (both (both n.before.letter_of-lettered.ensures n.with_count-numbered.ensures) c.with_figures.ensures) (omega arith))
+    let a = c.args in
+    rw (zone_full a.form a.side a.zone a.residual.0 a.z c.if-w-eq0.false)
+    (longer (both (both c.letter_of-lettered.ensures c.with_count-numbered.ensures) c.with_figures.ensures) (omega arith))

@@ -11,25 +11,24 @@ use Rattle.names.proofs.place.Goals.{After-row_is}
 
 -- what a comparison tells of a row
 told : (c : After-row_is)
-    → let a = c.args in c.row_is.result ≡ same_name (name_row a.file.now a.rows c.before.before.before.loop-row.row) (name_at a.file.now a.at)
-told c = rw c.before.row_at-in-loop-row.ensures at c.row_is.ensures
+    → let a = c.args in c.row_is.result ≡ same_name (name_row a.file.now a.rows c.loop-row.row) (name_at a.file.now a.at)
+told c = rw c.row_at-in-loop-row.ensures at c.row_is.ensures
 
 pub loop-row-init : goal.loop-row-init
 loop-row-init c = (omega arith, passed_zero _)
 
 pub row_is-requires : goal.row_is-requires
 row_is-requires c =
-    let i = c.before.before.before in
-    let rows = i.args.rows in
+    let rows = c.args.rows in
     λ h.
-    let p = rw i.before.row_at.ensures at (i.inside-known.ensures.both h) in
+    let p = rw c.row_at.ensures at (c.inside-known.ensures.both h) in
     (rw c.row_at-in-loop-row.ensures (row_below rows _ _ (omega arith) p.0), p.1)
 
 pub returns-then-row_is : goal.returns-then-row_is
-returns-then-row_is c = search_stops _ _ c.before.before.before.before.loop-row.invariant.1 (omega arith) (sym (told c.before) ∙ c.if-row_is.true)
+returns-then-row_is c = search_stops _ _ c.loop-row.invariant.1 (omega arith) (sym (told c.before) ∙ c.if-row_is.true)
 
 pub loop-row-preserved : goal.loop-row-preserved
-loop-row-preserved c = (omega arith, passed_more c.before.before.before.before.loop-row.invariant.1 (sym (told c.before) ∙ c.if-row_is.false))
+loop-row-preserved c = (omega arith, passed_more c.loop-row.invariant.1 (sym (told c.before) ∙ c.if-row_is.false))
 
 pub returns : goal.returns
-returns c = search_ends _ _ c.before.loop-row.invariant.1 (omega arith) (omega arith)
+returns c = search_ends _ _ c.loop-row.invariant.1 (omega arith) (omega arith)

@@ -10,9 +10,8 @@ use Rattle.names.proofs.repeated.Goals.{After-row_is}
 
 -- what a comparison tells of two rows
 told : (c : After-row_is)
-    → let q = c.before.before.before.before.before.before in
-    let a = q.args in c.row_is.result ≡ same_name (name_row a.file.now a.rows c.before.before.before.loop-early.early) (name_row a.file.now a.rows q.rows.row)
-told c = rw c.before.before.before.before.row_at-later.ensures at (rw c.before.row_at.ensures at c.row_is.ensures)
+    → let a = c.args in c.row_is.result ≡ same_name (name_row a.file.now a.rows c.loop-early.early) (name_row a.file.now a.rows c.rows.row)
+told c = rw c.row_at-later.ensures at (rw c.row_at.ensures at c.row_is.ensures)
 
 pub rows-init : goal.rows-init
 rows-init c = (omega arith, passed_zero _)
@@ -22,25 +21,23 @@ loop-early-init c = (omega arith, passed_zero _)
 
 pub row_is-requires : goal.row_is-requires
 row_is-requires c =
-    let l = c.before.before.before in
-    let i = l.before.before.before in
-    let rows = i.args.rows in
+    let rows = c.args.rows in
     λ h.
-    let p = rw i.before.row_at-end.ensures at (i.inside-known.ensures.both h) in
-    (rw c.row_at.ensures (row_below rows _ _ (omega arith) p.0), rw l.row_at-later.ensures (row_below rows _ _ (omega arith) p.0))
+    let p = rw c.row_at-end.ensures at (c.inside-known.ensures.both h) in
+    (rw c.row_at.ensures (row_below rows _ _ (omega arith) p.0), rw c.row_at-later.ensures (row_below rows _ _ (omega arith) p.0))
 
 pub loop-early-preserved : goal.loop-early-preserved
-loop-early-preserved c = (omega arith, passed_more c.before.before.before.before.loop-early.invariant.1 (sym (told c.before) ∙ c.if-row_is.false))
+loop-early-preserved c = (omega arith, passed_more c.loop-early.invariant.1 (sym (told c.before) ∙ c.if-row_is.false))
 
 pub rows-preserved : goal.rows-preserved
 rows-preserved c =
-    let l = c.before.loop-early in
-    (omega arith, passed_more c.before.before.before.before.rows.invariant.1 (unseen _ _ _ l.invariant.1 (omega arith) (omega arith)))
+    let l = c.loop-early in
+    (omega arith, passed_more c.rows.invariant.1 (unseen _ _ _ l.invariant.1 (omega arith) (omega arith)))
 
 pub returns-then-row-count : goal.returns-then-row-count
-returns-then-row-count c = search_ends _ _ c.before.rows.invariant.1 (omega arith) (omega arith)
+returns-then-row-count c = search_ends _ _ c.rows.invariant.1 (omega arith) (omega arith)
 
 pub returns-then-row_is : goal.returns-then-row_is
 returns-then-row_is c =
-    let l = c.before.before.before.before.loop-early in
-    search_stops _ _ c.before.before.before.before.before.before.before.rows.invariant.1 (omega arith) (seen _ _ l.early (omega arith) (sym (told c.before) ∙ c.if-row_is.true))
+    let l = c.loop-early in
+    search_stops _ _ c.rows.invariant.1 (omega arith) (seen _ _ l.early (omega arith) (sym (told c.before) ∙ c.if-row_is.true))

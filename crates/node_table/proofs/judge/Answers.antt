@@ -1,4 +1,4 @@
 use Rattle.node_table.proofs.judge.Goals as goal
 
 pub stage-requires : goal.stage-requires
-stage-requires c = (c.before.section-rows.ensures, c.settings.ensures)
+stage-requires c = (c.section-rows.ensures, c.settings.ensures)

@@ -17,8 +17,8 @@ module _ (c : After-magnitude-here) where
   bp : Back s.args.peak
   bp = fit_back s.ranges.peak
 
-  there : c.before.magnitude-there.result ≡ nat_abs s.args.year-round
-  there = simp by at c.before.magnitude-there.ensures
+  there : c.magnitude-there.result ≡ nat_abs s.args.year-round
+  there = simp by at c.magnitude-there.ensures
 
   here : c.magnitude-here.result ≡ nat_abs s.args.peak
   here = simp bp at c.magnitude-here.ensures

@@ -11,7 +11,7 @@ returns-then-length-lt1 c = clear_short _ _ c.if-length-lt1.true
 
 -- what was answered of the flow
 doubt : (c : After-doubtful) → c.doubtful.result ≡ in_doubt (direction c.args.heading.flow)
-doubt c = simp (back c.args.heading.flow (omega (arith, c.before.struct_told-1.given))) at c.doubtful.ensures
+doubt c = simp (back c.args.heading.flow (omega (arith, c.struct_told-1.given))) at c.doubtful.ensures
 
 pub returns-then-doubtful : goal.returns-then-doubtful
 returns-then-doubtful c = not_clear _ _ (omega arith) (sym (doubt c.before) ∙ c.if-doubtful.true)

@@ -12,16 +12,16 @@ directed c = simp (bf c.before) at c.direction_of.ensures
 
 pub returns-in-Idle : goal.returns-in-Idle
 unfolding in_doubt
-returns-in-Idle c = ap in_doubt (sym c.enum_told-1.given.1 ∙ directed c.before.before)
+returns-in-Idle c = ap in_doubt (sym c.in-Idle.is ∙ directed c.before.before)
 
 pub returns-in-Forward : goal.returns-in-Forward
 unfolding in_doubt
-returns-in-Forward c = ap in_doubt (sym c.enum_told-in-Forward-1.given.1 ∙ directed c.before.before)
+returns-in-Forward c = ap in_doubt (sym c.in-Forward.is ∙ directed c.before.before)
 
 pub returns-in-Backward : goal.returns-in-Backward
 unfolding in_doubt
-returns-in-Backward c = ap in_doubt (sym c.enum_told-in-Backward-1.given.1 ∙ directed c.before.before)
+returns-in-Backward c = ap in_doubt (sym c.in-Backward.is ∙ directed c.before.before)
 
 pub returns-in-InDoubt : goal.returns-in-InDoubt
 unfolding in_doubt
-returns-in-InDoubt c = ap in_doubt (sym c.enum_told-in-InDoubt-1.given.1 ∙ directed c.before.before)
+returns-in-InDoubt c = ap in_doubt (sym c.in-InDoubt.is ∙ directed c.before.before)

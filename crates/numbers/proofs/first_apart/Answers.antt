@@ -35,7 +35,7 @@ module _ (c : After-want-1) where
   s = c.before.before.before.before
 
   abbrev v : ℕ
-  v = c.before.before.before.loop-v.v
+  v = c.loop-v.v
 
   abbrev got : ℤ
   got = get_or s.args.a v (pos 0)
@@ -44,7 +44,7 @@ module _ (c : After-want-1) where
   want = get_or s.args.b v (pos 0)
 
   bg : Back got
-  bg = back _ c.before.got-1.given
+  bg = back _ c.got-1.given
 
   bw : Back want
   bw = back _ c.want-1.given
@@ -56,7 +56,7 @@ module _ (c : After-want-1) where
   even e = same_yes got want (sym bg ∙ ap (to_z w64) e ∙ bw)
 
 pub returns-then-got-want : goal.returns-then-got-want
-returns-then-got-want c = row_here _ _ _ c.before.before.before.before.loop-v.invariant.1 (omega arith) (uneven c.before c.if-got-want.true)
+returns-then-got-want c = row_here _ _ _ c.loop-v.invariant.1 (omega arith) (uneven c.before c.if-got-want.true)
 
 pub overflow_add-v : goal.overflow_add-v
 overflow_add-v c = omega arith
@@ -65,9 +65,9 @@ pub loop-v-smaller : goal.loop-v-smaller
 loop-v-smaller c = omega arith
 
 pub loop-v-preserved : goal.loop-v-preserved
-loop-v-preserved c = (omega arith, pass_more c.before.before.before.before.loop-v.invariant.1 (even c.before c.if-got-want.false))
+loop-v-preserved c = (omega arith, pass_more c.loop-v.invariant.1 (even c.before c.if-got-want.false))
 
 pub returns : goal.returns
 returns c =
-    let e : c.before.loop-v.v ≡ 256 = omega arith in
-    e ∙ row_none _ _ (rw e at c.before.loop-v.invariant.1)
+    let e : c.loop-v.v ≡ 256 = omega arith in
+    e ∙ row_none _ _ (rw e at c.loop-v.invariant.1)

@@ -30,15 +30,13 @@ loop-c-smaller c = omega arith
 
 pub loop-c-preserved : goal.loop-c-preserved
 loop-c-preserved c =
-    let l = c.before.before.before.before.before in
-    (omega arith, pass_more l.loop-c.invariant.1 (sym c.before.clear.ensures ∙ c.if-clear.true))
+    (omega arith, pass_more c.loop-c.invariant.1 (sym c.clear.ensures ∙ c.if-clear.true))
 
 pub returns-else-clear : goal.returns-else-clear
 returns-else-clear c =
-    let l = c.before.before.before.before.before in
-    row_here _ _ _ l.loop-c.invariant.1 (omega arith) (sym c.before.clear.ensures ∙ c.if-clear.false)
+    row_here _ _ _ c.loop-c.invariant.1 (omega arith) (sym c.clear.ensures ∙ c.if-clear.false)
 
 pub returns : goal.returns
 returns c =
-    let e : c.before.loop-c.c ≡ 512 = omega arith in
-    e ∙ row_none _ _ (rw e at c.before.loop-c.invariant.1)
+    let e : c.loop-c.c ≡ 512 = omega arith in
+    e ∙ row_none _ _ (rw e at c.loop-c.invariant.1)

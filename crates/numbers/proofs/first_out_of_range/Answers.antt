@@ -27,14 +27,13 @@ pub loop-i-smaller : goal.loop-i-smaller
 loop-i-smaller c = omega arith
 
 pub loop-i-preserved : goal.loop-i-preserved
-loop-i-preserved c = (omega arith, pass_more c.before.before.before.loop-i.invariant.1 (sym c.before.number_in_range.ensures ∙ c.if-number_in_range.true))
+loop-i-preserved c = (omega arith, pass_more c.loop-i.invariant.1 (sym c.number_in_range.ensures ∙ c.if-number_in_range.true))
 
 pub returns-else-number_in_range : goal.returns-else-number_in_range
 returns-else-number_in_range c =
-    let l = c.before.before.before in
-    row_here _ _ _ l.loop-i.invariant.1 (omega arith) (rw (← c.before.number_in_range.ensures) c.if-number_in_range.false)
+    row_here _ _ _ c.loop-i.invariant.1 (omega arith) (rw (← c.number_in_range.ensures) c.if-number_in_range.false)
 
 pub returns : goal.returns
 returns c =
-    let e : c.before.loop-i.i ≡ length c.args.run.now = omega arith in
-    e ∙ row_none _ _ (rw e at c.before.loop-i.invariant.1)
+    let e : c.loop-i.i ≡ length c.args.run.now = omega arith in
+    e ∙ row_none _ _ (rw e at c.loop-i.invariant.1)

@@ -12,7 +12,7 @@ counted : (c : After-counts_for-counting) → c.counts_for-counting.result ≡ l
 counted c = simp ((bf c.before).0, (bf c.before).1) at c.counts_for-counting.ensures
 
 pub returns-in-YearRound : goal.returns-in-YearRound
-returns-in-YearRound c = let b = c.before.before in rw (bf b.before.before).0 (heading_is _ _ _ _ _ (counted b.before) _ (sym c.enum_told-1.given.1 ∙ b.background_of.ensures))
+returns-in-YearRound c = let b = c.before.before in rw (bf b.before.before).0 (heading_is _ _ _ _ _ (counted b.before) _ (sym c.in-YearRound.is ∙ b.background_of.ensures))
 
 pub returns-in-Peak : goal.returns-in-Peak
-returns-in-Peak c = let b = c.before.before in rw (bf b.before.before).1 (heading_is _ _ _ _ _ (counted b.before) _ (sym c.enum_told-in-Peak-1.given.1 ∙ b.background_of.ensures))
+returns-in-Peak c = let b = c.before.before in rw (bf b.before.before).1 (heading_is _ _ _ _ _ (counted b.before) _ (sym c.in-Peak.is ∙ b.background_of.ensures))

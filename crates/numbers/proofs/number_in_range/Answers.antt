@@ -29,4 +29,4 @@ returns-then-i-reference c =
 pub returns : goal.returns
 returns c =
     let z = c.before.before.before in
-    simp (bz z) at c.within-2.ensures ∙ sym (potential_in_range (net z) _ _ _ (omega arith) c.before.if-i-reference.false)
+    simp (bz z) at c.within-2.ensures ∙ sym (potential_in_range (net z) _ _ _ (omega arith) c.if-i-reference.false)

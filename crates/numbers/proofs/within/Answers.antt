@@ -44,4 +44,4 @@ pub returns : goal.returns
 returns c =
     let e = c.before.before in
     let s = e.before in
-    inside_limit s.args.z s.args.limit (lt_false (simp (bz s, bl e) at c.before.if-most-z.false)) (lt_false (simp (bz s, bl e, bm e) at c.if-z-most.false))
+    inside_limit s.args.z s.args.limit (lt_false (simp (bz s, bl e) at c.if-most-z.false)) (lt_false (simp (bz s, bl e, bm e) at c.if-z-most.false))

@@ -8,11 +8,9 @@ use Rattle.output.proofs.front.Goals as goal
 
 pub returns-then-count-buffer : goal.returns-then-count-buffer
 returns-then-count-buffer c =
-    let s = c.before.before in
-    let e : s.args.count - 0 ≡ s.args.count = omega arith in
-    ap (λ (n : ℕ). take n s.args.buffer.now) e
+    let e : c.args.count - 0 ≡ c.args.count = omega arith in
+    ap (λ (n : ℕ). take n c.args.buffer.now) e
 
 pub returns : goal.returns
 returns c =
-    let s = c.before in
-    sym (take_all s.args.count s.args.buffer.now (omega (arith, c.if-count-buffer.false)))
+    sym (take_all c.args.count c.args.buffer.now (omega (arith, c.if-count-buffer.false)))

@@ -4,5 +4,4 @@ use Rattle.output.proofs.print.Goals as goal
 
 pub returns : goal.returns
 returns c =
-    let g = c.before in
-    printed_of _ _ _ _ g.before.front.ensures g.front-2.ensures c.of_input.ensures
+    printed_of _ _ _ _ c.front.ensures c.front-2.ensures c.of_input.ensures

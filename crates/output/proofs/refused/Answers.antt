@@ -3,4 +3,4 @@ use Rattle.output.proofs.Printing.{printed_refusal}
 use Rattle.output.proofs.refused.Goals as goal
 
 pub returns : goal.returns
-returns c = printed_refusal c.args.cause _ _ c.before.refuse-length.ensures
+returns c = printed_refusal c.args.cause _ _ c.refuse-length.ensures

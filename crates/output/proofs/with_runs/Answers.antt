@@ -19,10 +19,10 @@ pub returns-in-Refused : goal.returns-in-Refused
 returns-in-Refused c =
     let w = c.before.before.before.before.before in
     subst (λ (t : List ℕ). Prints t c.refused.result)
-    (refusal_printed w.args.file.now w.args.share.now w.write-answer.result _ (settled w) c.before.before.answer-1.given.1)
+    (refusal_printed w.args.file.now w.args.share.now w.write-answer.result _ (settled w) c.in-Refused.is)
     c.refused.ensures
 
 pub returns-in-Accepted : goal.returns-in-Accepted
 returns-in-Accepted c =
     let w = c.before.before.before.before in
-    sheet_printed w.args.file.now w.args.share.now w.write-answer.result _ (settled w) c.before.answer-in-Accepted-1.given.1
+    sheet_printed w.args.file.now w.args.share.now w.write-answer.result _ (settled w) c.in-Accepted.is

@@ -4,28 +4,28 @@ use Rattle.plants.proofs.pays.Goals as goal
 
 pub returns-in-Intermittent : goal.returns-in-Intermittent
 unfolding pays
-returns-in-Intermittent c = sym (ap pays c.enum_told-1.given.1)
+returns-in-Intermittent c = sym (ap pays c.in-Intermittent.is)
 
 pub returns-in-NuclearAndCcs : goal.returns-in-NuclearAndCcs
 unfolding pays
-returns-in-NuclearAndCcs c = sym (ap pays c.enum_told-in-NuclearAndCcs-1.given.1)
+returns-in-NuclearAndCcs c = sym (ap pays c.in-NuclearAndCcs.is)
 
 pub returns-in-Interconnector : goal.returns-in-Interconnector
 unfolding pays
-returns-in-Interconnector c = sym (ap pays c.enum_told-in-Interconnector-1.given.1)
+returns-in-Interconnector c = sym (ap pays c.in-Interconnector.is)
 
 pub returns-in-Hydro : goal.returns-in-Hydro
 unfolding pays
-returns-in-Hydro c = sym (ap pays c.enum_told-in-Hydro-1.given.1)
+returns-in-Hydro c = sym (ap pays c.in-Hydro.is)
 
 pub returns-in-PumpedStorage : goal.returns-in-PumpedStorage
 unfolding pays
-returns-in-PumpedStorage c = sym (ap pays c.enum_told-in-PumpedStorage-1.given.1)
+returns-in-PumpedStorage c = sym (ap pays c.in-PumpedStorage.is)
 
 pub returns-in-Peaking : goal.returns-in-Peaking
 unfolding pays
-returns-in-Peaking c = sym (ap pays c.enum_told-in-Peaking-1.given.1)
+returns-in-Peaking c = sym (ap pays c.in-Peaking.is)
 
 pub returns-in-Other : goal.returns-in-Other
 unfolding pays
-returns-in-Other c = sym (ap pays c.enum_told-in-Other-1.given.1)
+returns-in-Other c = sym (ap pays c.in-Other.is)

@@ -3,4 +3,4 @@ use Rattle.promises.proofs.Program.{every_two_printed}
 use Rattle.promises.proofs.print_both.Goals as goal
 
 pub returns : goal.returns
-returns c = every_two_printed _ _ _ _ _ _ c.before.print-first.ensures c.print-second.ensures
+returns c = every_two_printed _ _ _ _ _ _ c.print-first.ensures c.print-second.ensures

@@ -3,4 +3,4 @@ use Rattle.promises.proofs.Calls.{every_call_promised}
 use Rattle.promises.proofs.write.Goals as goal
 
 pub returns : goal.returns
-returns c = every_call_promised _ c.before.before.write.ensures
+returns c = every_call_promised _ c.write.ensures

@@ -3,4 +3,4 @@ use Rattle.promises.proofs.Calls.{every_two_promised}
 use Rattle.promises.proofs.write_both.Goals as goal
 
 pub returns : goal.returns
-returns c = every_two_promised _ _ c.before.before.before.before.before.before.write-first.ensures c.before.before.write-second.ensures
+returns c = every_two_promised _ _ c.write-first.ensures c.write-second.ensures

@@ -3,4 +3,4 @@ use Rattle.promises.proofs.Exported.{every_told_promised}
 use Rattle.promises.proofs.write_told.Goals as goal
 
 pub returns : goal.returns
-returns c = every_told_promised _ c.before.before.wirepulley_write.ensures
+returns c = every_told_promised _ c.wirepulley_write.ensures

@@ -3,4 +3,4 @@ use Rattle.promises.proofs.Exported.{every_two_told}
 use Rattle.promises.proofs.write_told_both.Goals as goal
 
 pub returns : goal.returns
-returns c = every_two_told _ _ c.before.before.before.before.before.before.before.wirepulley_write-first.ensures c.before.before.wirepulley_write-second.ensures
+returns c = every_two_told _ _ c.wirepulley_write-first.ensures c.wirepulley_write-second.ensures

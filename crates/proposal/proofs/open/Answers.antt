@@ -33,34 +33,25 @@ module _ (c : After-open-read) where
 pub returns-in-Stops : goal.returns-in-Stops
 returns-in-Stops c =
     let a = c.before.before in
-    tables_stop (bytes a) (runs a) (share a) (read a) (opened a) c.enum_told-1.given.1
+    tables_stop (bytes a) (runs a) (share a) (read a) (opened a) c.in-Stops.is
 
 pub case_of-requires : goal.case_of-requires
 case_of-requires c =
-    let d = c.before.before.before in
-    let a = d.before.before in
-    passed_reference (bytes a) (runs a) (share a) (read a) (opened a) d.enum_told-in-Passes-1.given.1
+    let a = c.before.before in
+    passed_reference (bytes a) (runs a) (share a) (read a) (opened a) c.in-Passes.is
 
 pub proposals-requires : goal.proposals-requires
 proposals-requires c =
-    let d = c.before.before.before.before in
-    let a = d.before.before in
-    passed_judgeable (bytes a) (runs a) (share a) (read a) (opened a) d.enum_told-in-Passes-1.given.1 _ c.case_of.ensures
+    let a = c.before.before in
+    passed_judgeable (bytes a) (runs a) (share a) (read a) (opened a) c.in-Passes.is _ c.case_of.ensures
 
 pub returns-in-Stops-of_share : goal.returns-in-Stops-of_share
 returns-in-Stops-of_share c =
-    let e = c.before in
-    let f = e.before.before in
-    let d = f.before in
-    let a = d.before.before in
-    share_stops (bytes a) (runs a) (share a) (read a) (opened a) d.enum_told-in-Passes-1.given.1 _ f.share_stage-of_share.ensures e.enum_told-in-Stops-of_share-1.given.1 _ c.with_judgement.ensures
+    let a = c.before.before in
+    share_stops (bytes a) (runs a) (share a) (read a) (opened a) c.in-Passes.is _ c.share_stage-of_share.ensures c.in-Stops-of_share.is _ c.with_judgement.ensures
 
 pub returns-in-Passes-of_share : goal.returns-in-Passes-of_share
 returns-in-Passes-of_share c =
-    let p = c.before in
-    let e = p.before.before in
-    let f = e.before.before in
-    let d = f.before in
-    let a = d.before.before in
-    proposals_decide (bytes a) (runs a) (share a) (read a) (opened a) d.enum_told-in-Passes-1.given.1 _ f.share_stage-of_share.ensures e.enum_told-in-Passes-of_share-1.given.1
-    _ p.before.case_of.ensures _ p.proposals.ensures _ c.with_judgement-in-Passes-of_share.ensures
+    let a = c.before.before in
+    proposals_decide (bytes a) (runs a) (share a) (read a) (opened a) c.in-Passes.is _ c.share_stage-of_share.ensures c.in-Passes-of_share.is
+    _ c.case_of.ensures _ c.proposals.ensures _ c.with_judgement-in-Passes-of_share.ensures

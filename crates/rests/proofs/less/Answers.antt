@@ -11,10 +11,10 @@ module _ (c : After-in_range) where
   s = c.before.before.before
 
   be : Back s.args.rest.each
-  be = back _ (omega (arith, c.before.before.struct_told-1.given))
+  be = back _ (omega (arith, c.struct_told-1.given))
 
   bt : Back s.args.tariff.0
-  bt = back _ (omega (arith, c.before.struct_told-2-1.given))
+  bt = back _ (omega (arith, c.struct_told-2-1.given))
 
   tested : c.in_range.result ≡ in_range s.args.rest.each s.args.rest.over s.args.payers.0 s.args.tariff.0 s.args.kw.0
   tested = simp (be, bt) at c.in_range.ensures
@@ -28,7 +28,7 @@ pub returns-then-in_range : goal.returns-then-in_range
 returns-then-in_range c =
     let d = c.before.before in
     let a = (s d).args in
-    simp (be d, bt d) at c.taken.ensures ∙ sym (less_in a.rest a.payers.0 a.tariff.0 a.kw.0 (sym (tested d) ∙ c.before.if-in_range.true))
+    simp (be d, bt d) at c.taken.ensures ∙ sym (less_in a.rest a.payers.0 a.tariff.0 a.kw.0 (sym (tested d) ∙ c.if-in_range.true))
 
 pub returns : goal.returns
 returns c =

@@ -12,16 +12,13 @@ tested c = simp (fit_back c.ranges.target) at c.magnitude.ensures
 
 pub divided-requires : goal.divided-requires
 divided-requires c =
-    let s = c.before.before in
-    simp (fit_back s.ranges.target) (says_divides s.args.target s.args.payers.0 (simp (tested c.before) at c.if-k-magnitude.true))
+    simp (fit_back c.ranges.target) (says_divides c.args.target c.args.payers.0 (simp (tested c.before) at c.if-k-magnitude.true))
 
 pub returns-then-k-magnitude : goal.returns-then-k-magnitude
 returns-then-k-magnitude c =
-    let s = c.before.before.before in
-    simp (fit_back s.ranges.target) at c.divided.ensures
-    ∙ sym (start_in s.args.target s.args.payers.0 (simp (tested c.before.before) at c.before.if-k-magnitude.true))
+    simp (fit_back c.ranges.target) at c.divided.ensures
+    ∙ sym (start_in c.args.target c.args.payers.0 (simp (tested c.before.before) at c.if-k-magnitude.true))
 
 pub returns : goal.returns
 returns c =
-    let s = c.before.before in
-    sym (start_out s.args.target s.args.payers.0 (simp (tested c.before) at c.if-k-magnitude.false))
+    sym (start_out c.args.target c.args.payers.0 (simp (tested c.before) at c.if-k-magnitude.false))

@@ -22,9 +22,9 @@ module _ (p : After-charge-charged) where
 pub returns-in-Stops : goal.returns-in-Stops
 returns-in-Stops c =
     let p = c.before.before.before in
-    refusal_answered (file p) (runs p) (share p) p.charge-charged.result p.charge-charged.ensures c.before.judgement-1.given.1
+    refusal_answered (file p) (runs p) (share p) p.charge-charged.result p.charge-charged.ensures c.in-Stops.is
 
 pub returns-in-Passes : goal.returns-in-Passes
 returns-in-Passes c =
     let p = c.before.before.before in
-    sheet_answered (file p) (runs p) (share p) p.charge-charged.result p.charge-charged.ensures c.before.enum_told-1.given.1 c.text_length.ensures
+    sheet_answered (file p) (runs p) (share p) p.charge-charged.result p.charge-charged.ensures c.in-Passes.is c.text_length.ensures

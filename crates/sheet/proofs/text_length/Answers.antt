@@ -2,4 +2,4 @@
 use Rattle.sheet.proofs.text_length.Goals as goal
 
 pub returns : goal.returns
-returns c = let w = c.before in rw w.before.before.section-nodes.ensures at w.write_figures.ensures.answer
+returns c = rw c.section-nodes.ensures at c.write_figures.ensures.answer

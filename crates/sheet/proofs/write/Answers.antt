@@ -25,11 +25,9 @@ module _ (p : After-charge-charged) where
 pub returns-in-Stops : goal.returns-in-Stops
 returns-in-Stops c =
     let p = c.before.before.before in
-    record { contract = refusal_settled (file p) (runs p) (share p) p.charge-charged.result p.charge-charged.ensures c.before.judgement-1.given.1 (out p) }
+    record { contract = refusal_settled (file p) (runs p) (share p) p.charge-charged.result p.charge-charged.ensures c.in-Stops.is (out p) }
 
 pub returns-in-Passes : goal.returns-in-Passes
 returns-in-Passes c =
-    let w = c.before.before in
-    let e = w.before.before in
-    let p = e.before.before in
-    record { contract = sheet_settled (file p) (runs p) (share p) p.charge-charged.result p.charge-charged.ensures e.enum_told-1.given.1 (out p) _ w.written.ensures }
+    let p = c.before.before in
+    record { contract = sheet_settled (file p) (runs p) (share p) p.charge-charged.result p.charge-charged.ensures c.in-Passes.is (out p) _ c.written.ensures }

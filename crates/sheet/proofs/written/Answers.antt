@@ -8,8 +8,8 @@ use Rattle.sheet.proofs.written.Goals as goal
 use Rattle.sheet.proofs.written.Goals.{After-write_figures-length}
 
 -- the text with the names of the file's nodes
-fitted : (w : After-write_figures-length) → let a = w.args in Fitted (text_of a.figures a.file.now (section_in a.file.now 1)) a.out-1.now w.write_figures-length.new.1.1.1.0 w.write_figures-length.result
-fitted w = rw w.before.before.section-nodes.ensures at w.write_figures-length.ensures
+fitted : (w : After-write_figures-length) → let a = w.args in Fitted (text_of a.figures a.file.now (section_in a.file.now 1)) a.out.now w.write_figures-length.new.1.1.1.0 w.write_figures-length.result
+fitted w = rw w.section-nodes.ensures at w.write_figures-length.ensures
 
 pub returns-then-out-length : goal.returns-then-out-length
 returns-then-out-length c =

@@ -108,12 +108,11 @@ loop-v-smaller c = omega arith
 
 pub loop-v-preserved : goal.loop-v-preserved
 loop-v-preserved c =
-    let l = c.before.before.before.before.before.before.before.before.before in
-    let by = l.args.by_type in (
+    let by = c.args.by_type in (
       omega arith,
-      column_turn (kilowatts 0) 256 _ l.loop-v.v (omega arith) l.loop-v.invariant.1
-          (ap kilowatts (c.of_types.ensures ∙ node_types l.args.counted by (read by l.loop-v.v) l.loop-v.v (cells by l.loop-v.v))),
+      column_turn (kilowatts 0) 256 _ c.loop-v.v (omega arith) c.loop-v.invariant.1
+          (ap kilowatts (c.of_types.ensures ∙ node_types c.args.counted by (read by c.loop-v.v) c.loop-v.v (cells by c.loop-v.v))),
     )
 
 pub returns : goal.returns
-returns c = nodes_done _ _ c.before.loop-v.v c.before.loop-v.invariant.1 (omega arith) (omega arith)
+returns c = nodes_done _ _ c.loop-v.v c.loop-v.invariant.1 (omega arith) (omega arith)

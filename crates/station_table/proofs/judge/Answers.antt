@@ -10,29 +10,26 @@ use Rattle.station_table.proofs.judge.Goals.{After-columns-columns}
 
 pub stage-judgement-requires : goal.stage-judgement-requires
 stage-judgement-requires c =
-    let rows = c.before.before in
     record {
-      nodes = sym (nodes_from _ rows.before.before.section-nodes.ensures).count;
-      section = rows.section-rows.ensures;
-      column = ap (λ (s : StationColumns). s.node-1) c.before.columns-columns.ensures;
+      nodes = sym (nodes_from _ c.section-nodes.ensures).count;
+      section = c.section-rows.ensures;
+      column = ap (λ (s : StationColumns). s.node-1) c.columns-columns.ensures;
     }
 
 -- a station's TEC is a u32
 below : (c : After-columns-columns) (k : ℕ) → kw_at c.columns-columns.result.tec k < 2 ^ 32
-below c = let f = c.before.before.before.before in tec_below f.args.file.now (λ i. omega (arith, f.shared_slice_known-1.given i)) c.columns-columns.ensures
+below c = tec_below c.args.file.now (λ i. omega (arith, c.shared_slice_known-1.given i)) c.columns-columns.ensures
 
 pub by_type-by_type-requires : goal.by_type-by_type-requires
 by_type-by_type-requires c =
     let s = c.before.before.before in
-    let rows = s.before in
-    (nodes_few _ rows.before.before.section-nodes.ensures, stations_few _ rows.section-rows.ensures, below s)
+    (nodes_few _ s.section-nodes.ensures, stations_few _ s.section-rows.ensures, below s)
 
 pub returns : goal.returns
 returns c =
     let s = c.before.before.before.before in
-    let rows = s.before in
-    let nodes = nodes_from _ rows.before.before.section-nodes.ensures in
-    let stations = stations_from _ rows.section-rows.ensures in
-    let few = stations_few _ rows.section-rows.ensures in
+    let nodes = nodes_from _ s.section-nodes.ensures in
+    let stations = stations_from _ s.section-rows.ensures in
+    let few = stations_few _ s.section-rows.ensures in
     let by = by_type_is _ _ _ _ _ (sym nodes.count) (sym stations.count) s.columns-columns.ensures few c.by_type-by_type.ensures in
-    (c.before.before.stage-judgement.ensures, by, λ cell. cells_all _ _ _ _ _ cell c.by_type-by_type.ensures (below s) few)
+    (c.stage-judgement.ensures, by, λ cell. cells_all _ _ _ _ _ cell c.by_type-by_type.ensures (below s) few)

@@ -32,7 +32,7 @@ pub overflow_sub-result : goal.overflow_sub-result
 overflow_sub-result c = simp (E, Z) (omega (arith, simp Z at (near c.before.before.before.before.before)))
 
 pub returns-in-Generation : goal.returns-in-Generation
-returns-in-Generation c = rw c.enum_told-1.given.1 (simp E)
+returns-in-Generation c = rw c.in-Generation.is (simp E)
 
 pub returns-in-Demand : goal.returns-in-Demand
-returns-in-Demand c = to_z-of_z (overflow_sub-result c) ∙ rw c.before.before.enum_told-in-Demand-1.given.1 (simp (E, Z) (omega arith))
+returns-in-Demand c = to_z-of_z (overflow_sub-result c) ∙ rw c.in-Demand.is (simp (E, Z) (omega arith))

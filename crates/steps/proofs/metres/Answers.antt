@@ -6,4 +6,4 @@ use Rattle.steps.proofs.metres.Goals as goal
 
 pub returns : goal.returns
 unfolding metres
-returns c = back _ c.nearest.type-inv ∙ simp (fit_back c.ranges.potential) at c.nearest.ensures
+returns c = back _ c.nearest.type_inv ∙ simp (fit_back c.ranges.potential) at c.nearest.ensures

@@ -2,4 +2,4 @@
 use Rattle.steps.proofs.no_line.Goals as goal
 
 pub returns : goal.returns
-returns c = rw (c.before.no_wider-none.ensures, c.no_shared.ensures)
+returns c = rw (c.no_wider-none.ensures, c.no_shared.ensures)

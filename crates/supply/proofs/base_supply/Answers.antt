@@ -10,18 +10,18 @@ module _ (c : Then-runnable) where
   abbrev b : After-total-wanted
   b = c.before.before
 
-  held : runnable b.before.before.total-least.result.0 b.before.total-most.result.0 b.total-wanted.result.0 ≡ true
-  held = sym c.before.runnable.ensures ∙ c.if-runnable.true
+  held : runnable b.total-least.result.0 b.total-most.result.0 b.total-wanted.result.0 ≡ true
+  held = sym c.runnable.ensures ∙ c.if-runnable.true
 
 pub overflow_sub-remaining : goal.overflow_sub-remaining
 overflow_sub-remaining c =
     let p = b c.before.before in
-    not_below _ _ _ _ _ _ _ p.before.before.total-least.ensures p.before.total-most.ensures p.total-wanted.ensures (held c.before.before)
+    not_below _ _ _ _ _ _ _ p.total-least.ensures p.total-most.ensures p.total-wanted.ensures (held c.before.before)
 
 pub shared-requires : goal.shared-requires
 shared-requires c =
     let p = b c.before.before in
-    can_share _ _ _ _ _ _ _ p.before.before.total-least.ensures p.before.total-most.ensures p.total-wanted.ensures (held c.before.before) _ refl
+    can_share _ _ _ _ _ _ _ p.total-least.ensures p.total-most.ensures p.total-wanted.ensures (held c.before.before) _ refl
 
 -- what was made of the variable TEC
 module _ (c : After-shared) where
@@ -32,8 +32,8 @@ pub supplies-requires : goal.supplies-requires
 supplies-requires c =
     let p = b (d c) in
     let a = p.args in
-    let f = p.before.before.total-least.ensures in
-    let t = p.before.total-most.ensures in
+    let f = p.total-least.ensures in
+    let t = p.total-most.ensures in
     let w = p.total-wanted.ensures in (
       few a.n a.fixed a.variable a.demand _ _ _ f t w (held (d c)),
       small_fixed a.n a.fixed a.variable a.demand _ _ _ f t w (held (d c)) _ refl,
@@ -45,10 +45,9 @@ pub returns-then-runnable : goal.returns-then-runnable
 returns-then-runnable c =
     let p = b (d c.before) in
     let a = p.args in
-    supplied a.n a.fixed a.variable a.demand _ _ _ p.before.before.total-least.ensures p.before.total-most.ensures p.total-wanted.ensures (held (d c.before))
-    _ refl _ c.before.shared.ensures _ c.supplies.ensures
+    supplied a.n a.fixed a.variable a.demand _ _ _ p.total-least.ensures p.total-most.ensures p.total-wanted.ensures (held (d c.before))
+    _ refl _ c.shared.ensures _ c.supplies.ensures
 
 pub returns : goal.returns
 returns c =
-    let p = c.before.before in
-    refused _ _ _ _ _ _ _ p.before.before.total-least.ensures p.before.total-most.ensures p.total-wanted.ensures (sym c.before.runnable.ensures ∙ c.if-runnable.false)
+    refused _ _ _ _ _ _ _ c.total-least.ensures c.total-most.ensures c.total-wanted.ensures (sym c.runnable.ensures ∙ c.if-runnable.false)

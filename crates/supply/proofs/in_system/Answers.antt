@@ -4,16 +4,16 @@ use Rattle.supply.proofs.in_system.Goals as goal
 
 pub returns-in-YearRound : goal.returns-in-YearRound
 unfolding supply_in
-returns-in-YearRound c = rw (c.before.before.before.system-1.given.1, c.enum_told-1.given.1) refl
+returns-in-YearRound c = rw (c.in-Base.is, c.in-YearRound.is) refl
 
 pub returns-in-Peak : goal.returns-in-Peak
 unfolding supply_in
-returns-in-Peak c = rw (c.before.before.before.system-1.given.1, c.enum_told-in-Peak-1.given.1) refl
+returns-in-Peak c = rw (c.in-Base.is, c.in-Peak.is) refl
 
 pub returns-in-Wider : goal.returns-in-Wider
 unfolding supply_in
-returns-in-Wider c = rw c.enum_told-in-Wider-1.given.1 refl
+returns-in-Wider c = rw c.in-Wider.is refl
 
 pub returns-in-Local : goal.returns-in-Local
 unfolding supply_in
-returns-in-Local c = rw c.enum_told-in-Local-1.given.1 refl
+returns-in-Local c = rw c.in-Local.is refl

@@ -9,29 +9,27 @@ use Rattle.tables.proofs.frame.Goals as goal
 use Rattle.tables.proofs.frame.Goals.{After-peak_runs, Then-whole}
 
 is_whole : (c : Then-whole) → file_whole c.args.file.now ≡ true
-is_whole c = sym c.before.whole.ensures ∙ c.if-whole.true
+is_whole c = sym c.whole.ensures ∙ c.if-whole.true
 
 pub overflow_add-count : goal.overflow_add-count
-overflow_add-count c = omega (arith, few_rows _ c.before.before.counts-counts.ensures)
+overflow_add-count c = omega (arith, few_rows _ c.counts-counts.ensures)
 
 runs-told : (c : After-peak_runs) → let a = c.args in
-    (c.before.year_round_runs.result && c.peak_runs.result) ≡ runs_whole a.file.now (by_system a.base a.wider a.local a.peak-base a.peak-wider)
+    (c.year_round_runs.result && c.peak_runs.result) ≡ runs_whole a.file.now (by_system a.base a.wider a.local a.peak-base a.peak-wider)
 runs-told c =
-    let p = c.before.before in
-    let s = p.before.before in
-    let n = s.before in
+    let n = c.before in
     let a = n.args in
-    ap₂ ◌&&◌ c.before.year_round_runs.ensures (rw p.peak_count-peak.ensures at c.peak_runs.ensures)
-    ∙ runs_are a.file.now n.counts-counts.ensures (is_whole n.before) s.settings-settings.ensures a.base a.wider a.local a.peak-base a.peak-wider
+    ap₂ ◌&&◌ c.year_round_runs.ensures (rw c.peak_count-peak.ensures at c.peak_runs.ensures)
+    ∙ runs_are a.file.now n.counts-counts.ensures (is_whole n.before) c.settings-settings.ensures a.base a.wider a.local a.peak-base a.peak-wider
 
 pub returns-then-year_round_runs-peak_runs : goal.returns-then-year_round_runs-peak_runs
 returns-then-year_round_runs-peak_runs c =
     let l = c.before.before in
     let s = l.before.before.before.before in
-    settings_decide _ _ (is_whole s.before.before) (sym (runs-told l) ∙ c.before.if-year_round_runs-peak_runs.true) (setting_is _ s.before.counts-counts.ensures s.settings-settings.ensures c.stage.ensures)
+    settings_decide _ _ (is_whole s.before.before) (sym (runs-told l) ∙ c.if-year_round_runs-peak_runs.true) (setting_is _ s.counts-counts.ensures s.settings-settings.ensures c.stage.ensures)
 
 pub returns-then-whole : goal.returns-then-whole
 returns-then-whole c = runs_stop _ _ (is_whole c.before.before.before.before.before.before.before) (sym (runs-told c.before) ∙ c.if-year_round_runs-peak_runs.false)
 
 pub returns : goal.returns
-returns c = file_stops _ _ (sym c.before.whole.ensures ∙ c.if-whole.false)
+returns c = file_stops _ _ (sym c.whole.ensures ∙ c.if-whole.false)

@@ -8,10 +8,9 @@ use Rattle.tables.proofs.open.Goals as goal
 use Rattle.tables.proofs.open.Goals.{After-tables-all}
 
 rows_of : (c : After-tables-all) → let a = c.args in Reads (frame_stage a.file.now (by_system a.base a.wider a.local a.peak-base a.peak-wider)) a.file.now c.tables-all.result
-rows_of c = rw c.before.frame.ensures at c.tables-all.ensures
+rows_of c = rw c.frame.ensures at c.tables-all.ensures
 
 pub returns : goal.returns
 returns c =
-    let j = c.before in
-    let t = rows_of j.before in
-    rw c.with_judgement.ensures (record { judgement = tables_judged _ t j.judgement.ensures; columns = columns_kept t.columns _ })
+    let t = rows_of c.before in
+    rw c.with_judgement.ensures (record { judgement = tables_judged _ t c.judgement.ensures; columns = columns_kept t.columns _ })

@@ -9,35 +9,32 @@ use Rattle.tariffs.proofs.figures.Goals.{Then-settings_fit}
 
 -- the settings, as they were tested
 tested : (c : Then-settings_fit) → settings_fit c.args.settings ≡ true
-tested c = sym c.before.settings_fit.ensures ∙ c.if-settings_fit.true
+tested c = sym c.settings_fit.ensures ∙ c.if-settings_fit.true
 
 pub backgrounds_of-sides-requires : goal.backgrounds_of-sides-requires
 backgrounds_of-sides-requires c = settings_say c.args.settings (tested c)
 
 pub ranged_figures-requires : goal.ranged_figures-requires
 ranged_figures-requires c =
-    let z = c.before in
-    let t = z.before in
+    let t = c.before in
     let a = t.args in
     let reached = reached_most a.nodes (length a.local.now) in (
       sides_fit a.settings a.nodes a.generation-zone a.tec a.paying a.paying-at-peak a.demand-zone a.demand a.wider.now a.peak-wider.now
-          z.backgrounds_of-sides.ensures (tested t),
+          c.backgrounds_of-sides.ensures (tested t),
       rw c.nodes_in-count.ensures reached.0,
       rw c.nodes_in-count.ensures reached.1,
     )
 
 pub returns-then-settings_fit : goal.returns-then-settings_fit
 returns-then-settings_fit c =
-    let z = c.before.before in
-    let t = z.before in
+    let t = c.before in
     let a = t.args in
     over_made a.settings a.nodes a.generation-zone a.tec a.paying a.paying-at-peak a.demand-zone a.demand a.wider.now a.peak-wider.now
-    z.backgrounds_of-sides.ensures (tested t) a.local.now a.shares c.before.nodes_in-count.ensures c.ranged_figures.ensures
+    c.backgrounds_of-sides.ensures (tested t) a.local.now a.shares c.nodes_in-count.ensures c.ranged_figures.ensures
 
 pub returns : goal.returns
 returns c =
-    let e = c.before in
-    let a = e.args in
+    let a = c.args in
     c.no_figures.ensures
     ∙ over_none a.settings a.nodes a.generation-zone a.tec a.paying a.paying-at-peak a.demand-zone a.demand a.wider.now a.peak-wider.now a.local.now a.shares
-    (sym e.before.settings_fit.ensures ∙ e.if-settings_fit.false)
+    (sym c.settings_fit.ensures ∙ c.if-settings_fit.false)

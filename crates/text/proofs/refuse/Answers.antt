@@ -15,8 +15,5 @@ put_line-requires c = ready c.refused_line.result c.refused_line.ensures (omega 
 pub returns : goal.returns
 unfolding refused_line
 returns c =
-    let p = c.before.before in
-    let l = p.before in
-    let v = l.before.before in
-    let line = copied l.refused_line.result (rw v.of_refusal-carried.ensures at l.refused_line.ensures) (omega arith) p.put_line.ensures in
-    record { long = λ h. written line (omega (arith, h)); short = λ h. absurd (omega (arith, h, v.before.if-out-lt96.false)) }
+    let line = copied c.refused_line.result (rw c.of_refusal-carried.ensures at c.refused_line.ensures) (omega arith) c.put_line.ensures in
+    record { long = λ h. written line (omega (arith, h)); short = λ h. absurd (omega (arith, h, c.if-out-lt96.false)) }

@@ -18,7 +18,7 @@ start c = c.before.before.before
 
 -- the figures are sized, and this is their text
 is-sized : (t : Then-sized) → let a = (start t.before).args in sized a.figures a.file.now a.rows ≡ true
-is-sized t = sym t.before.sized.ensures ∙ t.if-sized.true
+is-sized t = sym t.sized.ensures ∙ t.if-sized.true
 
 abbrev whole : Then-sized → List ℕ
 whole t = let a = (start t.before).args in sheet_text (shown_in a.figures a.file.now a.rows)
@@ -38,26 +38,23 @@ put_figures-length-requires c =
 
 pub returns-then-out-length : goal.returns-then-out-length
 returns-then-out-length c =
-    let p = c.before.before in
-    let t = p.before.before in
-    let long = p.put_figures-length.ensures.next in
+    let t = c.before.before in
+    let long = c.put_figures-length.ensures.next in
     rw (is-text t) (fitted_short (whole t) (start t.before).args.out.now _ (omega (arith, long, c.if-out-length.true)) (omega (arith, long)))
 
 pub returns-then-sized : goal.returns-then-sized
 returns-then-sized c =
-    let w = c.before.before in
-    let e = w.before.before.before.before in
-    let p = e.before.before in
-    let t = p.before.before in
-    let room : length (whole t) ≤ length (start t.before).args.out.now = omega (arith, p.put_figures-length.ensures.next, e.if-out-length.false) in
-    let n = p.put_figures-length.result in
+    let e = c.before.before.before.before in
+    let t = e.before.before in
+    let room : length (whole t) ≤ length (start t.before).args.out.now = omega (arith, e.put_figures-length.ensures.next, e.if-out-length.false) in
+    let n = e.put_figures-length.result in
     let e : n - 0 ≡ n = omega arith in
-    let part : take (n - 0) p.put_figures-length.new.0 ≡ whole t = rw e (front p.put_figures-length.ensures wide) in
+    let part : take (n - 0) e.put_figures-length.new.0 ≡ whole t = rw e (front e.put_figures-length.ensures wide) in
     rw (is-text t)
     (fitted_written (whole t) (start t.before).args.out.now _ _ room
-    (written (rw part at w.put_bytes.ensures) room))
+    (written (rw part at c.put_bytes.ensures) room))
 
 pub returns : goal.returns
 returns c =
     let a = (start c.before).args in
-    rw (text_none a.figures a.file.now a.rows (sym c.before.sized.ensures ∙ c.if-sized.false)) (fitted_none a.out-1.now)
+    rw (text_none a.figures a.file.now a.rows (sym c.sized.ensures ∙ c.if-sized.false)) (fitted_none a.out-1.now)

@@ -29,7 +29,7 @@ module _ (c : In-loop-v) where
   f = kw_at l.args.column
 
   next : l.loop-v.total + f l.loop-v.v ≡ sum (l.loop-v.v + 1) f
-  next = omega (arith, sum_more l.loop-v.v f, l.loop-v.inv.2)
+  next = omega (arith, sum_more l.loop-v.v f, l.loop-v.invariant.2)
 
 pub overflow_sub-total : goal.overflow_sub-total
 overflow_sub-total c = omega arith
@@ -54,7 +54,6 @@ loop-v-preserved c = (omega arith, omega arith, next c.before)
 
 pub returns : goal.returns
 returns c =
-    let s = c.before.before.before in
-    let e : c.before.loop-v.v ≡ s.args.n = omega arith in
-    let t : c.before.loop-v.total ≡ sum s.args.n (kw_at s.args.column) = c.before.loop-v.invariant.2 ∙ ap (λ (i : ℕ). sum i (kw_at s.args.column)) e in
-    ap kilowatts t ∙ added_up _ _ (omega arith) (omega (arith, t, c.before.loop-v.invariant.1))
+    let e : c.loop-v.v ≡ c.args.n = omega arith in
+    let t : c.loop-v.total ≡ sum c.args.n (kw_at c.args.column) = c.loop-v.invariant.2 ∙ ap (λ (i : ℕ). sum i (kw_at c.args.column)) e in
+    ap kilowatts t ∙ added_up _ _ (omega arith) (omega (arith, t, c.loop-v.invariant.1))

@@ -18,34 +18,30 @@ loop-visited-init c = walk_begins empty_has c.with_node-reached.ensures
 
 pub returns-then-size-n : goal.returns-then-size-n
 returns-then-size-n c =
-    let s = c.before.before in
-    rw (sym s.before.before.before.least-n.ensures, sym s.before.before.least-m.ensures)
-    (walk_full s.loop-visited.invariant (omega (arith, s.before.before.before.least-n.ensures)) (sym c.before.size.ensures ∙ c.if-size-n.true))
+    rw (sym c.least-n.ensures, sym c.least-m.ensures)
+    (walk_full c.loop-visited.invariant (omega (arith, c.least-n.ensures)) (sym c.size.ensures ∙ c.if-size-n.true))
 
 pub returns-then-next-eq256 : goal.returns-then-next-eq256
 returns-then-next-eq256 c =
-    let s = c.before.before.before.before.before in
-    let waiting = c.before.before.without-waiting.result in
-    let still : IsFirst (has waiting) 256 256 = rw c.if-next-eq256.true at c.before.lowest-next.ensures in
-    rw (sym s.before.before.before.least-n.ensures, sym s.before.before.least-m.ensures)
-    (walk_still s.loop-visited.invariant waiting (omega (arith, s.before.before.before.least-n.ensures)) c.before.before.without-waiting.ensures still)
+    let waiting = c.without-waiting.result in
+    let still : IsFirst (has waiting) 256 256 = rw c.if-next-eq256.true at c.lowest-next.ensures in
+    rw (sym c.least-n.ensures, sym c.least-m.ensures)
+    (walk_still c.loop-visited.invariant waiting (omega (arith, c.least-n.ensures)) c.without-waiting.ensures still)
 
 pub bounds-waiting-w : goal.bounds-waiting-w
-bounds-waiting-w c = omega (arith, found c.before.before.lowest-next.ensures.within c.before.if-next-eq256.false)
+bounds-waiting-w c = omega (arith, found c.lowest-next.ensures.within c.if-next-eq256.false)
 
 pub loop-visited-smaller : goal.loop-visited-smaller
 loop-visited-smaller c =
-    let s = c.before.before.before.before.before.before.before in
-    let without = c.before.before.before.before.without-waiting in
-    let lowest = c.before.before.before.lowest-next in
-    fewer s.loop-visited.reached s.loop-visited.visited without.result without.ensures (lowest.result / 64) c.with_word-more.result c.with_word-more.ensures refl lowest.ensures
-    (found lowest.ensures.within c.before.before.if-next-eq256.false)
+    let without = c.without-waiting in
+    let lowest = c.lowest-next in
+    fewer c.loop-visited.reached c.loop-visited.visited without.result without.ensures (lowest.result / 64) c.with_word-more.result c.with_word-more.ensures refl lowest.ensures
+    (found lowest.ensures.within c.if-next-eq256.false)
 
 pub loop-visited-preserved : goal.loop-visited-preserved
 loop-visited-preserved c =
-    let s = c.before.before.before.before.before.before.before in
-    let without = c.before.before.before.before.without-waiting in
-    let w = c.before.before.before.lowest-next.result / 64 in
-    let f = c.before.follow-wider.ensures in
-    walk_on {now = waits_in s.loop-visited.reached s.loop-visited.visited w} s.loop-visited.invariant (record { kept = f.kept; full = f.full; sound = f.sound })
-    (visited_now s.loop-visited.reached s.loop-visited.visited without.result without.ensures w c.with_word-more.result c.with_word-more.ensures)
+    let without = c.without-waiting in
+    let w = c.lowest-next.result / 64 in
+    let f = c.follow-wider.ensures in
+    walk_on {now = waits_in c.loop-visited.reached c.loop-visited.visited w} c.loop-visited.invariant (record { kept = f.kept; full = f.full; sound = f.sound })
+    (visited_now c.loop-visited.reached c.loop-visited.visited without.result without.ensures w c.with_word-more.result c.with_word-more.ensures)

@@ -5,14 +5,12 @@ use Rattle.walk.proofs.stage.Goals as goal
 
 pub returns-then-row-n : goal.returns-then-row-n
 returns-then-row-n c =
-    let s = c.before.before in
-    let a = s.args in
-    let f = rw s.before.least-n.ensures at c.before.first_missing-row.ensures in
-    node_unreached (walked a.nodes a.reference a.circuits a.first.now a.second.now) s.reached.result s.reached.ensures f (omega (arith, s.before.least-n.ensures))
+    let a = c.args in
+    let f = rw c.least-n.ensures at c.first_missing-row.ensures in
+    node_unreached (walked a.nodes a.reference a.circuits a.first.now a.second.now) c.reached.result c.reached.ensures f (omega (arith, c.least-n.ensures))
 
 pub returns : goal.returns
 returns c =
-    let s = c.before.before in
-    let a = s.args in
-    let f = rw s.before.least-n.ensures at c.before.first_missing-row.ensures in
-    all_reached (walked a.nodes a.reference a.circuits a.first.now a.second.now) s.reached.result s.reached.ensures f (omega (arith, s.before.least-n.ensures))
+    let a = c.args in
+    let f = rw c.least-n.ensures at c.first_missing-row.ensures in
+    all_reached (walked a.nodes a.reference a.circuits a.first.now a.second.now) c.reached.result c.reached.ensures f (omega (arith, c.least-n.ensures))

@@ -3,4 +3,4 @@ use Rattle.wirepulley.proofs.Telling.{tells_same}
 use Rattle.wirepulley.proofs.wirepulley_judge_five.Goals as goal
 
 pub returns : goal.returns
-returns c = tells_same _ _ c.before.before.judge-answer.ensures c.tell.ensures
+returns c = tells_same _ _ c.judge-answer.ensures c.tell.ensures

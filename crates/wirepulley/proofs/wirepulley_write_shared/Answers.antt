@@ -6,5 +6,5 @@ use Rattle.wirepulley.proofs.wirepulley_write_shared.Goals as goal
 
 pub returns : goal.returns
 returns c =
-    let e = c.before.before.before.before.write-answer.ensures.contract in
+    let e = c.write-answer.ensures.contract in
     record { answer = tells_same _ _ (ap (λ (s : Settled). s.answer) e) c.tell.ensures; buffer = ap (λ (s : Settled). s.buffer) e }

@@ -9,7 +9,7 @@ pub loop-v-init : goal.loop-v-init
 loop-v-init c = (omega arith, omega arith, sums_none c.args.zone c.args.kw)
 
 -- there is another node, and a row for it
-on : (c : In-loop-v) → let l = c.before in (l.loop-v.v < l.args.nodes) × (l.loop-v.v < 256)
+on : (c : In-loop-v) → (c.loop-v.v < c.args.nodes) × (c.loop-v.v < 256)
 on c = (says_lt also says_lt).0 c.loop-v-test.true
 
 pub offset_bounds-zone-v : goal.offset_bounds-zone-v
@@ -36,8 +36,7 @@ bounds-sums-slot c = omega arith
 pub overflow_add-sums : goal.overflow_add-sums
 overflow_add-sums c =
     let t = c.before.before.before in
-    let l = t.before in
-    omega (arith, sums_fit l.args.zone l.args.kw l.loop-v.v c.before.before.slot_of-slot.result l.loop-v.invariant.2 c.before.kept-more.ensures (on t).1 (omega arith))
+    omega (arith, sums_fit t.args.zone t.args.kw t.loop-v.v c.slot_of-slot.result t.loop-v.invariant.2 c.kept-more.ensures (on t).1 (omega arith))
 
 pub bounds-sums-slot-then-slot-lt32 : goal.bounds-sums-slot-then-slot-lt32
 bounds-sums-slot-then-slot-lt32 c = omega arith
@@ -47,13 +46,11 @@ loop-v-smaller-then-slot-lt32 c = omega (arith, (on c.before.before.before.befor
 
 pub loop-v-preserved-then-slot-lt32 : goal.loop-v-preserved-then-slot-lt32
 loop-v-preserved-then-slot-lt32 c =
-    let u = c.before.before in
-    let t = u.before.before in
-    let l = t.before in
-    let a = l.args in (
+    let t = c.before.before in
+    let a = t.args in (
       omega (arith, (on t).0),
       omega (arith, (on t).1),
-      sums_more a.t2 a.t3 l.loop-v.v _ l.loop-v.invariant.2 u.before.slot_of-slot.ensures u.kept-more.ensures (omega arith),
+      sums_more a.zone a.kw t.loop-v.v _ t.loop-v.invariant.2 c.slot_of-slot.ensures c.kept-more.ensures (omega arith),
     )
 
 pub loop-v-smaller : goal.loop-v-smaller
@@ -61,14 +58,12 @@ loop-v-smaller c = omega (arith, (on c.before.before.before).1)
 
 pub loop-v-preserved : goal.loop-v-preserved
 loop-v-preserved c =
-    let u = c.before in
-    let t = u.before.before in
-    let l = t.before in
-    let a = l.args in (
+    let t = c.before.before in
+    let a = t.args in (
       omega (arith, (on t).0),
       omega (arith, (on t).1),
-      sums_past a.t2 a.t3 l.loop-v.v _ l.loop-v.invariant.2 u.before.slot_of-slot.ensures (omega arith),
+      sums_past a.zone a.kw t.loop-v.v _ t.loop-v.invariant.2 c.slot_of-slot.ensures (omega arith),
     )
 
 pub returns : goal.returns
-returns c = let l = c.before in sums_done _ _ _ l.loop-v.v l.loop-v.invariant.2 l.loop-v.invariant.0 l.loop-v.invariant.1 c.loop-v-test.false
+returns c = sums_done _ _ _ c.loop-v.v c.loop-v.invariant.2 c.loop-v.invariant.0 c.loop-v.invariant.1 c.loop-v-test.false

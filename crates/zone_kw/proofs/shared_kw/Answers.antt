@@ -29,8 +29,7 @@ loop-k-smaller c = omega arith
 
 pub loop-k-preserved : goal.loop-k-preserved
 loop-k-preserved c =
-    let l = c.before.before in
-    (omega arith, column_turn (kilowatts 0) 32 (λ k. kilowatts (number_at l.before.thousandths-thousandths.result k / 1000)) l.loop-k.k (omega arith) l.loop-k.invariant.1 refl)
+    (omega arith, column_turn (kilowatts 0) 32 (λ k. kilowatts (number_at c.thousandths-thousandths.result k / 1000)) c.loop-k.k (omega arith) c.loop-k.invariant.1 refl)
 
 pub returns : goal.returns
-returns c = let l = c.before in shared_done _ _ _ _ l.loop-k.k l.before.thousandths-thousandths.ensures l.loop-k.invariant.1 (omega arith) (omega arith)
+returns c = shared_done _ _ _ _ c.loop-k.k c.thousandths-thousandths.ensures c.loop-k.invariant.1 (omega arith) (omega arith)

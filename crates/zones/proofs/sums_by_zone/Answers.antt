@@ -17,7 +17,7 @@ pub loop-v-init : goal.loop-v-init
 loop-v-init c =
     let a = c.args in
     let r = reached_most a.nodes (length a.wider.now) in
-    (omega arith, rw c.nodes_in-count.ensures r.0, rw c.nodes_in-count.ensures r.1, sums_start a.side a.t3 a.t4 a.t5 a.wider.now)
+    (omega arith, rw c.nodes_in-count.ensures r.0, rw c.nodes_in-count.ensures r.1, sums_start a.side a.zone a.weight a.paying a.wider.now)
 
 pub offset_bounds-zone-v : goal.offset_bounds-zone-v
 offset_bounds-zone-v c = omega arith
@@ -52,13 +52,13 @@ module _ (c : After-part_of-part) where
   l = c.before.before.before.before.before
 
   abbrev mine : Part
-  mine = let a = l.args in part_at a.side a.t3 a.t4 a.t5 a.wider.now l.loop-v.v
+  mine = let a = l.args in part_at a.side a.zone a.weight a.paying a.wider.now l.loop-v.v
 
   added : c.part_of-part.result ≡ mine
-  added = simp (back (potential l.args.wider.now l.loop-v.v) c.before.part_of-arg-in-loop-v-2-1.given) at c.part_of-part.ensures
+  added = simp (back (potential l.args.wider.now l.loop-v.v) c.part_of-arg-in-loop-v-2-1.given) at c.part_of-part.ensures
 
   fits : PartFits c.part_of-part.result
-  fits = let a = l.args in rw added (fits_at a.side a.t3 a.t4 a.t5 a.wider.now l.loop-v.v)
+  fits = let a = l.args in rw added (fits_at a.side a.zone a.weight a.paying a.wider.now l.loop-v.v)
 
 pub offset_bounds-all-k : goal.offset_bounds-all-k
 offset_bounds-all-k c = omega (arith, (fits c).slot)
@@ -94,6 +94,5 @@ loop-v-preserved c =
 pub returns : goal.returns
 unfolding zone_sums
 returns c =
-    let l = c.before in
-    let e : l.loop-v.v ≡ nodes_in l.args.nodes (length l.args.wider.now) = omega (arith, l.before.nodes_in-count.ensures) in
-    rw e at l.loop-v.invariant.3
+    let e : c.loop-v.v ≡ nodes_in c.args.nodes (length c.args.wider.now) = omega (arith, c.nodes_in-count.ensures) in
+    rw e at c.loop-v.invariant.3

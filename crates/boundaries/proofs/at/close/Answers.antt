@@ -9,7 +9,7 @@ tested : (c : After-magnitude) → c.magnitude.result ≡ nat_abs c.args.m
 tested c = simp (fit_back c.ranges.m) at c.magnitude.ensures
 
 pub returns-then-magnitude-le10000000 : goal.returns-then-magnitude-le10000000
-returns-then-magnitude-le10000000 c = let s = c.before.before in fit_back s.ranges.m ∙ close_in s.args.m (simp (tested c.before) at c.if-magnitude-le10000000.true)
+returns-then-magnitude-le10000000 c = fit_back c.ranges.m ∙ close_in c.args.m (simp (tested c.before) at c.if-magnitude-le10000000.true)
 
 pub returns : goal.returns
-returns c = let s = c.before.before in close_out s.args.m (simp (tested c.before) at c.if-magnitude-le10000000.false)
+returns c = close_out c.args.m (simp (tested c.before) at c.if-magnitude-le10000000.false)

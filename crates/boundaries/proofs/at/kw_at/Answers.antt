@@ -13,7 +13,7 @@ pub bounds-kw-z : goal.bounds-kw-z
 bounds-kw-z c = omega (arith, in_array c.args.z c.if-z.true)
 
 pub returns-then-z : goal.returns-then-z
-returns-then-z c = let d = c.before.before in c.up_to.ensures ∙ zone_in 0 _ d.args.z d.if-z.true
+returns-then-z c = c.up_to.ensures ∙ zone_in 0 _ c.args.z c.if-z.true
 
 pub returns : goal.returns
 returns c = zone_out 0 _ c.args.z c.if-z.false

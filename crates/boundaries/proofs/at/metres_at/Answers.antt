@@ -17,11 +17,10 @@ bounds-metres-z c = omega (arith, in_array c.args.z c.if-z.true)
 
 pub returns-then-z : goal.returns-then-z
 returns-then-z c =
-    let d = c.before.before.before in
-    let a = d.args in
-    back _ c.close.type-inv
-    ∙ simp (back (metres_at a.t1 (a.z - 1)) (omega (arith, c.before.struct_told-1.given))) at c.close.ensures
-    ∙ zone_in _ _ a.z d.if-z.true
+    let a = c.args in
+    back _ c.close.type_inv
+    ∙ simp (back (metres_at a.metres (a.z - 1)) (omega (arith, c.struct_told-1.given))) at c.close.ensures
+    ∙ zone_in _ _ a.z c.if-z.true
 
 pub returns : goal.returns
 returns c = zone_out _ _ c.args.z c.if-z.false

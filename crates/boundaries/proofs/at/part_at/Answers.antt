@@ -14,7 +14,7 @@ pub bounds-parts-z : goal.bounds-parts-z
 bounds-parts-z c = omega (arith, in_array c.args.z c.if-z.true)
 
 pub returns-then-z : goal.returns-then-z
-returns-then-z c = back _ c.result-1.given ∙ zone_in _ _ c.args.z c.before.if-z.true
+returns-then-z c = back _ c.result-1.given ∙ zone_in _ _ c.args.z c.if-z.true
 
 pub returns : goal.returns
 returns c = zone_out _ _ c.args.z c.if-z.false

@@ -18,15 +18,14 @@ pub kw_behind-sum-requires : goal.kw_behind-sum-requires
 kw_behind-sum-requires c = omega arith
 
 -- what is added
-more : (c : After-kw_behind-sum) → let l = c.before.before in let a = l.args in
-    (c.kw_behind-sum.result ≡ adds a.zones a.next.now a.kw a.b l.loop-i.i)
+more : (c : After-kw_behind-sum) → let a = c.args in
+    (c.kw_behind-sum.result ≡ adds a.zones a.next.now a.kw a.b c.loop-i.i)
 more c = rw add-one at c.kw_behind-sum.ensures
 
 pub overflow_add-sum : goal.overflow_add-sum
 overflow_add-sum c =
-    let l = c.before.before in
-    let a = l.args in
-    omega (arith, l.loop-i.invariant.1, more c, more_fits a.zones a.next.now a.kw a.b l.loop-i.i (omega arith) (omega arith))
+    let a = c.args in
+    omega (arith, c.loop-i.invariant.1, more c, more_fits a.zones a.next.now a.kw a.b c.loop-i.i (omega arith) (omega arith))
 
 pub overflow_add-i-in-loop-i : goal.overflow_add-i-in-loop-i
 overflow_add-i-in-loop-i c = omega arith
@@ -35,11 +34,10 @@ pub loop-i-smaller : goal.loop-i-smaller
 loop-i-smaller c = omega arith
 
 pub loop-i-preserved : goal.loop-i-preserved
-loop-i-preserved c = let l = c.before.before in (omega arith, ap₂ ◌+◌ l.loop-i.invariant.1 (more c) ∙ sym (sum_more l.loop-i.i _))
+loop-i-preserved c = (omega arith, ap₂ ◌+◌ c.loop-i.invariant.1 (more c) ∙ sym (sum_more c.loop-i.i _))
 
 pub returns : goal.returns
 returns c =
-    let l = c.before in
-    let a = l.args in
-    let e : l.loop-i.i ≡ a.zones = omega arith in
-    l.loop-i.invariant.1 ∙ ap (λ (n : ℕ). sum_of n (adds a.zones a.next.now a.kw a.b)) e ∙ behind_is a.zones a.next.now a.kw a.b
+    let a = c.args in
+    let e : c.loop-i.i ≡ a.zones = omega arith in
+    c.loop-i.invariant.1 ∙ ap (λ (n : ℕ). sum_of n (adds a.zones a.next.now a.kw a.b)) e ∙ behind_is a.zones a.next.now a.kw a.b

@@ -11,7 +11,7 @@ told : (c : After-passes) → let a = c.args in passes (next_in a.next.now) a.zo
 told c = let e : min c.args.zones 32 ≡ c.args.zones = omega arith in sym (rw e at c.passes.ensures)
 
 pub returns-then-passes : goal.returns-then-passes
-returns-then-passes c = rw (told c.before.before ∙ c.before.if-passes.true) c.kw_at.ensures
+returns-then-passes c = rw (told c.before.before ∙ c.if-passes.true) c.kw_at.ensures
 
 pub returns : goal.returns
 returns c = rw (told c.before ∙ c.if-passes.false)

@@ -13,11 +13,11 @@ module _ (c : After-metres_at-inner_metres) where
   abbrev s : Start
   s = c.before.before.before
 
-  b1 : to_z w64 (of_z w64 c.before.metres_at_lem.result) ≡ near s.args.metres s.args.z
-  b1 = back _ c.before.metres_at_lem.type-inv ∙ c.before.metres_at_lem.ensures
+  b1 : to_z w64 (of_z w64 c.metres_at_lem.result) ≡ near s.args.metres s.args.z
+  b1 = back _ c.metres_at_lem.type_inv ∙ c.metres_at_lem.ensures
 
   b2 : to_z w64 (of_z w64 c.metres_at-inner_metres.result) ≡ near s.args.metres (next_in s.args.next.now s.args.z)
-  b2 = back _ c.metres_at-inner_metres.type-inv ∙ c.metres_at-inner_metres.ensures ∙ ap (near s.args.metres) c.before.before.step-inner.ensures
+  b2 = back _ c.metres_at-inner_metres.type_inv ∙ c.metres_at-inner_metres.ensures ∙ ap (near s.args.metres) c.step-inner.ensures
 
   bb : Back (far s.args.zones s.args.next.now s.args.low s.args.carbon s.args.metres s.args.z)
   bb = fit_back (far_fits s.args.zones s.args.next.now s.args.low s.args.carbon s.args.metres s.args.z)
@@ -32,11 +32,11 @@ pub shared-requires : goal.shared-requires
 shared-requires c =
     let d = c.before.before in
     let a = (s d).args in
-    simp (b1, b2, bb) (rw (c.before.behind-l.ensures, c.behind-c.ensures) (part_fits a.zones a.next.now a.low a.carbon a.metres a.z (omega arith)))
+    simp (b1, b2, bb) (rw (c.behind-l.ensures, c.behind-c.ensures) (part_fits a.zones a.next.now a.low a.carbon a.metres a.z (omega arith)))
 
 pub returns : goal.returns
 returns c =
     let a = (s c.before.before.before).args in
-    let l = c.before.before.behind-l.ensures in
-    let h = c.before.behind-c.ensures in
-    rw (← part_is a.zones a.next.now a.low a.carbon a.metres a.z) (back _ c.shared.type-inv ∙ simp (b1, b2, bb, l, h) at c.shared.ensures)
+    let l = c.behind-l.ensures in
+    let h = c.behind-c.ensures in
+    rw (← part_is a.zones a.next.now a.low a.carbon a.metres a.z) (back _ c.shared.type_inv ∙ simp (b1, b2, bb, l, h) at c.shared.ensures)

@@ -15,10 +15,10 @@ module _ (s : Start) where
   bd = fit_back s.ranges.d
 
   bc : to_z w64 (2 * s.args.carbon) ≡ pos (2 * s.args.carbon)
-  bc = of_nat _ (omega (arith, s.pre.high_carbon))
+  bc = of_nat _ (omega (arith, s.requires.high_carbon))
 
   bp : Back (s.args.d *ℤ pos (2 * s.args.carbon))
-  bp = fit_back (product_fits s.pre)
+  bp = fit_back (product_fits s.requires)
 
 pub returns-then-low-carbon : goal.returns-then-low-carbon
 returns-then-low-carbon c = fit_back c.ranges.d ∙ sym (shared_all c.args.d c.args.low c.args.carbon (omega arith))
@@ -28,5 +28,4 @@ overflow_mul-d c = simp (bd, bc) (product_fits c.requires)
 
 pub returns : goal.returns
 returns c =
-    let s = c.before.before in
-    back _ c.floor_div.type-inv ∙ simp (bd, bc, bp) at c.floor_div.ensures ∙ sym (shared_more s.args.d s.args.low s.args.carbon (omega arith))
+    back _ c.floor_div.type_inv ∙ simp (bd, bc, bp) at c.floor_div.ensures ∙ sym (shared_more c.args.d c.args.low c.args.carbon (omega arith))

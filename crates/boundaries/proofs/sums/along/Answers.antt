@@ -18,7 +18,7 @@ pub step-inner-requires : goal.step-inner-requires
 step-inner-requires c = tt
 
 pub returns-then-inner-eq0 : goal.returns-then-inner-eq0
-returns-then-inner-eq0 c = let l = c.before.before.before in going_ended _ _ _ l.loop-k.invariant.1 (sym c.before.step-inner.ensures ∙ c.if-inner-eq0.true)
+returns-then-inner-eq0 c = going_ended _ _ _ c.loop-k.invariant.1 (sym c.step-inner.ensures ∙ c.if-inner-eq0.true)
 
 pub part_at-sum-requires : goal.part_at-sum-requires
 part_at-sum-requires c = tt
@@ -28,7 +28,7 @@ module _ (c : After-part_at-sum) where
   l = c.before.before.before.before
 
   added : to_z w64 (of_z w64 c.part_at-sum.result) ≡ part_in l.args.parts.now l.loop-k.here
-  added = back _ c.part_at-sum.type-inv ∙ c.part_at-sum.ensures
+  added = back _ c.part_at-sum.type_inv ∙ c.part_at-sum.ensures
 
 pub overflow_add-sum : goal.overflow_add-sum
 overflow_add-sum c = simp (added c) (going_fits _ _ _ (l c).loop-k.invariant.1 (omega arith) ((l c).requires.1.each (l c).loop-k.here))
@@ -42,9 +42,9 @@ loop-k-smaller c = omega arith
 pub loop-k-preserved : goal.loop-k-preserved
 loop-k-preserved c = (
   omega arith,
-  going_on _ _ _ (l c).loop-k.invariant.1 (omega arith) ((l c).requires.1.each (l c).loop-k.here) c.before.before.step-inner.ensures c.before.if-inner-eq0.false
+  going_on _ _ _ (l c).loop-k.invariant.1 (omega arith) ((l c).requires.1.each (l c).loop-k.here) c.step-inner.ensures c.if-inner-eq0.false
       (to_z-of_z (overflow_add-sum c) ∙ ap (λ (x : ℤ). to_z w64 (l c).loop-k.sum +ℤ x) (added c)),
 )
 
 pub returns : goal.returns
-returns c = let l = c.before in going_over _ _ _ l.loop-k.invariant.1 (omega arith)
+returns c = going_over _ _ _ c.loop-k.invariant.1 (omega arith)

@@ -16,16 +16,16 @@ module _ (s : Start) where
   shared = along s.args.zones (next_in s.args.next.now) (part_in s.args.parts.now) s.args.zones s.args.z
 
   fits : SFits w64 (near s.args.metres s.args.z -ℤ shared)
-  fits = rest_fits s.args.zones s.args.next.now s.args.metres s.pre.1 s.pre.0 s.args.z
+  fits = rest_fits s.args.zones s.args.next.now s.args.metres s.requires.1 s.requires.0 s.args.z
 
   bf : Back (near s.args.metres s.args.z -ℤ shared)
   bf = fit_back fits
 
 bs : (c : After-along-shared) → to_z w64 (of_z w64 c.along-shared.result) ≡ shared c.before
-bs c = back _ c.along-shared.type-inv ∙ c.along-shared.ensures
+bs c = back _ c.along-shared.type_inv ∙ c.along-shared.ensures
 
 bm : (c : After-metres_at-all) → to_z w64 (of_z w64 c.metres_at_lem.result) ≡ near c.args.metres c.args.z
-bm c = back _ c.metres_at_lem.type-inv ∙ c.metres_at_lem.ensures
+bm c = back _ c.metres_at_lem.type_inv ∙ c.metres_at_lem.ensures
 
 pub overflow_sub-result : goal.overflow_sub-result
 overflow_sub-result c = simp (bs, bm) (fits c.before.before)

@@ -30,11 +30,9 @@ loop-i-smaller c = omega arith
 
 pub loop-i-preserved : goal.loop-i-preserved
 loop-i-preserved c =
-    let l = c.before.before in
-    (omega arith, column_turn _ 32 _ l.loop-i.i (omega arith) l.loop-i.invariant.1 (back _ c.of_zone.type-inv ∙ rw add-one at c.of_zone.ensures))
+    (omega arith, column_turn _ 32 _ c.loop-i.i (omega arith) c.loop-i.invariant.1 (back _ c.of_zone.type_inv ∙ rw add-one at c.of_zone.ensures))
 
 pub returns : goal.returns
 returns c =
-    let l = c.before in
-    let a = l.args in
-    column_done _ 32 _ 32 l.loop-i.i l.loop-i.invariant.1 l.loop-i.invariant.0 (omega arith) ∙ parts_filled a.next.now a.zones a.low a.carbon a.metres
+    let a = c.args in
+    column_done _ 32 _ 32 c.loop-i.i c.loop-i.invariant.1 c.loop-i.invariant.0 (omega arith) ∙ parts_filled a.next.now a.zones a.low a.carbon a.metres

@@ -26,7 +26,7 @@ pub at_most-requires : goal.at_most-requires
 at_most-requires c = tt
 
 pub returns-then-not-at_most : goal.returns-then-not-at_most
-returns-then-not-at_most c = all_fails _ 7 c.before.before.before.loop-t.t (omega arith) (told c.before ∙ not_true c.if-not-at_most.true)
+returns-then-not-at_most c = all_fails _ 7 c.loop-t.t (omega arith) (told c.before ∙ not_true c.if-not-at_most.true)
 
 pub overflow_add-t : goal.overflow_add-t
 overflow_add-t c = omega arith
@@ -35,7 +35,7 @@ pub loop-t-smaller : goal.loop-t-smaller
 loop-t-smaller c = omega arith
 
 pub loop-t-preserved : goal.loop-t-preserved
-loop-t-preserved c = let l = c.before.before.before in (omega arith, all_more _ l.loop-t.t l.loop-t.invariant.1 (told c.before ∙ not_false c.if-not-at_most.false))
+loop-t-preserved c = (omega arith, all_more _ c.loop-t.t c.loop-t.invariant.1 (told c.before ∙ not_false c.if-not-at_most.false))
 
 pub returns : goal.returns
-returns c = all_pass _ 7 (λ i h. c.before.loop-t.invariant.1 i (omega arith))
+returns c = all_pass _ 7 (λ i h. c.loop-t.invariant.1 i (omega arith))

@@ -3,4 +3,4 @@ use Rattle.chains.proofs.zone.centre.Goals as goal
 
 pub returns : goal.returns
 unfolding is_centre
-returns c = rw (c.before.kw_at.ensures, c.step.ensures)
+returns c = rw (c.kw_at.ensures, c.step.ensures)

@@ -16,7 +16,7 @@ pub centre-requires : goal.centre-requires
 centre-requires c = tt
 
 pub returns-then-centre : goal.returns-then-centre
-returns-then-centre c = let l = c.before.before in sym (any_intro _ _ l.before.loop-i.i (omega arith) (sym (rw add-one at c.before.centre.ensures) ∙ c.if-centre.true))
+returns-then-centre c = sym (any_intro _ _ c.loop-i.i (omega arith) (sym (rw add-one at c.centre.ensures) ∙ c.if-centre.true))
 
 pub overflow_add-i-in-loop-i : goal.overflow_add-i-in-loop-i
 overflow_add-i-in-loop-i c = omega arith
@@ -25,7 +25,7 @@ pub loop-i-smaller : goal.loop-i-smaller
 loop-i-smaller c = omega arith
 
 pub loop-i-preserved : goal.loop-i-preserved
-loop-i-preserved c = (omega arith, passed_more c.before.before.before.loop-i.invariant.1 (sym (rw add-one at c.before.centre.ensures) ∙ c.if-centre.false))
+loop-i-preserved c = (omega arith, passed_more c.loop-i.invariant.1 (sym (rw add-one at c.centre.ensures) ∙ c.if-centre.false))
 
 pub returns : goal.returns
-returns c = let l = c.before in let e : l.loop-i.i ≡ l.args.n = omega arith in any_ends (rw e at l.loop-i.invariant.1)
+returns c = let e : c.loop-i.i ≡ c.args.n = omega arith in any_ends (rw e at c.loop-i.invariant.1)

@@ -22,13 +22,11 @@ loop-k-smaller c = omega arith
 
 pub loop-k-preserved : goal.loop-k-preserved
 loop-k-preserved c =
-    let l = c.before.before in
-    let a = l.args in
-    (omega arith, after_on (next_in a.next.now) l.loop-k.k a.z l.loop-k.invariant.1 c.step-here.ensures)
+    let a = c.args in
+    (omega arith, after_on (next_in a.next.now) c.loop-k.k a.z c.loop-k.invariant.1 c.step-here.ensures)
 
 pub returns : goal.returns
 returns c =
-    let l = c.before in
-    let a = l.args in
-    let e : l.loop-k.k ≡ suc a.zones = omega arith in
-    ap (λ (n : ℕ). eqb n 0) (l.loop-k.invariant.1 ∙ ap (λ (n : ℕ). after (next_in a.next.now) n a.z) e)
+    let a = c.args in
+    let e : c.loop-k.k ≡ suc a.zones = omega arith in
+    ap (λ (n : ℕ). eqb n 0) (c.loop-k.invariant.1 ∙ ap (λ (n : ℕ). after (next_in a.next.now) n a.z) e)

@@ -23,10 +23,10 @@ pub loop-i-smaller : goal.loop-i-smaller
 loop-i-smaller c = omega arith
 
 pub loop-i-preserved : goal.loop-i-preserved
-loop-i-preserved c = (omega arith, passed_more c.before.before.before.loop-i.invariant.1 (ap not (sym (rw add-one at c.before.sound.ensures) ∙ c.if-sound.true)))
+loop-i-preserved c = (omega arith, passed_more c.loop-i.invariant.1 (ap not (sym (rw add-one at c.sound.ensures) ∙ c.if-sound.true)))
 
 pub returns-else-sound : goal.returns-else-sound
-returns-else-sound c = first_stops c.before.before.before.loop-i.invariant.1 (omega arith) (ap not (sym (rw add-one at c.before.sound.ensures) ∙ c.if-sound.false))
+returns-else-sound c = first_stops c.loop-i.invariant.1 (omega arith) (ap not (sym (rw add-one at c.sound.ensures) ∙ c.if-sound.false))
 
 pub returns : goal.returns
-returns c = first_ends c.before.loop-i.invariant.1 (omega arith)
+returns c = first_ends c.loop-i.invariant.1 (omega arith)

@@ -13,7 +13,7 @@ pub bounds-tec-z : goal.bounds-tec-z
 bounds-tec-z c = omega (arith, in_array c.args.z c.if-z.true)
 
 pub returns-then-z : goal.returns-then-z
-returns-then-z c = let a = c.args in zone_in 0 (kw_at a.t1) a.z c.if-z.true
+returns-then-z c = let a = c.args in zone_in 0 (kw_at a.tec) a.z c.if-z.true
 
 pub returns : goal.returns
-returns c = let a = c.args in zone_out 0 (kw_at a.t1) a.z c.if-z.false
+returns c = let a = c.args in zone_out 0 (kw_at a.tec) a.z c.if-z.false

@@ -4,5 +4,4 @@ use Rattle.chains.proofs.zone.sound.Goals as goal
 pub returns : goal.returns
 unfolding sound_zone names_one_with_tec names_with_tec is_centre second_centre ended
 returns c =
-    let e = c.before.before in
-    rw (c.ends.ensures, c.before.centre_among-earlier.ensures, e.centre-first.ensures, e.before.kw_at-there.ensures, e.before.before.kw_at-own.ensures, e.before.before.before.step-inner.ensures)
+    rw (c.ends.ensures, c.centre_among-earlier.ensures, c.centre-first.ensures, c.kw_at-there.ensures, c.kw_at-own.ensures, c.step-inner.ensures)

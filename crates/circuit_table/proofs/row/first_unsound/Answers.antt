@@ -14,9 +14,8 @@ use Rattle.circuit_table.proofs.row.first_unsound.Goals.{After-sound_row}
 
 -- what the test tells of a row
 told : (c : After-sound_row)
-    → let l = c.before.before.before.before.before in
-    let a = l.args in sound_circuit_row (readable a.file.now).nodes (circuit_at a.file.now a.rows.size (row_at a.rows l.loop-i.i)) ≡ c.sound_row.result
-told c = sym (rw c.before.row_at.ensures at c.sound_row.ensures)
+    → let a = c.args in sound_circuit_row (readable a.file.now).nodes (circuit_at a.file.now a.rows.size (row_at a.rows c.loop-i.i)) ≡ c.sound_row.result
+told c = sym (rw c.row_at.ensures at c.sound_row.ensures)
 
 pub loop-i-init : goal.loop-i-init
 loop-i-init c = (omega arith, passed_zero _)
@@ -29,15 +28,13 @@ bounds-columns-i-in-loop-i c = omega (arith, few _ c.requires)
 
 pub sound_row-requires : goal.sound_row-requires
 sound_row-requires c =
-    let l = c.before.before.before.before in
-    let s = l.before.before in
-    rw c.row_at.ensures (ends_at _ s.requires l.loop-i.i (omega arith) (row_low s.args.rows (omega arith) (omega arith) (omega arith)))
+    rw c.row_at.ensures (ends_at _ c.requires c.loop-i.i (omega arith) (row_low c.args.rows (omega arith) (omega arith) (omega arith)))
 
 pub loop-i-preserved : goal.loop-i-preserved
-loop-i-preserved c = (omega arith, passed_more c.before.before.before.before.before.before.loop-i.invariant.1 (ap not (told c.before ∙ c.if-sound_row.true)))
+loop-i-preserved c = (omega arith, passed_more c.loop-i.invariant.1 (ap not (told c.before ∙ c.if-sound_row.true)))
 
 pub returns-else-sound_row : goal.returns-else-sound_row
-returns-else-sound_row c = first_stops c.before.before.before.before.before.before.loop-i.invariant.1 (omega arith) (ap not (told c.before ∙ c.if-sound_row.false))
+returns-else-sound_row c = first_stops c.loop-i.invariant.1 (omega arith) (ap not (told c.before ∙ c.if-sound_row.false))
 
 pub returns : goal.returns
-returns c = first_ends c.before.loop-i.invariant.1 (omega arith)
+returns c = first_ends c.loop-i.invariant.1 (omega arith)

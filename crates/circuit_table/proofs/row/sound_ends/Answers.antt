@@ -6,5 +6,4 @@ use Rattle.circuit_table.proofs.row.sound_ends.Goals as goal
 pub returns : goal.returns
 unfolding circuit_at
 returns c =
-    let s = c.before.before.before.before in
-    rw (c.same_name.ensures, c.before.name_formed-2.ensures, c.before.before.name_formed.ensures, s.requires.first, s.requires.second, s.requires.nodes, known_place, known_place) refl
+    rw (c.same_name.ensures, c.name_formed-2.ensures, c.name_formed.ensures, c.requires.first, c.requires.second, c.requires.nodes, known_place, known_place) refl

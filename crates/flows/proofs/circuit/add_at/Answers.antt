@@ -16,7 +16,7 @@ module _ (c : Then-v-lt256) where
   s = c.before
 
   fits : SFits w64 (number s.args.net.now s.args.v) × SFits w64 (number s.args.net.now s.args.v +ℤ s.args.z)
-  fits = add_fits s.args.net.now s.args.v s.args.z s.pre (omega arith)
+  fits = add_fits s.args.net.now s.args.v s.args.z s.requires (omega arith)
 
   bz : Back s.args.z
   bz = fit_back s.ranges.z

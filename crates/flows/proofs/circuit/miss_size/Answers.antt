@@ -32,9 +32,9 @@ module _ (c : After-within-4) where
   abbrev tests : Bool
   tests = in_ranges s.args.p s.args.q s.args.x s.args.flow s.args.offset
 
-  tested : tests ≡ (c.before.before.before.within.result && c.before.before.within-2.result && leb s.args.x 10000 && c.before.within-3.result && c.within-4.result)
+  tested : tests ≡ (c.within.result && c.within-2.result && leb s.args.x 10000 && c.within-3.result && c.within-4.result)
   tested =
-      tested_are _ _ _ _ _ _ _ _ _ (simp bp at c.before.before.before.within.ensures) (simp bq at c.before.before.within-2.ensures) (simp bf at c.before.within-3.ensures) (simp bo at c.within-4.ensures)
+      tested_are _ _ _ _ _ _ _ _ _ (simp bp at c.within.ensures) (simp bq at c.within-2.ensures) (simp bf at c.within-3.ensures) (simp bo at c.within-4.ensures)
 
 -- in range
 module _ (c : Then-within-x) where

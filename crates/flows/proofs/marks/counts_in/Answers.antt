@@ -10,13 +10,13 @@ own : (c : After-background_of) {b : Background} → c.background_of.result ≡ 
 own c e = sym c.background_of.ensures ∙ e
 
 pub returns-in-YearRound-background : goal.returns-in-YearRound-background
-returns-in-YearRound-background c = counts_are _ _ c.enum_told-in-YearRound-background-1.given.1 (own c.before.before.before.before c.before.before.enum_told-1.given.1)
+returns-in-YearRound-background c = counts_are _ _ c.in-YearRound-background.is (own c.before.before.before.before c.in-YearRound.is)
 
 pub returns-in-Peak-background : goal.returns-in-Peak-background
-returns-in-Peak-background c = counts_are _ _ c.enum_told-in-Peak-background-1.given.1 (own c.before.before.before.before c.before.before.enum_told-1.given.1)
+returns-in-Peak-background c = counts_are _ _ c.in-Peak-background.is (own c.before.before.before.before c.in-YearRound.is)
 
 pub returns-in-YearRound-background-2 : goal.returns-in-YearRound-background-2
-returns-in-YearRound-background-2 c = counts_are _ _ c.enum_told-in-YearRound-background-2-1.given.1 (own c.before.before.before.before c.before.before.enum_told-in-Peak-1.given.1)
+returns-in-YearRound-background-2 c = counts_are _ _ c.in-YearRound-background-2.is (own c.before.before.before.before c.in-Peak.is)
 
 pub returns-in-Peak-background-2 : goal.returns-in-Peak-background-2
-returns-in-Peak-background-2 c = counts_are _ _ c.enum_told-in-Peak-background-2-1.given.1 (own c.before.before.before.before c.before.before.enum_told-in-Peak-1.given.1)
+returns-in-Peak-background-2 c = counts_are _ _ c.in-Peak-background-2.is (own c.before.before.before.before c.in-Peak.is)

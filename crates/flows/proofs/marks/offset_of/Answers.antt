@@ -6,20 +6,18 @@ use Rattle.flows.proofs.marks.offset_of.Goals as goal
 
 pub returns-then-mark-eq0 : goal.returns-then-mark-eq0
 returns-then-mark-eq0 c =
-    let t = c.before in
-    back _ c.wider_offset.type-inv ∙ c.wider_offset.ensures ∙ wider_unmarked _ _ _ _ t.before.before.system-1.given.1 t.if-mark-eq0.true
+    back _ c.wider_offset.type_inv ∙ c.wider_offset.ensures ∙ wider_unmarked _ _ _ _ c.in-Wider.is c.if-mark-eq0.true
 
 pub returns-then-mark-ne0 : goal.returns-then-mark-ne0
 returns-then-mark-ne0 c =
-    let t = c.before.before in
-    let b = back t.args.heading.flow (omega (arith, c.before.struct_told-1.given)) in
-    back _ c.signed_length.type-inv ∙ simp b at c.signed_length.ensures ∙ local_marked _ _ _ _ t.before.enum_told-in-Local-1.given.1 t.if-mark-ne0.true
+    let b = back c.args.heading.flow (omega (arith, c.struct_told-1.given)) in
+    back _ c.signed_length.type_inv ∙ simp b at c.signed_length.ensures ∙ local_marked _ _ _ _ c.in-Local.is c.if-mark-ne0.true
 
 pub returns-in-Base : goal.returns-in-Base
-returns-in-Base c = base_none _ _ _ _ c.enum_told-1.given.1
+returns-in-Base c = base_none _ _ _ _ c.in-Base.is
 
 pub returns-else-mark-eq0 : goal.returns-else-mark-eq0
-returns-else-mark-eq0 c = wider_marked _ _ _ _ c.before.before.system-1.given.1 c.if-mark-eq0.false
+returns-else-mark-eq0 c = wider_marked _ _ _ _ c.in-Wider.is c.if-mark-eq0.false
 
 pub returns-else-mark-ne0 : goal.returns-else-mark-ne0
-returns-else-mark-ne0 c = local_unmarked _ _ _ _ c.before.enum_told-in-Local-1.given.1 c.if-mark-ne0.false
+returns-else-mark-ne0 c = local_unmarked _ _ _ _ c.in-Local.is c.if-mark-ne0.false

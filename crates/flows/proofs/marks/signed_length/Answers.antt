@@ -34,13 +34,13 @@ pub overflow_sub-result : goal.overflow_sub-result
 overflow_sub-result c = let d = c.before.before in simp (bn d) (turned_fits (1000000 * (s d).args.long) (omega arith))
 
 pub returns-in-Idle : goal.returns-in-Idle
-returns-in-Idle c = let d = c.before.before in idle_length _ _ (short d) (sym c.enum_told-1.given.1 ∙ directed d)
+returns-in-Idle c = let d = c.before.before in idle_length _ _ (short d) (sym c.in-Idle.is ∙ directed d)
 
 pub returns-in-Forward : goal.returns-in-Forward
-returns-in-Forward c = let d = c.before.before in bn d ∙ forward_length _ _ (short d) (sym c.enum_told-in-Forward-1.given.1 ∙ directed d)
+returns-in-Forward c = let d = c.before.before in bn d ∙ forward_length _ _ (short d) (sym c.in-Forward.is ∙ directed d)
 
 pub returns-in-Backward : goal.returns-in-Backward
-returns-in-Backward c = let d = c.before.before in simp (bn d, bt d) (backward_length _ _ (short d) (sym c.enum_told-in-Backward-1.given.1 ∙ directed d))
+returns-in-Backward c = let d = c.before.before in simp (bn d, bt d) (backward_length _ _ (short d) (sym c.in-Backward.is ∙ directed d))
 
 pub returns-in-InDoubt : goal.returns-in-InDoubt
-returns-in-InDoubt c = let d = c.before.before in doubtful_length _ _ (short d) (sym c.enum_told-in-InDoubt-1.given.1 ∙ directed d)
+returns-in-InDoubt c = let d = c.before.before in doubtful_length _ _ (short d) (sym c.in-InDoubt.is ∙ directed d)

@@ -8,7 +8,7 @@ bf : (s : Start) → Back s.args.flow
 bf s = fit_back s.ranges.flow
 
 pub returns-then-within : goal.returns-then-within
-returns-then-within c = let a = c.before in let s = a.before in simp (bf s) (carried_all _ (sym (simp (bf s) at a.within.ensures) ∙ c.if-within.true))
+returns-then-within c = let s = c.before in simp (bf s) (carried_all _ (sym (simp (bf s) at c.within.ensures) ∙ c.if-within.true))
 
 pub returns : goal.returns
-returns c = let a = c.before in let s = a.before in carried_none _ (sym (simp (bf s) at a.within.ensures) ∙ c.if-within.false)
+returns c = let s = c.before in carried_none _ (sym (simp (bf s) at c.within.ensures) ∙ c.if-within.false)

@@ -5,9 +5,6 @@ use Rattle.layout.proofs.trailer.counted.Goals as goal
 
 pub returns : goal.returns
 returns c =
-    let s = c.before in
-    let m = s.before in
-    let o = m.before.before.before in
-    counted_is _ _ _ _ _ _ _ o.count.ensures.0 o.before.before.count-nodes.ensures.0 o.before.count-circuits.ensures.0
-    (m.most_circuits.ensures ∙ ap₂ most_circuits m.before.before.edition.ensures m.before.version.ensures)
-    s.count-2.ensures.0 c.solved.ensures
+    counted_is _ _ _ _ _ _ _ c.count.ensures.0 c.count-nodes.ensures.0 c.count-circuits.ensures.0
+    (c.most_circuits.ensures ∙ ap₂ most_circuits c.edition.ensures c.version.ensures)
+    c.count-2.ensures.0 c.solved.ensures

@@ -4,8 +4,8 @@ use Rattle.meaning.specs.File.{most_circuits}
 use Rattle.layout.proofs.trailer.most_circuits.Goals as goal
 
 pub returns-in-First : goal.returns-in-First
-returns-in-First c = c.most_of_first.ensures ∙ sym (ap (λ (e : Edition). most_circuits e c.args.version) c.before.enum_told-1.given.1)
+returns-in-First c = c.most_of_first.ensures ∙ sym (ap (λ (e : Edition). most_circuits e c.args.version) c.in-First.is)
 
 pub returns-in-Second : goal.returns-in-Second
 unfolding most_circuits
-returns-in-Second c = sym (ap (λ (e : Edition). most_circuits e c.args.version) c.enum_told-in-Second-1.given.1)
+returns-in-Second c = sym (ap (λ (e : Edition). most_circuits e c.args.version) c.in-Second.is)

@@ -4,4 +4,4 @@ use Rattle.layout.proofs.trailer.offset.Goals as goal
 
 pub returns : goal.returns
 unfolding section_offset
-returns c = (c.u32_at.ensures.value ∙ ap (u32 c.args.file.now) c.before.entry.ensures.0, c.u32_at.ensures.below)
+returns c = (c.u32_at.ensures.value ∙ ap (u32 c.args.file.now) c.entry.ensures.0, c.u32_at.ensures.below)

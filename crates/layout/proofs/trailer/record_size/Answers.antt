@@ -14,7 +14,7 @@ UNMATCHED-returns-2 c = sym (ap (record_size c.args.version) c.in_default.keys2)
 
 pub UNMATCHED-returns-3 : goal.UNMATCHED-returns-3
 unfolding record_size
-UNMATCHED-returns-3 c = let m = c.before in c.circuit_size.ensures ∙ sym (ap (record_size m.args.version) m.in_default.keys3)
+UNMATCHED-returns-3 c = c.circuit_size.ensures ∙ sym (ap (record_size c.args.version) c.in_default.keys3)
 
 pub UNMATCHED-returns-4 : goal.UNMATCHED-returns-4
 unfolding record_size

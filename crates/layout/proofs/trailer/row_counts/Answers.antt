@@ -2,4 +2,4 @@ use Rattle.layout.proofs.Rows.{counts_study}
 use Rattle.layout.proofs.trailer.row_counts.Goals as goal
 
 pub returns : goal.returns
-returns c = counts_study _ _ _ _ c.before.before.count.ensures.0 c.before.count-2.ensures.0 c.count-3.ensures.0
+returns c = counts_study _ _ _ _ c.count.ensures.0 c.count-2.ensures.0 c.count-3.ensures.0

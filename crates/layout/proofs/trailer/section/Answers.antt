@@ -30,7 +30,5 @@ count-requires c = let p = c.requires in (omega (arith, (whole_file _ p.0).long)
 
 pub returns : goal.returns
 returns c =
-    let r = c.before in
-    let v = r.before in
-    let p = v.requires in
-    section_told _ _ _ _ _ p.0 p.1 v.before.offset.ensures.0 (rw v.version.ensures at r.record_size.ensures) c.count.ensures.0
+    let p = c.requires in
+    section_told _ _ _ _ _ p.0 p.1 c.offset.ensures.0 (rw c.version.ensures at c.record_size.ensures) c.count.ensures.0

@@ -7,7 +7,7 @@ pub loop-section-init : goal.loop-section-init
 loop-section-init c = solved_none
 
 pub loop-section-preserved : goal.loop-section-preserved
-loop-section-preserved c = let l = c.before.before in solved_on l.loop-section.invariant (omega (arith, l.before.sections-sections.ensures.0)) c.count.ensures.0
+loop-section-preserved c = solved_on c.loop-section.invariant (omega (arith, c.sections-sections.ensures.0)) c.count.ensures.0
 
 pub returns : goal.returns
-returns c = solved_is c.before.loop-section.invariant (omega (arith, c.before.before.sections-sections.ensures.0))
+returns c = solved_is c.loop-section.invariant (omega (arith, c.sections-sections.ensures.0))

@@ -41,17 +41,15 @@ overflow_add-at c = omega (arith, c.requires)
 pub put_natural-requires : goal.put_natural-requires
 put_natural-requires c =
     let t = c.before in
-    let s = t.before.before in
-    omega (arith, s.requires, ap length (text-below t), decimal_i64 s.args.z s.ranges.z)
+    omega (arith, t.requires, ap length (text-below t), decimal_i64 t.args.z t.ranges.z)
 
 pub returns-then-z-lt0 : goal.returns-then-z-lt0
 returns-then-z-lt0 c =
     let t = c.before.before in
-    let s = t.before.before in
-    let e : s.args.at + 2 ≡ s.args.at + 1 + 1 = omega arith in
+    let e : t.args.at + 2 ≡ t.args.at + 1 + 1 = omega arith in
     rw (text-below t)
-    (within (both (put_one _ s.args.at 32) (both (put_one _ (s.args.at + 1) 45) (rw e at c.put_natural.ensures)))
-    (omega (arith, decimal_i64 s.args.z s.ranges.z, ap length (text-below t))))
+    (within (both (put_one _ t.args.at 32) (both (put_one _ (t.args.at + 1) 45) (rw e at c.put_natural.ensures)))
+    (omega (arith, decimal_i64 t.args.z t.ranges.z, ap length (text-below t))))
 
 pub overflow_add-at-2 : goal.overflow_add-at-2
 overflow_add-at-2 c = omega (arith, c.requires)
@@ -59,13 +57,11 @@ overflow_add-at-2 c = omega (arith, c.requires)
 pub put_natural-requires-2 : goal.put_natural-requires-2
 put_natural-requires-2 c =
     let t = c.before in
-    let s = t.before.before in
-    omega (arith, s.requires, ap length (text-above t), decimal_i64 s.args.z s.ranges.z)
+    omega (arith, t.requires, ap length (text-above t), decimal_i64 t.args.z t.ranges.z)
 
 pub returns : goal.returns
 returns c =
     let t = c.before.before in
-    let s = t.before.before in
     rw (text-above t)
-    (within (both (put_one _ s.args.at 32) c.put_natural-2.ensures)
-    (omega (arith, decimal_i64 s.args.z s.ranges.z, ap length (text-above t))))
+    (within (both (put_one _ t.args.at 32) c.put_natural-2.ensures)
+    (omega (arith, decimal_i64 t.args.z t.ranges.z, ap length (text-above t))))

@@ -13,14 +13,11 @@ loop-i-init c = (omega arith, rows_start _ _ (spaced c.args.numbers.now))
 pub loop-i-preserved : goal.loop-i-preserved
 unfolding spaced
 loop-i-preserved c =
-    let r = c.before.before in
-    let l = r.before.before in
-    let next = rw (back _ r.z-1.given) at c.put_number-len.ensures in
-    (omega arith, longer (rows_more {w = 21} (spaced l.args.numbers.now) l.loop-i.i l.loop-i.invariant.1 next) (omega arith))
+    let next = rw (back _ c.z-1.given) at c.put_number-len.ensures in
+    (omega arith, longer (rows_more {w = 21} (spaced c.args.numbers.now) c.loop-i.i c.loop-i.invariant.1 next) (omega arith))
 
 pub returns : goal.returns
 returns c =
-    let l = c.before in
-    let zs = l.args.numbers.now in
-    let e : l.loop-i.i ≡ length zs = omega arith in
-    rw (ends_spaced zs) (both (rw e at l.loop-i.invariant.1) (put_one l.loop-i.bytes l.loop-i.len 10))
+    let zs = c.args.numbers.now in
+    let e : c.loop-i.i ≡ length zs = omega arith in
+    rw (ends_spaced zs) (both (rw e at c.loop-i.invariant.1) (put_one c.loop-i.bytes c.loop-i.len 10))

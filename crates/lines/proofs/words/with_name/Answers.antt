@@ -10,7 +10,7 @@ pub loop-i-init : goal.loop-i-init
 loop-i-init c = (omega arith, passed_none c.args.name.now, copy_none _ _)
 
 -- there is another byte
-more : (c : In-loop-i) → let l = c.before in (l.loop-i.i < 12) × (l.loop-i.i < length l.args.name.now)
+more : (c : In-loop-i) → (c.loop-i.i < 12) × (c.loop-i.i < length c.args.name.now)
 more c = (says_more _ _).0 c.loop-i-test.true
 
 pub bounds-name-i : goal.bounds-name-i
@@ -18,10 +18,8 @@ bounds-name-i c = omega (arith, more c.before)
 
 pub returns-then-byte-eq32 : goal.returns-then-byte-eq32
 returns-then-byte-eq32 c =
-    let g = c.before.before in
-    let l = g.before in
-    let m = more g in
-    rw (passed_space l.args.name.now l.loop-i.i l.loop-i.invariant.1 m.0 m.1 c.if-byte-eq32.true) (longer l.loop-i.invariant.2 l.loop-i.invariant.0)
+    let m = more c in
+    rw (passed_space c.args.name.now c.loop-i.i c.loop-i.invariant.1 m.0 m.1 c.if-byte-eq32.true) (longer c.loop-i.invariant.2 c.loop-i.invariant.0)
 
 pub bounds-bytes-at : goal.bounds-bytes-at
 bounds-bytes-at c = let g = c.before.before in omega (arith, more g)
@@ -31,13 +29,10 @@ loop-i-smaller c = omega (arith, more c.before.before)
 
 pub loop-i-preserved : goal.loop-i-preserved
 loop-i-preserved c =
-    let g = c.before.before in
-    let l = g.before in
-    let m = more g in
-    let n = l.args.name.now in
-    (omega (arith, m), passed_more n l.loop-i.i l.loop-i.invariant.1 m.0 m.1 c.if-byte-eq32.false, copy_more n l.loop-i.i m.1 l.loop-i.invariant.2)
+    let m = more c in
+    let n = c.args.name.now in
+    (omega (arith, m), passed_more n c.loop-i.i c.loop-i.invariant.1 m.0 m.1 c.if-byte-eq32.false, copy_more n c.loop-i.i m.1 c.loop-i.invariant.2)
 
 pub returns : goal.returns
 returns c =
-    let l = c.before in
-    rw (passed_end l.args.name.now l.loop-i.i l.loop-i.invariant.1 l.loop-i.invariant.0 c.loop-i-test.false) (longer l.loop-i.invariant.2 l.loop-i.invariant.0)
+    rw (passed_end c.args.name.now c.loop-i.i c.loop-i.invariant.1 c.loop-i.invariant.0 c.loop-i-test.false) (longer c.loop-i.invariant.2 c.loop-i.invariant.0)

@@ -9,11 +9,9 @@ loop-i-init c = (omega arith, copy_none _ _)
 
 pub loop-i-preserved : goal.loop-i-preserved
 loop-i-preserved c =
-    let l = c.before.before in
-    (omega arith, copy_more l.args.word.now l.loop-i.i (omega arith) l.loop-i.invariant.1)
+    (omega arith, copy_more c.args.word.now c.loop-i.i (omega arith) c.loop-i.invariant.1)
 
 pub returns : goal.returns
 returns c =
-    let l = c.before in
-    let w = l.args.word.now in
-    within (rw (take_all l.loop-i.i w (omega arith)) at l.loop-i.invariant.1) (omega arith)
+    let w = c.args.word.now in
+    within (rw (take_all c.loop-i.i w (omega arith)) at c.loop-i.invariant.1) (omega arith)

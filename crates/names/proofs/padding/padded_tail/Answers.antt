@@ -9,12 +9,10 @@ loop-i-init c = (omega arith, refl)
 
 pub loop-i-preserved : goal.loop-i-preserved
 loop-i-preserved c =
-    let l = c.before.before.before in
-    let a = l.args in
-    (omega arith, l.loop-i.invariant.1 ∙ left_on a.file.now a.at l.loop-i.i l.loop-i.good l.loop-i.named _ (omega arith) (omega arith) c.is_name_byte-named.ensures)
+    let a = c.args in
+    (omega arith, c.loop-i.invariant.1 ∙ left_on a.file.now a.at c.loop-i.i c.loop-i.good c.loop-i.named _ (omega arith) (omega arith) c.is_name_byte-named.ensures)
 
 pub returns : goal.returns
 returns c =
-    let l = c.before in
-    let a = l.args in
-    sym (l.loop-i.invariant.1 ∙ left_done a.file.now a.at l.loop-i.i l.loop-i.good l.loop-i.named (omega arith))
+    let a = c.args in
+    sym (c.loop-i.invariant.1 ∙ left_done a.file.now a.at c.loop-i.i c.loop-i.good c.loop-i.named (omega arith))

@@ -12,22 +12,21 @@ use Rattle.node_table.proofs.row.first_unsound.Goals.{After-sound_row}
 
 -- what the test tells of a row
 told : (c : After-sound_row)
-    → let l = c.before.before.before in
-    let a = l.args in sound_node_row a.settings (node_at a.file.now (row_at a.rows l.loop-i.i)) ≡ c.sound_row.result
-told c = sym (rw c.before.row_at.ensures at c.sound_row.ensures)
+    → let a = c.args in sound_node_row a.settings (node_at a.file.now (row_at a.rows c.loop-i.i)) ≡ c.sound_row.result
+told c = sym (rw c.row_at.ensures at c.sound_row.ensures)
 
 pub loop-i-init : goal.loop-i-init
 loop-i-init c = (omega arith, passed_zero _)
 
 pub sound_row-requires : goal.sound_row-requires
 sound_row-requires c =
-    omega (arith, c.row_at.ensures, row_low c.args.rows {i = c.before.before.loop-i.i} (omega arith) (omega arith) (omega arith))
+    omega (arith, c.row_at.ensures, row_low c.args.rows {i = c.loop-i.i} (omega arith) (omega arith) (omega arith))
 
 pub loop-i-preserved : goal.loop-i-preserved
-loop-i-preserved c = (omega arith, passed_more c.before.before.before.before.loop-i.invariant.1 (ap not (told c.before ∙ c.if-sound_row.true)))
+loop-i-preserved c = (omega arith, passed_more c.loop-i.invariant.1 (ap not (told c.before ∙ c.if-sound_row.true)))
 
 pub returns-else-sound_row : goal.returns-else-sound_row
-returns-else-sound_row c = first_stops c.before.before.before.before.loop-i.invariant.1 (omega arith) (ap not (told c.before ∙ c.if-sound_row.false))
+returns-else-sound_row c = first_stops c.loop-i.invariant.1 (omega arith) (ap not (told c.before ∙ c.if-sound_row.false))
 
 pub returns : goal.returns
-returns c = first_ends c.before.loop-i.invariant.1 (omega arith)
+returns c = first_ends c.loop-i.invariant.1 (omega arith)

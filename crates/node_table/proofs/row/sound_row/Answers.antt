@@ -5,4 +5,4 @@ use Rattle.node_table.proofs.row.sound_row.Goals as goal
 
 pub returns : goal.returns
 unfolding sound_node_row node_at
-returns c = rw (c.at_most.ensures, c.before.between-2.ensures, c.before.before.between.ensures, c.before.before.before.name_formed.ensures) refl
+returns c = rw (c.at_most.ensures, c.between-2.ensures, c.between.ensures, c.name_formed.ensures) refl

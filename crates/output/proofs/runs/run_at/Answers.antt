@@ -13,18 +13,17 @@ pub offset_bounds-all-i : goal.offset_bounds-all-i
 offset_bounds-all-i c = omega arith
 
 pub bounds-all-i : goal.bounds-all-i
-bounds-all-i c = let t = c.before.before in (filling_on t.before.before.loop-i.invariant t.loop-i-test.true).1
+bounds-all-i c = (filling_on c.loop-i.invariant c.loop-i-test.true).1
 
 pub overflow_add-i : goal.overflow_add-i
 overflow_add-i c = omega arith
 
 pub loop-i-smaller : goal.loop-i-smaller
-loop-i-smaller c = let t = c.before.before in omega (arith, (filling_on t.before.before.loop-i.invariant t.loop-i-test.true).1)
+loop-i-smaller c = omega (arith, (filling_on c.loop-i.invariant c.loop-i-test.true).1)
 
 pub loop-i-preserved : goal.loop-i-preserved
 loop-i-preserved c =
-    let t = c.before.before in
-    filling_more t.before.before.loop-i.invariant t.loop-i-test.true (back _ c.i64_at.type-inv ∙ rw c.before.row_at.ensures at c.i64_at.ensures)
+    filling_more c.loop-i.invariant c.loop-i-test.true (back _ c.i64_at.type_inv ∙ rw c.row_at.ensures at c.i64_at.ensures)
 
 pub returns : goal.returns
-returns c = filling_done c.before.before.loop-i.invariant c.loop-i-test.false
+returns c = filling_done c.loop-i.invariant c.loop-i-test.false

@@ -13,17 +13,15 @@ use Rattle.output.proofs.runs.run_of.Goals.{After-section-rows}
 
 few : (s : After-section-rows) → s.section-rows.result.count ≤ 768
 few s =
-    let a = s.before.before in
-    let e : a.args.section ≡ 4 + (a.args.section - 4) = omega (arith, a.requires) in
-    solution_few a.args.file.now (a.args.section - 4) (s.section-rows.ensures ∙ ap (section_in a.args.file.now) e)
+    let e : s.args.section ≡ 4 + (s.args.section - 4) = omega (arith, s.requires) in
+    solution_few s.args.file.now (s.args.section - 4) (s.section-rows.ensures ∙ ap (section_in s.args.file.now) e)
 
 pub returns : goal.returns
 returns c =
-    let r = c.before in
-    let s = r.before in
+    let s = c.before in
     let file = s.args.file.now in
     record {
-      numbers = cut_table file s.section-rows.result (few s) r.run_at.ensures ∙ ap (table (i64 file)) s.section-rows.ensures;
-      room = rw r.run_at.ensures (column_length (pos 0) 768 _ _);
+      numbers = cut_table file s.section-rows.result (few s) c.run_at.ensures ∙ ap (table (i64 file)) s.section-rows.ensures;
+      room = rw c.run_at.ensures (column_length (pos 0) 768 _ _);
       inside = few s;
     }

@@ -4,4 +4,4 @@ use Rattle.plants.proofs.kind.same.Goals as goal
 
 pub returns : goal.returns
 unfolding same_plant
-returns c = rw (c.before.number.ensures, c.number-2.ensures) refl
+returns c = rw (c.number.ensures, c.number-2.ensures) refl

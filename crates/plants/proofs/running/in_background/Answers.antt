@@ -5,7 +5,7 @@ use Rattle.meaning.specs.Generation.{runs_as}
 use Rattle.plants.proofs.running.in_background.Goals as goal
 
 pub returns-in-YearRound : goal.returns-in-YearRound
-returns-in-YearRound c = c.year_round.ensures ∙ sym (ap (λ (b : Background). runs_as Second b c.args.plant) c.before.enum_told-1.given.1)
+returns-in-YearRound c = c.year_round.ensures ∙ sym (ap (λ (b : Background). runs_as Second b c.args.plant) c.in-YearRound.is)
 
 pub returns-in-Peak : goal.returns-in-Peak
-returns-in-Peak c = c.runs.ensures ∙ sym (ap (λ (b : Background). runs_as Second b c.args.plant) c.before.enum_told-in-Peak-1.given.1)
+returns-in-Peak c = c.runs.ensures ∙ sym (ap (λ (b : Background). runs_as Second b c.args.plant) c.in-Peak.is)

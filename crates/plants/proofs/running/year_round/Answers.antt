@@ -6,28 +6,28 @@ use Rattle.plants.proofs.running.year_round.Goals as goal
 
 pub returns-in-Intermittent : goal.returns-in-Intermittent
 unfolding runs_as
-returns-in-Intermittent c = sym (ap (runs_as Second YearRound) c.enum_told-1.given.1)
+returns-in-Intermittent c = sym (ap (runs_as Second YearRound) c.in-Intermittent.is)
 
 pub returns-in-NuclearAndCcs : goal.returns-in-NuclearAndCcs
 unfolding runs_as
-returns-in-NuclearAndCcs c = sym (ap (runs_as Second YearRound) c.enum_told-in-NuclearAndCcs-1.given.1)
+returns-in-NuclearAndCcs c = sym (ap (runs_as Second YearRound) c.in-NuclearAndCcs.is)
 
 pub returns-in-Interconnector : goal.returns-in-Interconnector
 unfolding runs_as
-returns-in-Interconnector c = sym (ap (runs_as Second YearRound) c.enum_told-in-Interconnector-1.given.1)
+returns-in-Interconnector c = sym (ap (runs_as Second YearRound) c.in-Interconnector.is)
 
 pub returns-in-Hydro : goal.returns-in-Hydro
 unfolding runs_as
-returns-in-Hydro c = sym (ap (runs_as Second YearRound) c.enum_told-in-Hydro-1.given.1)
+returns-in-Hydro c = sym (ap (runs_as Second YearRound) c.in-Hydro.is)
 
 pub returns-in-PumpedStorage : goal.returns-in-PumpedStorage
 unfolding runs_as
-returns-in-PumpedStorage c = sym (ap (runs_as Second YearRound) c.enum_told-in-PumpedStorage-1.given.1)
+returns-in-PumpedStorage c = sym (ap (runs_as Second YearRound) c.in-PumpedStorage.is)
 
 pub returns-in-Peaking : goal.returns-in-Peaking
 unfolding runs_as
-returns-in-Peaking c = sym (ap (runs_as Second YearRound) c.enum_told-in-Peaking-1.given.1)
+returns-in-Peaking c = sym (ap (runs_as Second YearRound) c.in-Peaking.is)
 
 pub returns-in-Other : goal.returns-in-Other
 unfolding runs_as
-returns-in-Other c = sym (ap (runs_as Second YearRound) c.enum_told-in-Other-1.given.1)
+returns-in-Other c = sym (ap (runs_as Second YearRound) c.in-Other.is)

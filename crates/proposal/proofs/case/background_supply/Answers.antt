@@ -4,4 +4,4 @@ use Rattle.proposal.proofs.case.background_supply.Goals as goal
 
 pub returns : goal.returns
 unfolding background_supply
-returns c = c.base_supply.ensures ∙ rw (c.before.before.by_node-fixed.ensures, c.before.by_node-variable.ensures) refl
+returns c = c.base_supply.ensures ∙ rw (c.by_node-fixed.ensures, c.by_node-variable.ensures) refl

@@ -4,4 +4,4 @@ use Rattle.proposal.proofs.case.case_of.Goals as goal
 
 pub returns : goal.returns
 unfolding case_of
-returns c = rw (c.before.before.background_supply-supply.ensures, c.before.peak_supply-peak_supply.ensures) refl
+returns c = rw (c.background_supply-supply.ensures, c.peak_supply-peak_supply.ensures) refl

@@ -31,14 +31,14 @@ module _ (c : After-first_in_doubt-row) where
 pub returns-then-row-lt512 : goal.returns-then-row-lt512
 returns-then-row-lt512 c =
     let d = c.before.before.before in
-    passes-first _ refl (p d).enum_told-1.given.1
+    passes-first _ refl (p d).in-Passes.is
     (row_told (test d) 512 _ (headings d) _ c.background_of-background.ensures (row_below (test d) 512 512 _ (omega arith) d.first_in_doubt-row.ensures (omega arith)))
 
 pub returns-in-Stops : goal.returns-in-Stops
-returns-in-Stops c = stops_first _ refl c.before.earlier-1.given.1
+returns-in-Stops c = stops_first _ refl c.in-Stops.is
 
 pub returns-else-row-lt512 : goal.returns-else-row-lt512
 returns-else-row-lt512 c =
     let d = c.before in
-    passes-first _ refl (p d).enum_told-1.given.1
+    passes-first _ refl (p d).in-Passes.is
     (row_passes (test d) 512 (cause d) (row_beyond (test d) 512 512 _ (omega arith) d.first_in_doubt-row.ensures (omega arith)))

@@ -29,7 +29,7 @@ module _ (c : After-first_out_of_range-row) where
   s8 = c.before.before
 
   number : c.first_out_of_range-row.result ≡ row_of (failing (numbers (net s8) (offered s8)) (count (net s8))) (count (net s8))
-  number = number_row (net s8) (offered s8) _ _ _ s8.pre.based.long c.before.limit_of.ensures c.first_out_of_range-row.ensures
+  number = number_row (net s8) (offered s8) _ _ _ s8.requires.based.long c.limit_of.ensures c.first_out_of_range-row.ensures
 
 module _ (c : Else-row-run) where
   abbrev s9 : Start
@@ -43,13 +43,13 @@ module _ (c : Else-row-run) where
 
   lows : misses_low s9.args.n s9.args.first.now s9.args.second.now s9.args.x.now s9.args.offset.now s9.args.run.now ≡ low (net s9) (offered s9)
   lows =
-      let any = numbers_small (net s9) (limit_of s9.args.system) s9.args.run.now (limit_small s9.args.system) in_range_lem.1 s9.pre.based.long in
+      let any = numbers_small (net s9) (limit_of s9.args.system) s9.args.run.now (limit_small s9.args.system) in_range_lem.1 s9.requires.based.long in
       misses_are s9.args.n s9.args.reference s9.args.first.now s9.args.second.now s9.args.x.now s9.args.offset.now s9.args.run.now (λ c h. record {
         from = any _;
         to = any _;
-        times = s9.pre.x_small c h;
+        times = s9.requires.x_small c h;
         carries = flows_small (net s9) (limit_of s9.args.system) s9.args.run.now (limit_small s9.args.system) in_range_lem.1 c h;
-        less = s9.pre.offset_small c h;
+        less = s9.requires.offset_small c h;
       })
 
 module _ (c : After-first_apart-node) where
@@ -57,10 +57,10 @@ module _ (c : After-first_apart-node) where
   s = s9 c.before.before
 
   node : c.first_apart-node.result < s.args.n → failing (nodes (net s) (offered s)) s.args.n ≡ some c.first_apart-node.result
-  node = node_found (net s) (offered s) _ _ s.args.supply s.pre.based.nodes refl (c.before.net_flows.ensures ∙ nets c.before.before) c.first_apart-node.ensures
+  node = node_found (net s) (offered s) _ _ s.args.supply s.requires.based.nodes refl (c.net_flows.ensures ∙ nets c.before.before) c.first_apart-node.ensures
 
   even : s.args.n ≤ c.first_apart-node.result → failing (nodes (net s) (offered s)) s.args.n ≡ none
-  even = nodes_even (net s) (offered s) _ _ s.args.supply s.pre.based.nodes refl (c.before.net_flows.ensures ∙ nets c.before.before) c.first_apart-node.ensures
+  even = nodes_even (net s) (offered s) _ _ s.args.supply s.requires.based.nodes refl (c.net_flows.ensures ∙ nets c.before.before) c.first_apart-node.ensures
 
 abbrev s10 : Else-node-n → Start
 s10 c = s c.before
@@ -82,9 +82,9 @@ misses_low-requires c = tt
 pub returns-then-misses_low : goal.returns-then-misses_low
 returns-then-misses_low c =
     let d = c.before.before in
-    passes_all (net (s10 d)) (offered (s10 d)) (in_range_lem d.before.before.before).0 (even d.before d.if-node-n.false) (sym (lows d.before.before.before) ∙ sym c.before.misses_low.ensures ∙ c.if-misses_low.true)
+    passes_all (net (s10 d)) (offered (s10 d)) (in_range_lem d.before.before.before).0 (even d.before d.if-node-n.false) (sym (lows d.before.before.before) ∙ sym c.misses_low.ensures ∙ c.if-misses_low.true)
 
 pub returns : goal.returns
 returns c =
     let d = c.before.before in
-    stops_misses (net (s10 d)) (offered (s10 d)) (in_range_lem d.before.before.before).0 (even d.before d.if-node-n.false) (sym (lows d.before.before.before) ∙ sym c.before.misses_low.ensures ∙ c.if-misses_low.false)
+    stops_misses (net (s10 d)) (offered (s10 d)) (in_range_lem d.before.before.before).0 (even d.before d.if-node-n.false) (sym (lows d.before.before.before) ∙ sym c.misses_low.ensures ∙ c.if-misses_low.false)

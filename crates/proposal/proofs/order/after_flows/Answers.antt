@@ -26,9 +26,5 @@ of_distances-requires c = c.requires Local tt
 
 pub returns : goal.returns
 returns c =
-    let p = c.before in
-    let w = p.before in
-    let d = w.before in
-    let b = d.before.before.before in
     c.of_distances.ensures
-    ∙ rw (p.of_peak_distances-of_peak_wider.ensures, w.of_distances-of_wider.ensures, d.directions-of_directions.ensures, b.backgrounds-of_backgrounds.ensures, b.before.before.before.headings-headings.ensures) (one_by_one _ _ _ _ _)
+    ∙ rw (c.of_peak_distances-of_peak_wider.ensures, c.of_distances-of_wider.ensures, c.directions-of_directions.ensures, c.backgrounds-of_backgrounds.ensures, c.headings-headings.ensures) (one_by_one _ _ _ _ _)

@@ -16,13 +16,9 @@ of_peak_flows-of_peak_base-requires c = λ e. c.requires (Base Peak) (of_peak e)
 pub returns-in-Stops : goal.returns-in-Stops
 unfolding offset_in
 returns-in-Stops c =
-    let s = c.before in
-    let f = s.before.before in
-    stops_first _ (f.of_peak_flows-of_peak_base.ensures ∙ flows_first _ _ _ f.before.of_flows-of_base.ensures) s.of_peak_base-1.given.1 ∙ in_two_parts _ _ _ _
+    stops_first _ (c.of_peak_flows-of_peak_base.ensures ∙ flows_first _ _ _ c.of_flows-of_base.ensures) c.in-Stops.is ∙ in_two_parts _ _ _ _
 
 pub returns-in-Passes : goal.returns-in-Passes
 unfolding offset_in
 returns-in-Passes c =
-    let t = c.before in
-    let f = t.before.before in
-    passes-first _ (f.of_peak_flows-of_peak_base.ensures ∙ flows_first _ _ _ f.before.of_flows-of_base.ensures) t.enum_told-1.given.1 c.After-Flows.ensures ∙ in_two_parts _ _ _ _
+    passes-first _ (c.of_peak_flows-of_peak_base.ensures ∙ flows_first _ _ _ c.of_flows-of_base.ensures) c.in-Passes.is c.After-Flows.ensures ∙ in_two_parts _ _ _ _

@@ -5,19 +5,12 @@ use Rattle.proposal.proofs.solution.of_distances.Goals as goal
 
 pub judge_system-requires : goal.judge_system-requires
 judge_system-requires c =
-    let o = c.before.before.before.before.before in
-    let i = o.before.before.before.before in
-    let s = i.before.before.before.before.before in
-    ready _ _ _ _ _ _ s.requires i.in_system-supply.ensures o.offsets-offset.ensures
+    ready _ _ _ _ _ _ c.requires c.in_system-supply.ensures c.offsets-offset.ensures
 
 pub returns-in-Stops : goal.returns-in-Stops
-returns-in-Stops c = stops_first _ refl c.before.earlier-1.given.1
+returns-in-Stops c = stops_first _ refl c.in-Stops.is
 
 pub returns-in-Passes : goal.returns-in-Passes
 returns-in-Passes c =
-    let o = c.before.before.before.before.before.before in
-    let i = o.before.before.before.before in
-    let p = i.before.before.before in
-    let s = p.before.before in
-    passes-first _ refl p.enum_told-1.given.1
-    (c.judge_system.ensures ∙ judged_as _ _ _ _ _ _ s.requires i.in_system-supply.ensures o.offsets-offset.ensures)
+    passes-first _ refl c.in-Passes.is
+    (c.judge_system.ensures ∙ judged_as _ _ _ _ _ _ c.requires c.in_system-supply.ensures c.offsets-offset.ensures)

@@ -23,16 +23,16 @@ module _ (s : Start) where
   bz = fit_back s.ranges.z
 
   bd : to_z w64 d ≡ pos d
-  bd = of_nat d (omega (arith, s.pre.most))
+  bd = of_nat d (omega (arith, s.requires.most))
 
   bp : Back (floor_div z d *ℤ pos d)
-  bp = fit_back (product_fits z d s.pre)
+  bp = fit_back (product_fits z d s.requires)
 
   bl : Back (z -ℤ floor_div z d *ℤ pos d)
-  bl = fit_back (left_fits z d s.pre)
+  bl = fit_back (left_fits z d s.requires)
 
 called : (c : After-floor_div-each) → to_z w64 (of_z w64 c.floor_div-each.result) ≡ floor_div (z c.before) (d c.before)
-called c = back _ c.floor_div-each.type-inv ∙ simp bz at c.floor_div-each.ensures
+called c = back _ c.floor_div-each.type_inv ∙ simp bz at c.floor_div-each.ensures
 
 ruleset E = (bz, bd, bp, bl, called)
 

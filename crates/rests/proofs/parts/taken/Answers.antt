@@ -38,25 +38,25 @@ module _ (s : Start) where
 
   -- bounds
   hh : nat_abs high ≤ 1000000
-  hh = high_within s.args.each s.args.over s.args.payers s.args.tariff s.args.kw s.pre
+  hh = high_within s.args.each s.args.over s.args.payers s.args.tariff s.args.kw s.requires
 
   hl : low < 1000000
-  hl = low_within s.args.each s.args.over s.args.payers s.args.tariff s.args.kw s.pre
+  hl = low_within s.args.each s.args.over s.args.payers s.args.tariff s.args.kw s.requires
 
   hs : nat_abs (high *ℤ pos s.args.kw) ≤ 1000000 * s.args.payers
-  hs = share_within s.args.each s.args.over s.args.payers s.args.tariff s.args.kw s.pre
+  hs = share_within s.args.each s.args.over s.args.payers s.args.tariff s.args.kw s.requires
 
   hw : nat_abs whole ≤ 1000000
-  hw = whole_within s.args.each s.args.over s.args.payers s.args.tariff s.args.kw s.pre
+  hw = whole_within s.args.each s.args.over s.args.payers s.args.tariff s.args.kw s.requires
 
   hp : part < s.args.payers
-  hp = part_within s.args.each s.args.over s.args.payers s.args.tariff s.args.kw s.pre
+  hp = part_within s.args.each s.args.over s.args.payers s.args.tariff s.args.kw s.requires
 
   hk : low * s.args.kw ≤ 100000000000000
-  hk = low_kw s.args.each s.args.over s.args.payers s.args.tariff s.args.kw s.pre
+  hk = low_kw s.args.each s.args.over s.args.payers s.args.tariff s.args.kw s.requires
 
   hm : nat_abs more ≤ 200000100000000
-  hm = more_within s.args.each s.args.over s.args.payers s.args.tariff s.args.kw s.pre
+  hm = more_within s.args.each s.args.over s.args.payers s.args.tariff s.args.kw s.requires
 
   -- what is read back
   bt : Back s.args.tariff
@@ -66,25 +66,25 @@ module _ (s : Start) where
   be = fit_back s.ranges.each
 
   bk : to_z w64 s.args.kw ≡ pos s.args.kw
-  bk = of_nat s.args.kw (omega (arith, s.pre.part, s.pre.most))
+  bk = of_nat s.args.kw (omega (arith, s.requires.part, s.requires.most))
 
   bo : to_z w64 s.args.over ≡ pos s.args.over
-  bo = of_nat s.args.over (omega (arith, s.pre.below, s.pre.most))
+  bo = of_nat s.args.over (omega (arith, s.requires.below, s.requires.most))
 
   fs : SFits w64 (high *ℤ pos s.args.kw)
-  fs = sfits_abs _ (omega (arith, hs, s.pre.most))
+  fs = sfits_abs _ (omega (arith, hs, s.requires.most))
 
   bs : Back (high *ℤ pos s.args.kw)
   bs = fit_back fs
 
   fp : SFits w64 (pos part *ℤ pos 1000000)
-  fp = simp Z (omega (arith, hp, s.pre.most))
+  fp = simp Z (omega (arith, hp, s.requires.most))
 
   bp : Back (pos part *ℤ pos 1000000)
   bp = fit_back fp
 
   fq : SFits w64 (pos s.args.over -ℤ pos part *ℤ pos 1000000)
-  fq = simp Z (omega (arith, hp, s.pre.most, s.pre.below))
+  fq = simp Z (omega (arith, hp, s.requires.most, s.requires.below))
 
   bq : Back (pos s.args.over -ℤ pos part *ℤ pos 1000000)
   bq = fit_back fq
@@ -96,7 +96,7 @@ module _ (s : Start) where
   bl = fit_back fl
 
   fz : SFits w64 last
-  fz = sfits_abs last (omega (arith, last_within s.args.each s.args.over s.args.payers s.args.tariff s.args.kw s.pre))
+  fz = sfits_abs last (omega (arith, last_within s.args.each s.args.over s.args.payers s.args.tariff s.args.kw s.requires))
 
   bz : Back last
   bz = fit_back fz
@@ -108,13 +108,13 @@ module _ (s : Start) where
   bw = fit_back fw
 
   fd : SFits w64 (s.args.each -ℤ whole *ℤ pos 1000000)
-  fd = simp Z (omega (arith, simp Z at hw, simp Z at s.pre.near))
+  fd = simp Z (omega (arith, simp Z at hw, simp Z at s.requires.near))
 
   bd : Back (s.args.each -ℤ whole *ℤ pos 1000000)
   bd = fit_back fd
 
   fe : SFits w64 (s.args.each -ℤ whole *ℤ pos 1000000 +ℤ more)
-  fe = simp Z (omega (arith, simp Z at hw, simp Z at hm, simp Z at s.pre.near))
+  fe = simp Z (omega (arith, simp Z at hw, simp Z at hm, simp Z at s.requires.near))
 
   bf : Back (s.args.each -ℤ whole *ℤ pos 1000000 +ℤ more)
   bf = fit_back fe
@@ -173,7 +173,7 @@ module _ (c : After-divided-share) where
   bwhole = read (each_of _ _ _ second) (sfits_abs _ (omega (arith, hw s2)))
 
   bpart : to_z w64 c.divided-share.result.over ≡ pos (part s2)
-  bpart = read-nat ep (omega (arith, hp s2, s2.pre.most))
+  bpart = read-nat ep (omega (arith, hp s2, s2.requires.most))
 
 pub overflow_cast-part : goal.overflow_cast-part
 overflow_cast-part c = let d = c.before.before in rw (ep d) (simp Z (omega (arith, hp (s2 d), (s2 d).requires.most)))
@@ -191,7 +191,7 @@ pub overflow_sub-over-2 : goal.overflow_sub-over-2
 overflow_sub-over-2 c = simp (bpart, bo, bp, bq, bv, bk, bl) (fz (s2 c.before.before))
 
 pub divided-last-requires : goal.divided-last-requires
-divided-last-requires c = simp (bpart, bo, bp, bq, bv, bk, bl, bz) (last_divides _ _ _ _ _ (s2 c.before.before).pre)
+divided-last-requires c = simp (bpart, bo, bp, bq, bv, bk, bl, bz) (last_divides _ _ _ _ _ (s2 c.before.before).requires)
 
 module _ (c : After-divided-last) where
   abbrev s3 : Start
@@ -216,4 +216,4 @@ pub overflow_add-result : goal.overflow_add-result
 overflow_add-result c = simp (bwhole, be, bw, bd, bmore) (fe (s3 c.before))
 
 pub returns : goal.returns
-returns c = simp (bwhole, be, bw, bd, bmore, bf, eo) (taken_rest _ _ _ _ _ (s3 c.before).pre)
+returns c = simp (bwhole, be, bw, bd, bmore, bf, eo) (taken_rest _ _ _ _ _ (s3 c.before).requires)

@@ -7,5 +7,4 @@ use Rattle.station_table.proofs.row.sound_row.Goals as goal
 pub returns : goal.returns
 unfolding sound_station_row station_at
 returns c =
-    let s = c.before.before.before.before.before in
-    rw (c.at_most.ensures, c.before.between.ensures, c.before.before.name_formed-2.ensures, c.before.before.before.name_formed.ensures, s.requires.node, s.requires.nodes, known_place) refl
+    rw (c.at_most.ensures, c.between.ensures, c.name_formed-2.ensures, c.name_formed.ensures, c.requires.node, c.requires.nodes, known_place) refl

@@ -4,10 +4,10 @@ use Rattle.station_table.proofs.StationLaws.{station_unsound, station_repeated, 
 use Rattle.station_table.proofs.row.stage.Goals as goal
 
 pub returns-then-unsound-repeated : goal.returns-then-unsound-repeated
-returns-then-unsound-repeated c = let p = c.before.before in station_unsound _ p.requires p.first_unsound-unsound.ensures (first_lowest c.before.repeated-repeated.ensures) (omega arith)
+returns-then-unsound-repeated c = station_unsound _ c.requires c.first_unsound-unsound.ensures (first_lowest c.repeated-repeated.ensures) (omega arith)
 
 pub returns-then-repeated-count : goal.returns-then-repeated-count
-returns-then-repeated-count c = let p = c.before.before.before in station_repeated _ p.requires p.first_unsound-unsound.ensures (first_lowest c.before.before.repeated-repeated.ensures) (omega arith) (omega arith)
+returns-then-repeated-count c = station_repeated _ c.requires c.first_unsound-unsound.ensures (first_lowest c.repeated-repeated.ensures) (omega arith) (omega arith)
 
 pub returns : goal.returns
-returns c = let p = c.before.before.before in stations_sound _ p.requires p.first_unsound-unsound.ensures (first_lowest c.before.before.repeated-repeated.ensures) (omega arith) (omega arith)
+returns c = stations_sound _ c.requires c.first_unsound-unsound.ensures (first_lowest c.repeated-repeated.ensures) (omega arith) (omega arith)

@@ -38,9 +38,7 @@ bounds-sums-cell c = omega arith
 
 pub overflow_add-sums : goal.overflow_add-sums
 overflow_add-sums c =
-    let l = c.before.before.before.before.before in
-    let a = l.before.before in
-    omega (arith, cells_fit _ _ _ _ l.loop-k.k c.before.cell_of-cell.result l.loop-k.invariant.1 a.requires.2 (omega arith) (omega arith))
+    omega (arith, cells_fit _ _ _ _ c.loop-k.k c.cell_of-cell.result c.loop-k.invariant.1 c.requires.2 (omega arith) (omega arith))
 
 pub bounds-sums-cell-then-cell-lt1792 : goal.bounds-sums-cell-then-cell-lt1792
 bounds-sums-cell-then-cell-lt1792 c = omega arith
@@ -50,16 +48,14 @@ loop-k-smaller-then-cell-lt1792 c = omega arith
 
 pub loop-k-preserved-then-cell-lt1792 : goal.loop-k-preserved-then-cell-lt1792
 loop-k-preserved-then-cell-lt1792 c =
-    let l = c.before.before.before.before.before.before in
-    (omega arith, cells_more _ _ _ _ l.loop-k.k _ l.loop-k.invariant.1 c.before.before.cell_of-cell.ensures (omega arith))
+    (omega arith, cells_more _ _ _ _ c.loop-k.k _ c.loop-k.invariant.1 c.cell_of-cell.ensures (omega arith))
 
 pub loop-k-smaller : goal.loop-k-smaller
 loop-k-smaller c = omega arith
 
 pub loop-k-preserved : goal.loop-k-preserved
 loop-k-preserved c =
-    let l = c.before.before.before.before.before in
-    (omega arith, cells_past _ _ _ _ l.loop-k.k _ l.loop-k.invariant.1 c.before.cell_of-cell.ensures (omega arith))
+    (omega arith, cells_past _ _ _ _ c.loop-k.k _ c.loop-k.invariant.1 c.cell_of-cell.ensures (omega arith))
 
 pub returns : goal.returns
-returns c = cells_done _ _ _ _ c.before.loop-k.k 0 c.before.loop-k.invariant.1 _ (omega arith) (omega arith)
+returns c = cells_done _ _ _ _ c.loop-k.k 0 c.loop-k.invariant.1 _ (omega arith) (omega arith)

@@ -23,11 +23,11 @@ overflow_add-result-6 c = omega arith
 pub returns : goal.returns
 returns c =
     let a = c.args in
-    seven a.counted a.t2 _ _ _ _ _ _ _
-    c.before.before.before.before.before.before.before.before.before.before.before.before.part-intermittent.ensures.value
-    c.before.before.before.before.before.before.before.before.before.before.part-nuclear.ensures.value
-    c.before.before.before.before.before.before.before.before.part-links.ensures.value
-    c.before.before.before.before.before.before.part-hydro.ensures.value
-    c.before.before.before.before.part-pumped.ensures.value
-    c.before.before.part-peaking.ensures.value
+    seven a.counted a.types _ _ _ _ _ _ _
+    c.part-intermittent.ensures.value
+    c.part-nuclear.ensures.value
+    c.part-links.ensures.value
+    c.part-hydro.ensures.value
+    c.part-pumped.ensures.value
+    c.part-peaking.ensures.value
     c.part-other.ensures.value

@@ -30,8 +30,7 @@ bounds-demand-v c = omega arith
 
 pub net_supply-requires : goal.net_supply-requires
 net_supply-requires c =
-    let s = c.before.before.before.before.before in
-    (s.requires.1.each _ (omega arith), s.requires.2.each _ (omega arith), s.requires.3.each _ (omega arith))
+    (c.requires.1.each _ (omega arith), c.requires.2.each _ (omega arith), c.requires.3.each _ (omega arith))
 
 pub offset_bounds-supply-v : goal.offset_bounds-supply-v
 offset_bounds-supply-v c = omega arith
@@ -47,10 +46,9 @@ loop-v-smaller c = omega arith
 
 pub loop-v-preserved : goal.loop-v-preserved
 loop-v-preserved c =
-    let l = c.before.before.before.before.before in
-    (omega arith, column_turn (pos 0) 256 _ l.loop-v.v (omega arith) l.loop-v.invariant.1 (back _ c.net_supply.type-inv ∙ c.net_supply.ensures))
+    (omega arith, column_turn (pos 0) 256 _ c.loop-v.v (omega arith) c.loop-v.invariant.1 (back _ c.net_supply.type_inv ∙ c.net_supply.ensures))
 
 pub returns : goal.returns
 returns c =
-    let e : c.before.loop-v.v ≡ c.args.n = omega arith in
-    rw e at c.before.loop-v.invariant.1
+    let e : c.loop-v.v ≡ c.args.n = omega arith in
+    rw e at c.loop-v.invariant.1

@@ -11,7 +11,7 @@ use Rattle.supply.proofs.scaled.missing_kw.Goals.{After-share-missing, At-loop-v
 pub loop-v-init : goal.loop-v-init
 loop-v-init c =
     let a = c.args in
-    (omega arith, omega (arith, sum-zero (whole_share a.n (kw_at a.t2) a.demand.0)))
+    (omega arith, omega (arith, sum-zero (whole_share a.n (kw_at a.tec) a.demand.0)))
 
 pub offset_bounds-tec-v : goal.offset_bounds-tec-v
 offset_bounds-tec-v c = omega arith
@@ -25,16 +25,16 @@ module _ (c : After-share-missing) where
   l = c.before.before.before
 
   abbrev share : ℕ → ℕ
-  share = let a = l.args in whole_share a.n (kw_at a.t2) a.demand.0
+  share = let a = l.args in whole_share a.n (kw_at a.tec) a.demand.0
 
   answered : c.share-missing.result.0 ≡ share l.loop-v.v
-  answered = c.share-missing.ensures ∙ share_is _ _ _ _ l.before.pre l.loop-v.v
+  answered = c.share-missing.ensures ∙ share_is _ _ _ _ l.requires l.loop-v.v
 
   holds : share l.loop-v.v ≤ l.loop-v.missing
-  holds = missing_holds _ _ _ _ l.before.pre l.loop-v.missing l.loop-v.v l.loop-v.inv.1 (omega arith)
+  holds = missing_holds _ _ _ _ l.requires l.loop-v.missing l.loop-v.v l.loop-v.invariant.1 (omega arith)
 
 pub share-missing-requires : goal.share-missing-requires
-share-missing-requires c = let s = c.before.before.before in (tec_small _ _ _ _ s.requires _ (omega arith), omega arith, omega arith)
+share-missing-requires c = (tec_small _ _ _ _ c.requires _ (omega arith), omega arith, omega arith)
 
 pub overflow_sub-missing : goal.overflow_sub-missing
 overflow_sub-missing c = omega (arith, answered c.before, holds c.before)
@@ -50,5 +50,5 @@ loop-v-preserved c = let b = c.before in (omega arith, omega (arith, answered b,
 
 pub returns : goal.returns
 returns c =
-    let e : c.before.loop-v.v ≡ c.args.n = omega arith in
-    missing_all _ _ _ _ c.requires _ (rw e at c.before.loop-v.invariant.1)
+    let e : c.loop-v.v ≡ c.args.n = omega arith in
+    missing_all _ _ _ _ c.requires _ (rw e at c.loop-v.invariant.1)

@@ -4,7 +4,7 @@ use Rattle.supply.proofs.Shares.{product_small}
 use Rattle.supply.proofs.scaled.over.Goals as goal
 
 pub overflow_mul-tec : goal.overflow_mul-tec
-overflow_mul-tec c = let s = c.before.before in omega (arith, product_small s.args.tec.0 s.args.demand.0 s.requires.0 s.requires.1)
+overflow_mul-tec c = omega (arith, product_small c.args.tec.0 c.args.demand.0 c.requires.0 c.requires.1)
 
 pub returns-then-tec-demand-eq0 : goal.returns-then-tec-demand-eq0
 returns-then-tec-demand-eq0 c = simp (eq-eqb _ 0 c.if-tec-demand-eq0.true)

@@ -28,7 +28,7 @@ module _ (c : After-kw-1) where
   s = c.before.before.before.before
 
   abbrev v : ℕ
-  v = c.before.before.loop-v.v
+  v = c.loop-v.v
 
   in_table : v < s.args.n
   in_table = omega arith
@@ -37,10 +37,10 @@ module _ (c : After-kw-1) where
   more = sum_more v (left_over s.args.n (kw_at s.args.tec) s.args.demand.0)
 
 over-answered : (c : After-over-more) → c.over-more.result ≡ let a = (s c.before).args in left_over a.n (kw_at a.t2) a.demand.0 (v c.before)
-over-answered c = c.over-more.ensures ∙ over_is _ _ _ _ (s c.before).pre (v c.before)
+over-answered c = c.over-more.ensures ∙ over_is _ _ _ _ (s c.before).requires (v c.before)
 
 share-answered : (c : After-share) → c.share.result.0 ≡ let a = (s c.before.before).args in whole_share a.n (kw_at a.t2) a.demand.0 (v c.before.before)
-share-answered c = c.share.ensures ∙ share_is _ _ _ _ (s c.before.before).pre (v c.before.before)
+share-answered c = c.share.ensures ∙ share_is _ _ _ _ (s c.before.before).requires (v c.before.before)
 
 pub over-more-requires : goal.over-more-requires
 over-more-requires c = (tec_small _ _ _ _ (s c).requires _ (in_table c), omega arith, omega arith)
@@ -62,7 +62,7 @@ bounds-scaled-v c = omega arith
 pub overflow_add-before : goal.overflow_add-before
 overflow_add-before c =
     let k = c.before.before.before in
-    omega (arith, k.before.before.loop-v.invariant.1, over-answered c.before.before, over_one _ _ _ _ (s k).requires (v k), before_small _ _ _ _ (s k).requires (v k) (in_table k))
+    omega (arith, k.loop-v.invariant.1, over-answered c.before.before, over_one _ _ _ _ (s k).requires (v k), before_small _ _ _ _ (s k).requires (v k) (in_table k))
 
 pub overflow_add-v : goal.overflow_add-v
 overflow_add-v c = omega arith
@@ -73,15 +73,14 @@ loop-v-smaller c = omega arith
 pub loop-v-preserved : goal.loop-v-preserved
 loop-v-preserved c =
     let k = c.before.before.before in
-    let l = k.before.before in
     let o = over-answered c.before.before in (
       omega arith,
-      omega (arith, l.loop-v.invariant.1, o, more k),
-      column_turn (kilowatts 0) 256 _ (v k) (omega arith) l.loop-v.invariant.2 (ap kilowatts (c.with_over.ensures
-          ∙ scaled_is _ _ _ _ (s k).requires (v k) _ _ _ _ (share-answered c.before) o l.loop-v.invariant.1 l.before.missing_kw-missing.ensures)),
+      omega (arith, k.loop-v.invariant.1, o, more k),
+      column_turn (kilowatts 0) 256 _ (v k) (omega arith) k.loop-v.invariant.2 (ap kilowatts (c.with_over.ensures
+          ∙ scaled_is _ _ _ _ (s k).requires (v k) _ _ _ _ (share-answered c.before) o k.loop-v.invariant.1 k.missing_kw-missing.ensures)),
     )
 
 pub returns : goal.returns
 returns c =
-    let e : c.before.loop-v.v ≡ c.args.n = omega arith in
-    rw e at c.before.loop-v.invariant.2
+    let e : c.loop-v.v ≡ c.args.n = omega arith in
+    rw e at c.loop-v.invariant.2

@@ -4,8 +4,8 @@ use Rattle.tables.proofs.chain.chargeable_stage.Goals as goal
 
 pub returns-then-chargeable : goal.returns-then-chargeable
 unfolding unless
-returns-then-chargeable c = rw (← c.before.before.total.ensures, sym c.before.chargeable.ensures ∙ c.if-chargeable.true) refl
+returns-then-chargeable c = rw (← c.total.ensures, sym c.chargeable.ensures ∙ c.if-chargeable.true) refl
 
 pub returns : goal.returns
 unfolding unless
-returns c = rw (← c.before.before.total.ensures, sym c.before.chargeable.ensures ∙ c.if-chargeable.false) refl
+returns c = rw (← c.total.ensures, sym c.chargeable.ensures ∙ c.if-chargeable.false) refl

@@ -4,7 +4,7 @@ use mathlib.Core.Path.{refl}
 use Rattle.tables.proofs.chain.judgement.Goals as goal
 
 pub returns-in-Stops : goal.returns-in-Stops
-returns-in-Stops c = stops_first _ refl c.before.rows-1.given.1
+returns-in-Stops c = stops_first _ refl c.in-Stops.is
 
 pub returns-in-Passes : goal.returns-in-Passes
-returns-in-Passes c = passes-first _ refl c.before.enum_told-1.given.1 c.grid_stage.ensures
+returns-in-Passes c = passes-first _ refl c.in-Passes.is c.grid_stage.ensures

@@ -8,31 +8,25 @@ use Rattle.tables.proofs.read.tables.Goals.{After-or_else-after_circuits, After-
 
 after-nodes : (c : After-or_else-after_nodes) → let a = c.args in c.or_else-after_nodes.result ≡ then_nodes a.frame a.file.now
 after-nodes c =
-    let j = c.before in
-    judged_after nodes_stage _ _ (rw (c.or_else-after_nodes.ensures, j.judge.ensures, j.before.shown.ensures) refl)
+    judged_after nodes_stage _ _ (rw (c.or_else-after_nodes.ensures, c.judge.ensures, c.shown.ensures) refl)
 
 after-circuits : (c : After-or_else-after_circuits) → let a = c.args in c.or_else-after_circuits.result ≡ then_circuits a.frame a.file.now
 after-circuits c =
-    let j = c.before.before in
-    let s = j.before.before in
-    judged_after circuits_stage _ _ (rw (c.or_else-after_circuits.ensures, j.judge-judged.ensures.0, s.shown-network.ensures, after-nodes s.before) refl)
+    let s = c.before.before in
+    judged_after circuits_stage _ _ (rw (c.or_else-after_circuits.ensures, c.judge-judged.ensures.0, s.shown-network.ensures, after-nodes s.before) refl)
 
 pub returns : goal.returns
 returns c =
-    let j = c.before.before in
-    let s = j.before in
-    let d = s.before in
-    let n = d.before.before in
-    let m = n.before in
-    let p = m.before.before.before.before.before in
+    let d = c.before in
+    let m = d.before in
     record {
-      rows = judged_after stations_stage _ _ (rw (c.or_else.ensures, j.judge-summed.ensures.0, s.shown-2.ensures, after-circuits d) refl);
+      rows = judged_after stations_stage _ _ (rw (c.or_else.ensures, c.judge-summed.ensures.0, c.shown-2.ensures, after-circuits d) refl);
       columns = record {
-        counts = p.before.counts-counts.ensures;
-        settings = p.settings-settings.ensures;
-        nodes = rw (m.columns-nodes.ensures, m.before.shown-network.ensures, after-nodes m.before.before) refl;
-        circuits = rw (n.judge-judged.ensures.1, m.before.shown-network.ensures, after-nodes m.before.before) refl;
-        by_type = rw (j.judge-summed.ensures.1, s.shown-2.ensures, after-circuits d) refl;
-        possible = j.judge-summed.ensures.2;
+        counts = m.counts-counts.ensures;
+        settings = m.settings-settings.ensures;
+        nodes = rw (m.columns-nodes.ensures, m.shown-network.ensures, after-nodes m.before.before) refl;
+        circuits = rw (d.judge-judged.ensures.1, m.shown-network.ensures, after-nodes m.before.before) refl;
+        by_type = rw (c.judge-summed.ensures.1, c.shown-2.ensures, after-circuits d) refl;
+        possible = c.judge-summed.ensures.2;
       };
     }

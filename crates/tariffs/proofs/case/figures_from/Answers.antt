@@ -10,17 +10,15 @@ use Rattle.tariffs.proofs.case.figures_from.Goals.{After-c_of-peak_c, After-loca
 
 pub c_of-c-requires : goal.c_of-c-requires
 c_of-c-requires c =
-    let s = c.before.before.before.before.before.before in
-    let a = s.args in
-    let r = ready a.settings a.sides a.payers a.load a.nodes a.tec a.paying a.local.now a.shares s.requires YearRound in
-    (s.requires.sides.settings.p, r Generation, r Demand)
+    let a = c.args in
+    let r = ready a.settings a.sides a.payers a.load a.nodes a.tec a.paying a.local.now a.shares c.requires YearRound in
+    (c.requires.sides.settings.p, r Generation, r Demand)
 
 pub c_of-peak_c-requires : goal.c_of-peak_c-requires
 c_of-peak_c-requires c =
-    let s = c.before.before.before.before.before.before.before in
-    let a = s.args in
-    let r = ready a.settings a.sides a.payers a.load a.nodes a.tec a.paying a.local.now a.shares s.requires Peak in
-    (s.requires.sides.settings.p, r Generation, r Demand)
+    let a = c.args in
+    let r = ready a.settings a.sides a.payers a.load a.nodes a.tec a.paying a.local.now a.shares c.requires Peak in
+    (c.requires.sides.settings.p, r Generation, r Demand)
 
 -- C of both backgrounds, and the rests
 module _ (k : After-c_of-peak_c) where
@@ -31,19 +29,19 @@ module _ (k : After-c_of-peak_c) where
   s = m.before.before.before
 
   abbrev basis : Basis
-  basis = let a = s.args in B a.settings a.sides a.payers a.load a.nodes a.tec a.paying a.local.now a.shares s.pre
+  basis = let a = s.args in B a.settings a.sides a.payers a.load a.nodes a.tec a.paying a.local.now a.shares s.requires
 
-  ec : k.before.c_of-c.result.0 ≡ C basis YearRound
-  ec = let a = s.args in c_made a.settings a.sides a.payers a.load a.nodes a.tec a.paying a.local.now a.shares s.pre YearRound k.before.c_of-c.ensures
+  ec : k.c_of-c.result.0 ≡ C basis YearRound
+  ec = let a = s.args in c_made a.settings a.sides a.payers a.load a.nodes a.tec a.paying a.local.now a.shares s.requires YearRound k.c_of-c.ensures
 
   ep : k.c_of-peak_c.result.0 ≡ C basis Peak
-  ep = let a = s.args in c_made a.settings a.sides a.payers a.load a.nodes a.tec a.paying a.local.now a.shares s.pre Peak k.c_of-peak_c.ensures
+  ep = let a = s.args in c_made a.settings a.sides a.payers a.load a.nodes a.tec a.paying a.local.now a.shares s.requires Peak k.c_of-peak_c.ensures
 
   left : (let v = s.args.settings in Holds m.local_figures-nodal.result.rest (pos (target_of Generation v.p v.revenue) -ℤ local_income basis Generation) s.args.payers.0 96)
-  left = let a = s.args in generation_left a.settings a.sides a.payers a.load a.nodes a.tec a.paying a.local.now a.shares s.pre m.before.before.target_of-g.ensures m.local_figures-nodal.ensures
+  left = let a = s.args in generation_left a.settings a.sides a.payers a.load a.nodes a.tec a.paying a.local.now a.shares s.requires m.target_of-g.ensures m.local_figures-nodal.ensures
 
-  demand-rest : (let v = s.args.settings in Holds m.before.target_of-d.result (pos (target_of Demand v.p v.revenue) -ℤ local_income basis Demand) s.args.load.0 96)
-  demand-rest = let a = s.args in demand_left a.settings a.sides a.payers a.load a.nodes a.tec a.paying a.local.now a.shares s.pre m.before.target_of-d.ensures
+  demand-rest : (let v = s.args.settings in Holds m.target_of-d.result (pos (target_of Demand v.p v.revenue) -ℤ local_income basis Demand) s.args.load.0 96)
+  demand-rest = let a = s.args in demand_left a.settings a.sides a.payers a.load a.nodes a.tec a.paying a.local.now a.shares s.requires m.target_of-d.ensures
 
 pub generation_of-requires : goal.generation_of-requires
 generation_of-requires c =
@@ -58,11 +56,10 @@ demand_of-requires c =
 
 pub returns : goal.returns
 returns c =
-    let g = c.before in
-    let k = g.before in
+    let k = c.before in
     let a = (s k).args in
     let f = (s k).requires in
     case_made a.settings a.sides a.payers a.load a.nodes a.tec a.paying a.local.now a.shares f (ec k) (ep k)
-    (made_by a.settings a.sides a.payers a.load a.nodes a.tec a.paying a.local.now a.shares f Generation (ec k) (ep k) (left k) g.generation_of.ensures)
+    (made_by a.settings a.sides a.payers a.load a.nodes a.tec a.paying a.local.now a.shares f Generation (ec k) (ep k) (left k) c.generation_of.ensures)
     (made_by a.settings a.sides a.payers a.load a.nodes a.tec a.paying a.local.now a.shares f Demand (ec k) (ep k) (demand-rest k) c.demand_of.ensures)
-    (lines_are a.settings a.sides a.payers a.load a.nodes a.tec a.paying a.local.now a.shares f (m k).before.before.target_of-g.ensures (m k).local_figures-nodal.ensures)
+    (lines_are a.settings a.sides a.payers a.load a.nodes a.tec a.paying a.local.now a.shares f (m k).target_of-g.ensures (m k).local_figures-nodal.ensures)

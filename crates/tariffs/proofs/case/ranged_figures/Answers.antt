@@ -26,9 +26,9 @@ module _ (c : After-shares_fit-shared) where
   test : Bool
   test = let a = s.args in tested a.settings a.sides a.nodes a.tec a.paying a.demand a.local.now a.shares payers.total-payers.ensures load.total-load.ensures
 
-  as-tested : test ≡ (served.before.totals_fit-generation.result && served.totals_fit-served.result && c.shares_fit_lem.result)
+  as-tested : test ≡ (served.totals_fit-generation.result && served.totals_fit-served.result && c.shares_fit_lem.result)
   unfolding test
-  as-tested = ap₂ (λ a b. a && b) (ap₂ (λ a b. a && b) (sym served.before.totals_fit-generation.ensures) (sym served.totals_fit-served.ensures)) (sym c.shares_fit_lem.ensures)
+  as-tested = ap₂ (λ a b. a && b) (ap₂ (λ a b. a && b) (sym served.totals_fit-generation.ensures) (sym served.totals_fit-served.ensures)) (sym c.shares_fit_lem.ensures)
 
 pub figures_from-requires : goal.figures_from-requires
 unfolding test
@@ -44,7 +44,7 @@ returns-then-generation-served c =
     let t = c.before.before in
     let a = (s t).args in
     c.figures_from.ensures
-    ∙ ranged a.settings a.sides a.nodes a.tec a.paying a.demand a.local.now a.shares (payers t).total-payers.ensures (load t).total-load.ensures (as-tested t ∙ c.before.if-generation-served.true)
+    ∙ ranged a.settings a.sides a.nodes a.tec a.paying a.demand a.local.now a.shares (payers t).total-payers.ensures (load t).total-load.ensures (as-tested t ∙ c.if-generation-served.true)
 
 pub returns : goal.returns
 unfolding test
@@ -52,4 +52,4 @@ returns c =
     let t = c.before.before in
     let a = (s t).args in
     c.no_figures.ensures
-    ∙ no_totals a.settings a.sides a.nodes a.tec a.paying a.demand a.local.now a.shares (payers t).total-payers.ensures (load t).total-load.ensures (as-tested t ∙ c.before.if-generation-served.false)
+    ∙ no_totals a.settings a.sides a.nodes a.tec a.paying a.demand a.local.now a.shares (payers t).total-payers.ensures (load t).total-load.ensures (as-tested t ∙ c.if-generation-served.false)

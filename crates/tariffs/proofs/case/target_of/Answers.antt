@@ -17,7 +17,7 @@ module _ (s : Start) where
   for-generation = generation_share s.requires
 
   for-demand : s.args.settings.revenue * s.args.settings.p ≤ 10000000000000
-  for-demand = demand_share s.pre
+  for-demand = demand_share s.requires
 
   bg : (let k = s.args.settings in to_z w64 (target_of Generation k.p k.revenue) ≡ pos (target_of Generation k.p k.revenue))
   bg = of_nat _ (omega (arith, for-generation))
@@ -46,9 +46,9 @@ overflow_cast-settings-in-Demand c = simp Z (omega (arith, for-demand c.before.b
 pub returns-in-Generation : goal.returns-in-Generation
 returns-in-Generation c =
     let s = c.before.before.before.before in
-    simp (bg s) at c.start.ensures ∙ rw c.before.before.enum_told-1.given.1 refl
+    simp (bg s) at c.start.ensures ∙ rw c.in-Generation.is refl
 
 pub returns-in-Demand : goal.returns-in-Demand
 returns-in-Demand c =
     let s = c.before.before.before.before in
-    simp (bd s) at c.start-in-Demand.ensures ∙ rw c.before.before.enum_told-in-Demand-1.given.1 refl
+    simp (bd s) at c.start-in-Demand.ensures ∙ rw c.in-Demand.is refl

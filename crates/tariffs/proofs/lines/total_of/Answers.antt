@@ -19,16 +19,16 @@ module _ (s : Start) where
   r = s.args.residual.0
 
   by : Back y
-  by = fit_back (sfits_abs y (omega (arith, s.pre.0)))
+  by = fit_back (sfits_abs y (omega (arith, s.requires.0)))
 
   bp : Back p
-  bp = fit_back (sfits_abs p (omega (arith, s.pre.1)))
+  bp = fit_back (sfits_abs p (omega (arith, s.requires.1)))
 
   br : Back r
-  br = fit_back (sfits_abs r (omega (arith, s.pre.2)))
+  br = fit_back (sfits_abs r (omega (arith, s.requires.2)))
 
   tariffs-most : nat_abs (y +ℤ p) ≤ 660000000000
-  tariffs-most = omega (arith, abs-add y p, s.pre.0, s.pre.1)
+  tariffs-most = omega (arith, abs-add y p, s.requires.0, s.requires.1)
 
   both : SFits w64 (y +ℤ p)
   both = sfits_abs (y +ℤ p) (omega (arith, tariffs-most))
@@ -37,7 +37,7 @@ module _ (s : Start) where
   bb = fit_back both
 
   fits : SFits w64 (y +ℤ p +ℤ r)
-  fits = sfits_abs (y +ℤ p +ℤ r) (omega (arith, abs-add (y +ℤ p) r, tariffs-most, s.pre.2))
+  fits = sfits_abs (y +ℤ p +ℤ r) (omega (arith, abs-add (y +ℤ p) r, tariffs-most, s.requires.2))
 
   bw : Back (y +ℤ p +ℤ r)
   bw = fit_back fits

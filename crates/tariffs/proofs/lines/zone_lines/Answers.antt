@@ -48,9 +48,8 @@ bounds-shared-k c = omega arith
 
 pub zone_line-requires : goal.zone_line-requires
 zone_line-requires c =
-    let l = c.before.before.before.before.before in
-    let p = l.requires in
-    (p.1.each l.loop-k.k (omega arith), p.2.each l.loop-k.k (omega arith), p.3)
+    let p = c.requires in
+    (p.1.each c.loop-k.k (omega arith), p.2.each c.loop-k.k (omega arith), p.3)
 
 pub offset_bounds-all-k : goal.offset_bounds-all-k
 offset_bounds-all-k c = omega arith
@@ -66,10 +65,9 @@ loop-k-smaller c = omega arith
 
 pub loop-k-preserved : goal.loop-k-preserved
 loop-k-preserved c =
-    let l = c.before.before.before.before.before.before in
-    (omega arith, column_turn no_line 32 _ l.loop-k.k (omega arith) l.loop-k.invariant.1 c.zone_line.ensures)
+    (omega arith, column_turn no_line 32 _ c.loop-k.k (omega arith) c.loop-k.invariant.1 c.zone_line.ensures)
 
 pub returns : goal.returns
 returns c =
-    let e : c.before.loop-k.k ≡ c.args.count = omega arith in
-    rw e at c.before.loop-k.invariant.1
+    let e : c.loop-k.k ≡ c.args.count = omega arith in
+    rw e at c.loop-k.invariant.1

@@ -36,9 +36,8 @@ loop-k-smaller c = omega arith
 
 pub loop-k-preserved : goal.loop-k-preserved
 loop-k-preserved c =
-    let l = c.before.before.before in
-    (omega arith, column_turn (distance (pos 0)) 32 _ l.loop-k.k (omega arith) l.loop-k.invariant.1 refl)
+    (omega arith, column_turn (distance (pos 0)) 32 _ c.loop-k.k (omega arith) c.loop-k.invariant.1 refl)
 
 pub returns : goal.returns
 unfolding not_shared_over
-returns c = let e : c.before.loop-k.k ≡ 32 = omega arith in rw e at c.before.loop-k.invariant.1
+returns c = let e : c.loop-k.k ≡ 32 = omega arith in rw e at c.loop-k.invariant.1

@@ -58,7 +58,7 @@ module _ (c : After-node_line-line) where
   lines = line S.args.tec S.args.local.now S.args.constant S.args.factor
 
   made : c.node_line-line.result ≡ lines I
-  made = simp (back (potential S.args.local.now I) c.before.node_line-arg-in-loop-v-1.given) at c.node_line-line.ensures
+  made = simp (back (potential S.args.local.now I) c.node_line-arg-in-loop-v-1.given) at c.node_line-line.ensures
 
   priced : c.node_line-line.result.tariff.0 ≡ charge S.args.local.now S.args.constant S.args.factor I
   unfolding node_from
@@ -74,10 +74,10 @@ pub less-left-requires : goal.less-left-requires
 less-left-requires c = tt
 
 pub offset_bounds-lines-v : goal.offset_bounds-lines-v
-offset_bounds-lines-v c = omega (arith, (S c.before.before).pre.few)
+offset_bounds-lines-v c = omega (arith, (S c.before.before).requires.few)
 
 pub bounds-lines-v : goal.bounds-lines-v
-bounds-lines-v c = omega (arith, (S c.before.before).pre.few)
+bounds-lines-v c = omega (arith, (S c.before.before).requires.few)
 
 pub overflow_add-v : goal.overflow_add-v
 overflow_add-v c = omega arith
@@ -96,6 +96,5 @@ loop-v-preserved c =
 pub returns : goal.returns
 unfolding local_of
 returns c =
-    let l = c.before in
-    let e : l.loop-v.v ≡ l.args.nodes = omega arith in
-    rw (l.loop-v.invariant.1, l.loop-v.invariant.2, e) refl
+    let e : c.loop-v.v ≡ c.args.nodes = omega arith in
+    rw (c.loop-v.invariant.1, c.loop-v.invariant.2, e) refl

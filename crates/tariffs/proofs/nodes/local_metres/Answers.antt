@@ -13,7 +13,7 @@ rounded : (c : After-metres-metres) → c.metres-metres.result.0 ≡ metres c.ar
 rounded c = simp (fit_back c.ranges.potential) at c.metres-metres.ensures
 
 near : (c : After-within) → c.within.result ≡ leb (nat_abs (metres c.args.potential)) 10000000
-near c = let m = c.before.before in rw (rounded m) at (simp (back m.metres-metres.result.0 (omega (arith, c.before.struct_told-1.given))) at c.within.ensures)
+near c = let m = c.before.before in rw (rounded m) at (simp (back m.metres-metres.result.0 (omega (arith, c.struct_told-1.given))) at c.within.ensures)
 
 pub returns-then-within : goal.returns-then-within
 unfolding local_from

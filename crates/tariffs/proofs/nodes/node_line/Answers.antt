@@ -11,7 +11,7 @@ rounded : (c : After-local_metres-metres) → c.local_metres-metres.result.0 ≡
 rounded c = simp (fit_back c.ranges.potential) at c.local_metres-metres.ensures
 
 pub price-requires : goal.price-requires
-price-requires c = let s = c.before in rw (rounded c) (local_priceable s.args.potential s.requires.0 s.requires.1)
+price-requires c = rw (rounded c) (local_priceable c.args.potential c.requires.0 c.requires.1)
 
 pub returns : goal.returns
 unfolding node_from

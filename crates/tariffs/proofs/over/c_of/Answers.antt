@@ -28,19 +28,19 @@ module _ (s : Start) where
   bq = of_nat (1000 - p) (omega arith)
 
   out : Back x
-  out = fit_back (sfits_abs x (omega (arith, s.pre.2.metres, s.pre.2.total)))
+  out = fit_back (sfits_abs x (omega (arith, s.requires.2.metres, s.requires.2.total)))
 
   in-back : Back y
-  in-back = fit_back (sfits_abs y (omega (arith, s.pre.1.metres, s.pre.1.total)))
+  in-back = fit_back (sfits_abs y (omega (arith, s.requires.1.metres, s.requires.1.total)))
 
   fx : SFits w64 (pos (1000 - p) *ℤ x)
-  fx = first_fits p s.args.generation s.args.demand s.pre.0 s.pre.1 s.pre.2
+  fx = first_fits p s.args.generation s.args.demand s.requires.0 s.requires.1 s.requires.2
 
   fy : SFits w64 (pos p *ℤ y)
-  fy = second_fits p s.args.generation s.args.demand s.pre.0 s.pre.1 s.pre.2
+  fy = second_fits p s.args.generation s.args.demand s.requires.0 s.requires.1 s.requires.2
 
   fm : SFits w64 (pos (1000 - p) *ℤ x -ℤ pos p *ℤ y)
-  fm = mixed_fits p s.args.generation s.args.demand s.pre.0 s.pre.1 s.pre.2
+  fm = mixed_fits p s.args.generation s.args.demand s.requires.0 s.requires.1 s.requires.2
 
   bx : Back (pos (1000 - p) *ℤ x)
   bx = fit_back fx
@@ -52,10 +52,10 @@ module _ (s : Start) where
   bm = fit_back fm
 
   below : p * s.args.generation.total.0 ≤ 100000000000
-  below = below_first p s.args.generation s.args.demand s.pre.0 s.pre.1 s.pre.2
+  below = below_first p s.args.generation s.args.demand s.requires.0 s.requires.1 s.requires.2
 
   below-2 : (1000 - p) * s.args.demand.total.0 ≤ 100000000000
-  below-2 = below_second p s.args.generation s.args.demand s.pre.0 s.pre.1 s.pre.2
+  below-2 = below_second p s.args.generation s.args.demand s.requires.0 s.requires.1 s.requires.2
 
 ruleset E = (bp, bq, bx, by, bm, out, in-back)
 
@@ -78,4 +78,4 @@ pub overflow_add-below : goal.overflow_add-below
 overflow_add-below c = let s = c.before.before.before.before.before.before.before.before in omega (arith, below s, below-2 s)
 
 pub returns : goal.returns
-returns c = back _ c.nearest.type-inv ∙ simp E at c.nearest.ensures
+returns c = back _ c.nearest.type_inv ∙ simp E at c.nearest.ensures

@@ -5,4 +5,4 @@ use Rattle.tariffs.proofs.over.metres_of.Goals as goal
 
 pub returns : goal.returns
 unfolding metres_from
-returns c = let g = c.before.struct_told-1.given in simp (back c.args.zone.weighed g.1.0.1) at c.average.ensures
+returns c = let g = c.struct_told-1.given in simp (back c.args.zone.weighed g.1.0.1) at c.average.ensures

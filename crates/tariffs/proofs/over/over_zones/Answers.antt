@@ -17,10 +17,9 @@ bounds-sums-k c = omega arith
 
 pub with_zone-over-requires : goal.with_zone-over-requires
 with_zone-over-requires c =
-    let l = c.before.before in
-    let a = l.args in
-    let p = l.requires.0 in
-    (rw l.loop-k.invariant.1 (over_fits a.t1 p l.loop-k.k (omega arith)), p.each l.loop-k.k (omega arith))
+    let a = c.args in
+    let p = c.requires.0 in
+    (rw c.loop-k.invariant.1 (over_fits a.sums p c.loop-k.k (omega arith)), p.each c.loop-k.k (omega arith))
 
 pub overflow_add-k : goal.overflow_add-k
 overflow_add-k c = omega arith
@@ -30,11 +29,10 @@ loop-k-smaller c = omega arith
 
 pub loop-k-preserved : goal.loop-k-preserved
 loop-k-preserved c =
-    let l = c.before.before.before in
-    let a = l.args in
-    (omega arith, c.with_zone-over.ensures ∙ ap (λ (o : Over). with_zone o (sums_in a.t1 l.loop-k.k)) l.loop-k.invariant.1 ∙ sym (over_more a.t1 l.loop-k.k))
+    let a = c.args in
+    (omega arith, c.with_zone-over.ensures ∙ ap (λ (o : Over). with_zone o (sums_in a.sums c.loop-k.k)) c.loop-k.invariant.1 ∙ sym (over_more a.sums c.loop-k.k))
 
 pub returns : goal.returns
 returns c =
-    let e : c.before.loop-k.k ≡ c.args.count = omega arith in
-    rw e at c.before.loop-k.invariant.1
+    let e : c.loop-k.k ≡ c.args.count = omega arith in
+    rw e at c.loop-k.invariant.1

@@ -22,16 +22,16 @@ module _ (s : Start) where
   kw = s.args.zone.paying-1.0
 
   bo : Back old
-  bo = fit_back (sfits_abs old (omega (arith, s.pre.0.metres, s.pre.0.total-1)))
+  bo = fit_back (sfits_abs old (omega (arith, s.requires.0.metres, s.requires.0.total-1)))
 
   bm : Back m
-  bm = fit_back (sfits_abs m (omega (arith, zonal_near s.args.zone s.pre.1)))
+  bm = fit_back (sfits_abs m (omega (arith, zonal_near s.args.zone s.requires.1)))
 
   bk : to_z w64 kw ≡ pos kw
-  bk = of_nat kw (omega (arith, s.pre.1.paying-1))
+  bk = of_nat kw (omega (arith, s.requires.1.paying-1))
 
   one : nat_abs (m *ℤ pos kw) ≤ 256000000000000000
-  one = abs-mul-le m (pos kw) (zonal_near s.args.zone s.pre.1) s.pre.1.paying-1
+  one = abs-mul-le m (pos kw) (zonal_near s.args.zone s.requires.1) s.requires.1.paying-1
 
   fits : SFits w64 (m *ℤ pos kw)
   fits = sfits_abs (m *ℤ pos kw) (omega (arith, one))
@@ -40,7 +40,7 @@ module _ (s : Start) where
   bp = fit_back fits
 
   all-fits : SFits w64 (old +ℤ m *ℤ pos kw)
-  all-fits = sfits_abs (old +ℤ m *ℤ pos kw) (omega (arith, abs-add old (m *ℤ pos kw), one, s.pre.0.metres, s.pre.0.total-1))
+  all-fits = sfits_abs (old +ℤ m *ℤ pos kw) (omega (arith, abs-add old (m *ℤ pos kw), one, s.requires.0.metres, s.requires.0.total-1))
 
   bw : Back (old +ℤ m *ℤ pos kw)
   bw = fit_back all-fits

@@ -21,16 +21,16 @@ module _ (s : Start) where
   f = s.args.factor
 
   bm : Back m
-  bm = fit_back (sfits_abs m (omega (arith, s.pre.near)))
+  bm = fit_back (sfits_abs m (omega (arith, s.requires.near)))
 
   bk : to_z w64 k ≡ pos k
-  bk = of_nat k (omega (arith, s.pre.constant))
+  bk = of_nat k (omega (arith, s.requires.constant))
 
   bf : to_z w64 f ≡ pos f
-  bf = of_nat f (omega (arith, s.pre.factor))
+  bf = of_nat f (omega (arith, s.requires.factor))
 
   first_most : nat_abs (m *ℤ pos k) ≤ 6600000000000
-  first_most = abs-mul-le m (pos k) s.pre.near s.pre.constant
+  first_most = abs-mul-le m (pos k) s.requires.near s.requires.constant
 
   first : SFits w64 (m *ℤ pos k)
   first = sfits_abs (m *ℤ pos k) (omega (arith, first_most))
@@ -39,7 +39,7 @@ module _ (s : Start) where
   bp = fit_back first
 
   whole : SFits w64 (m *ℤ pos k *ℤ pos f)
-  whole = sfits_abs (m *ℤ pos k *ℤ pos f) (omega (arith, abs-mul-le (m *ℤ pos k) (pos f) first_most s.pre.factor))
+  whole = sfits_abs (m *ℤ pos k *ℤ pos f) (omega (arith, abs-mul-le (m *ℤ pos k) (pos f) first_most s.requires.factor))
 
   bw : Back (m *ℤ pos k *ℤ pos f)
   bw = fit_back whole
@@ -54,4 +54,4 @@ overflow_mul-product-2 c = simp E (whole c.before.before)
 
 pub returns : goal.returns
 unfolding tariff
-returns c = back _ c.nearest.type-inv ∙ simp E at c.nearest.ensures
+returns c = back _ c.nearest.type_inv ∙ simp E at c.nearest.ensures

@@ -34,12 +34,11 @@ bounds-parts-k c = omega arith
 
 pub shared_line-line-requires : goal.shared_line-line-requires
 shared_line-line-requires c =
-    let l = c.before.before in
-    let p = l.requires in
-    (p.0.shared l.loop-k.k (omega arith), p.2)
+    let p = c.requires in
+    (p.0.shared c.loop-k.k (omega arith), p.2)
 
 -- a turn's tariff
-priced : (c : After-shared_line-line) → (let l = c.before.before.before in let a = l.args in c.shared_line-line.result.tariff.0 ≡ price a.terms a.t1 l.loop-k.k)
+priced : (c : After-shared_line-line) → (let a = c.args in c.shared_line-line.result.tariff.0 ≡ price a.terms a.parts c.loop-k.k)
 unfolding shared_from
 priced c = ap (λ (w : SharedFigures). w.tariff.0) c.shared_line-line.ensures
 
@@ -66,16 +65,14 @@ loop-k-smaller c = omega arith
 
 pub loop-k-preserved : goal.loop-k-preserved
 loop-k-preserved c =
-    let w = c.before.before in
-    let l = w.before.before.before in (
+    let w = c.before.before in (
       omega arith,
-      column_turn no_shared 32 _ l.loop-k.k (omega arith) l.loop-k.invariant.1 w.shared_line-line.ensures,
-      less_turn _ _ _ _ l.loop-k.k l.loop-k.invariant.2 (priced w) c.less-left.ensures,
+      column_turn no_shared 32 _ w.loop-k.k (omega arith) w.loop-k.invariant.1 w.shared_line-line.ensures,
+      less_turn _ _ _ _ w.loop-k.k w.loop-k.invariant.2 (priced w) c.less-left.ensures,
     )
 
 pub returns : goal.returns
 unfolding shared_over
 returns c =
-    let l = c.before in
-    let e : l.loop-k.k ≡ l.args.count = omega arith in
-    rw (l.loop-k.invariant.1, l.loop-k.invariant.2, e) refl
+    let e : c.loop-k.k ≡ c.args.count = omega arith in
+    rw (c.loop-k.invariant.1, c.loop-k.invariant.2, e) refl

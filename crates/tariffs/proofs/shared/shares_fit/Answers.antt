@@ -13,7 +13,7 @@ loop-k-init c = (omega arith, λ j h. absurd (omega arith))
 
 -- the zones that are looked at
 few : (c : After-shared_zones-zones) → c.shared_zones-zones.result ≤ 32
-few c = let s = c.before.before in rw c.shared_zones-zones.ensures (shared_few s.args.shares.in_force s.args.count s.requires)
+few c = rw c.shared_zones-zones.ensures (shared_few c.args.shares.in_force c.args.count c.requires)
 
 pub offset_bounds-kw-k : goal.offset_bounds-kw-k
 offset_bounds-kw-k c = omega (arith, few c.before.before)
@@ -23,10 +23,8 @@ bounds-kw-k c = omega (arith, few c.before.before)
 
 pub returns-then-kw-k : goal.returns-then-kw-k
 returns-then-kw-k c =
-    let l = c.before.before.before in
-    let z = l.before in
-    let a = z.args in
-    shares_fail a.shares a.count a.payers.0 l.loop-k.k (omega (arith, z.shared_zones-zones.ensures)) (omega arith)
+    let a = c.args in
+    shares_fail a.shares a.count a.payers.0 c.loop-k.k (omega (arith, c.shared_zones-zones.ensures)) (omega arith)
 
 pub overflow_add-k : goal.overflow_add-k
 overflow_add-k c = omega (arith, few c.before.before.before.before)
@@ -35,11 +33,9 @@ pub loop-k-smaller : goal.loop-k-smaller
 loop-k-smaller c = omega arith
 
 pub loop-k-preserved : goal.loop-k-preserved
-loop-k-preserved c = let l = c.before.before.before in let a = l.args in (omega arith, more_fit a.shares.kw-1 a.payers.0 l.loop-k.k l.loop-k.invariant.1 (omega arith))
+loop-k-preserved c = let a = c.args in (omega arith, more_fit a.shares.kw-1 a.payers.0 c.loop-k.k c.loop-k.invariant.1 (omega arith))
 
 pub returns : goal.returns
 returns c =
-    let l = c.before in
-    let z = l.before in
-    let a = z.args in
-    sym ((shares_say a.shares a.count a.payers.0).1 (record { each = λ k h. l.loop-k.invariant.1 k (omega (arith, z.shared_zones-zones.ensures)) }))
+    let a = c.args in
+    sym ((shares_say a.shares a.count a.payers.0).1 (record { each = λ k h. c.loop-k.invariant.1 k (omega (arith, c.shared_zones-zones.ensures)) }))

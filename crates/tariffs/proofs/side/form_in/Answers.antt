@@ -8,8 +8,8 @@ returns-then-in_force c = rw c.if-in_force.true refl
 
 pub returns-in-First : goal.returns-in-First
 unfolding form_in
-returns-in-First c = rw (c.before.before.if-in_force.false, c.enum_told-1.given.1) refl
+returns-in-First c = rw (c.if-in_force.false, c.in-First.is) refl
 
 pub returns-in-Second : goal.returns-in-Second
 unfolding form_in
-returns-in-Second c = rw (c.before.before.if-in_force.false, c.enum_told-in-Second-1.given.1) refl
+returns-in-Second c = rw (c.if-in_force.false, c.in-Second.is) refl

@@ -24,10 +24,10 @@ module _ (n : After-not_shared) where
   abbrev s : Start
   s = n.before.before.before.before
 
-  parts_are : n.before.split_metres-parts.result ≡ parts_of s.args.shares s.args.year-round
-  parts_are = n.before.split_metres-parts.ensures ∙ ap (splits s.args.shares s.args.year-round.count) n.before.before.zone_metres.ensures
+  parts_are : n.split_metres-parts.result ≡ parts_of s.args.shares s.args.year-round
+  parts_are = n.split_metres-parts.ensures ∙ ap (splits s.args.shares s.args.year-round.count) n.zone_metres.ensures
 
-  parts_fit : PartsFit n.before.split_metres-parts.result
+  parts_fit : PartsFit n.split_metres-parts.result
   parts_fit = rw parts_are (own_parts_fit s.args.shares s.args.year-round)
 
   own-fits : MetresFit n.not_shared.result
@@ -37,7 +37,7 @@ pub wider_lines-zones-requires : goal.wider_lines-zones-requires
 wider_lines-zones-requires c = let p = (s c).requires in (own-fits c, p.year_round.few, p.terms)
 
 peak-fits : (c : After-zone_metres-metres) → MetresFit c.zone_metres-metres.result
-peak-fits c = let s = c.before.before.before.before.before.before.before.before in rw c.zone_metres-metres.ensures (own_fit s.args.peak.sums-1 s.requires.peak.all)
+peak-fits c = rw c.zone_metres-metres.ensures (own_fit c.args.peak.sums-1 c.requires.peak.all)
 
 pub wider_lines-at_peak-requires : goal.wider_lines-at_peak-requires
 wider_lines-at_peak-requires c =
@@ -72,20 +72,20 @@ module _ (m : After-shared_lines-shared) where
   second_is =
       let a = (s own).args in
       second.wider_lines-at_peak.ensures
-      ∙ ap₂ (λ (x : List Metres) (w : Wider). wider_over x a.peak.sums-1 a.peak.count a.peak-terms w.rest a.payers.0) second.before.before.zone_metres-metres.ensures first_is
+      ∙ ap₂ (λ (x : List Metres) (w : Wider). wider_over x a.peak.sums-1 a.peak.count a.peak-terms w.rest a.payers.0) second.zone_metres-metres.ensures first_is
 
   third-is : (let a = (s own).args in m.shared_lines-shared.result ≡ shared a.shares a.year-round a.peak a.terms a.peak-terms a.rest a.payers.0)
   third-is =
       let a = (s own).args in
       m.shared_lines-shared.ensures
-      ∙ ap₂ (λ (x : List Split) (n : ℕ). shared_over x a.shares.kw-1 n a.terms second.wider_lines-at_peak.result.rest a.payers.0) (parts_are own) m.before.shared_zones-with_shared.ensures
+      ∙ ap₂ (λ (x : List Split) (n : ℕ). shared_over x a.shares.kw-1 n a.terms second.wider_lines-at_peak.result.rest a.payers.0) (parts_are own) m.shared_zones-with_shared.ensures
       ∙ ap (λ (w : Wider). shared_over (parts_of a.shares a.year-round) a.shares.kw-1 (shared_zones a.shares.in_force a.year-round.count) a.terms w.rest a.payers.0) second_is
 
   each_near : nat_abs m.shared_lines-shared.result.rest.each ≤ 9000000000000000000
-  each_near = subst (λ (x : Shared). nat_abs x.rest.each ≤ 9000000000000000000) (sym third-is) (residual_near (left_holds _ _ _ _ _ _ _ (s own).pre))
+  each_near = subst (λ (x : Shared). nat_abs x.rest.each ≤ 9000000000000000000) (sym third-is) (residual_near (left_holds _ _ _ _ _ _ _ (s own).requires))
 
   over_near : m.shared_lines-shared.result.rest.over < 100000000
-  over_near = subst (λ (x : Shared). x.rest.over < 100000000) (sym third-is) (remainder_near (left_holds _ _ _ _ _ _ _ (s own).pre))
+  over_near = subst (λ (x : Shared). x.rest.over < 100000000) (sym third-is) (remainder_near (left_holds _ _ _ _ _ _ _ (s own).requires))
 
   be : Back m.shared_lines-shared.result.rest.each
   be = fit_back (sfits_abs _ (omega (arith, each_near)))
@@ -99,7 +99,7 @@ overflow_cast-result c = simp Z (omega (arith, over_near c.before.before.before.
 pub zone_lines-requires : goal.zone_lines-requires
 zone_lines-requires c =
     let m = c.before.before.before.before in
-    let p = (s (own m)).pre in (
+    let p = (s (own m)).requires in (
       p.year_round.few,
       subst (λ (x : Wider). LinesFit x.lines-1) (sym (first m).wider_lines-zones.ensures) (lines_fit (own-fits (own m)) p.year_round p.terms (s (own m)).args.rest),
       subst (λ (x : Wider). LinesFit x.lines-1) (sym (second m).wider_lines-at_peak.ensures) (lines_fit (peak-fits (second m).before.before) p.peak p.peak_terms (first m).wider_lines-zones.result.rest),
@@ -110,4 +110,4 @@ pub returns : goal.returns
 returns c =
     let m = c.before.before.before.before.before in
     let a = (s (own m)).args in
-    side_from_lem a.shares a.year-round a.peak a.terms a.peak-terms a.rest a.payers.0 a.edition (first_is m) (second_is m) (third-is m) c.before.before.form_in.ensures (be m) (bo m) c.zone_lines.ensures
+    side_from_lem a.shares a.year-round a.peak a.terms a.peak-terms a.rest a.payers.0 a.edition (first_is m) (second_is m) (third-is m) c.form_in.ensures (be m) (bo m) c.zone_lines.ensures

@@ -18,19 +18,19 @@ module _ (s : Start) where
   by = s.args.terms.c-1.0
 
   m-near : nat_abs m ≤ 650000000
-  m-near = s.pre.0
+  m-near = s.requires.0
 
   bm : Back m
   bm = fit_back (sfits_abs m (omega (arith, m-near)))
 
   bc : Back by
-  bc = fit_back (sfits_abs by (omega (arith, s.pre.1.near)))
+  bc = fit_back (sfits_abs by (omega (arith, s.requires.1.near)))
 
   added : SFits w64 (m +ℤ by)
-  added = sfits_abs (m +ℤ by) (omega (arith, abs-add m by, m-near, s.pre.1.near))
+  added = sfits_abs (m +ℤ by) (omega (arith, abs-add m by, m-near, s.requires.1.near))
 
   taken : SFits w64 (m -ℤ by)
-  taken = sfits_abs (m -ℤ by) (omega (arith, abs-sub m by, m-near, s.pre.1.near))
+  taken = sfits_abs (m -ℤ by) (omega (arith, abs-sub m by, m-near, s.requires.1.near))
 
 ruleset E = (bm, bc)
 
@@ -41,7 +41,7 @@ pub overflow_sub-result : goal.overflow_sub-result
 overflow_sub-result c = simp E (taken c.before.before.before.before.before.before.before)
 
 pub returns-in-Generation : goal.returns-in-Generation
-returns-in-Generation c = to_z-of_z (overflow_add-result c) ∙ rw c.before.before.before.before.enum_told-1.given.1 (simp E)
+returns-in-Generation c = to_z-of_z (overflow_add-result c) ∙ rw c.in-Generation.is (simp E)
 
 pub returns-in-Demand : goal.returns-in-Demand
-returns-in-Demand c = to_z-of_z (overflow_sub-result c) ∙ rw c.before.before.before.before.enum_told-in-Demand-1.given.1 (simp E)
+returns-in-Demand c = to_z-of_z (overflow_sub-result c) ∙ rw c.in-Demand.is (simp E)

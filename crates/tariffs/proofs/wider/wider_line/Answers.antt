@@ -9,16 +9,16 @@ pub after_c-after-requires : goal.after_c-after-requires
 after_c-after-requires c = (c.requires.0, c.requires.1)
 
 pub price-tariff-requires : goal.price-tariff-requires
-price-tariff-requires c = let s = c.before in rw c.after_c-after.ensures (priceable s.args.terms s.requires.1 s.args.metres.0 s.requires.0)
+price-tariff-requires c = rw c.after_c-after.ensures (priceable c.args.terms c.requires.1 c.args.metres.0 c.requires.0)
 
 -- the tariff
-priced : (c : After-price-tariff) → (let s = c.before.before in c.price-tariff.result.0 ≡ tariff_from s.args.terms s.args.metres.0)
+priced : (c : After-price-tariff) → (c.price-tariff.result.0 ≡ tariff_from c.args.terms c.args.metres.0)
 unfolding tariff_from
-priced c = rw c.before.after_c-after.ensures at c.price-tariff.ensures
+priced c = rw c.after_c-after.ensures at c.price-tariff.ensures
 
 pub returns : goal.returns
 unfolding wider_from
 returns c =
-    let a = ap distance c.before.after_c-after.ensures in
+    let a = ap distance c.after_c-after.ensures in
     let t = ap price (priced c) in
     rw (t, a)

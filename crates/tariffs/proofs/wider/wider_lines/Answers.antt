@@ -41,9 +41,8 @@ bounds-metres-k c = omega arith
 
 pub wider_line-line-requires : goal.wider_line-line-requires
 wider_line-line-requires c =
-    let l = c.before.before.before in
-    let p = l.requires in
-    (p.0.each l.loop-k.k (omega arith), p.2)
+    let p = c.requires in
+    (p.0.each c.loop-k.k (omega arith), p.2)
 
 pub less-left-requires : goal.less-left-requires
 less-left-requires c = tt
@@ -61,22 +60,20 @@ pub loop-k-smaller : goal.loop-k-smaller
 loop-k-smaller c = omega arith
 
 -- a turn's tariff
-priced : (c : After-wider_line-line) → (let l = c.before.before.before.before in let a = l.args in c.wider_line-line.result.tariff.0 ≡ price a.terms a.t1 l.loop-k.k)
+priced : (c : After-wider_line-line) → (let a = c.args in c.wider_line-line.result.tariff.0 ≡ price a.terms a.metres c.loop-k.k)
 unfolding wider_from
 priced c = ap (λ (w : WiderFigures). w.tariff.0) c.wider_line-line.ensures
 
 pub loop-k-preserved : goal.loop-k-preserved
 loop-k-preserved c =
-    let w = c.before in
-    let l = w.before.before.before.before in (
+    let w = c.before in (
       omega arith,
-      column_turn no_wider 32 _ l.loop-k.k (omega arith) l.loop-k.invariant.1 w.wider_line-line.ensures,
-      less_turn _ _ _ _ l.loop-k.k l.loop-k.invariant.2 (priced w) c.less-left.ensures,
+      column_turn no_wider 32 _ w.loop-k.k (omega arith) w.loop-k.invariant.1 w.wider_line-line.ensures,
+      less_turn _ _ _ _ w.loop-k.k w.loop-k.invariant.2 (priced w) c.less-left.ensures,
     )
 
 pub returns : goal.returns
 unfolding wider_over
 returns c =
-    let l = c.before in
-    let e : l.loop-k.k ≡ l.args.count = omega arith in
-    rw (l.loop-k.invariant.1, l.loop-k.invariant.2, e) refl
+    let e : c.loop-k.k ≡ c.args.count = omega arith in
+    rw (c.loop-k.invariant.1, c.loop-k.invariant.2, e) refl

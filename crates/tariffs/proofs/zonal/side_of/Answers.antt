@@ -4,10 +4,9 @@ use Rattle.tariffs.proofs.zonal.side_of.Goals as goal
 
 pub over_zones-requires : goal.over_zones-requires
 over_zones-requires c =
-    let s = c.before in
-    let a = s.args in
+    let a = c.args in
     let all : AllFit c.sums_by_zone-sums.result = rw c.sums_by_zone-sums.ensures (sums_fit a.side a.nodes a.zone a.weight a.paying a.wider.now) in
-    (all, s.requires)
+    (all, c.requires)
 
 pub returns : goal.returns
-returns c = let e = c.before.sums_by_zone-sums.ensures in rw (c.over_zones.ensures, e)
+returns c = let e = c.sums_by_zone-sums.ensures in rw (c.over_zones.ensures, e)

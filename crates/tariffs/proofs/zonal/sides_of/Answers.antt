@@ -7,4 +7,4 @@ pub side_of-requires : goal.side_of-requires
 side_of-requires c = c.requires.1
 
 pub returns : goal.returns
-returns c = rw (c.before.side_of-generation.ensures, c.side_of.ensures)
+returns c = rw (c.side_of-generation.ensures, c.side_of.ensures)

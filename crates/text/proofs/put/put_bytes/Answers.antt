@@ -9,13 +9,11 @@ loop-i-init c = (omega arith, omega arith, copy_none c.args.out.now c.args.at)
 
 pub loop-i-preserved : goal.loop-i-preserved
 loop-i-preserved c =
-    let l = c.before.before in
-    let a = l.args in
-    let p = copy_more a.text.now l.loop-i.i (omega arith) l.loop-i.invariant.2 in
+    let a = c.args in
+    let p = copy_more a.text.now c.loop-i.i (omega arith) c.loop-i.invariant.2 in
     (omega arith, kept p, p)
 
 pub returns : goal.returns
 returns c =
-    let l = c.before in
-    let a = l.args in
-    within (rw (take_all l.loop-i.i a.text.now (omega arith)) at l.loop-i.invariant.2) (omega arith)
+    let a = c.args in
+    within (rw (take_all c.loop-i.i a.text.now (omega arith)) at c.loop-i.invariant.2) (omega arith)

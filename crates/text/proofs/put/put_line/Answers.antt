@@ -9,14 +9,12 @@ loop-i-init c = (omega arith, omega arith, copy_none c.args.out.now c.args.at)
 
 pub loop-i-preserved : goal.loop-i-preserved
 loop-i-preserved c =
-    let l = c.before.before in
-    let a = l.args in
-    let p = copy_more a.t3.bytes l.loop-i.i (omega arith) l.loop-i.invariant.2 in
+    let a = c.args in
+    let p = copy_more a.line.bytes c.loop-i.i (omega arith) c.loop-i.invariant.2 in
     (omega arith, kept p, p)
 
 pub returns : goal.returns
 returns c =
-    let l = c.before in
-    let a = l.args in
-    let e : a.t3.len ≡ l.loop-i.i = omega arith in
-    rw e l.loop-i.invariant.2
+    let a = c.args in
+    let e : a.line.len ≡ c.loop-i.i = omega arith in
+    rw e c.loop-i.invariant.2

@@ -19,14 +19,13 @@ abbrev row : List LocalFigures → (file : List ℕ) → Section → ℕ → Lis
 row local file rows v = node_line (name_of file rows v) (local_in local v)
 
 pub loop-v-init : goal.loop-v-init
-loop-v-init c = let a = c.args in (omega arith, rows_start a.out-1.now a.from (row a.t6 a.file.now a.rows))
+loop-v-init c = let a = c.args in (omega arith, rows_start a.out.now a.from (row a.local a.file.now a.rows))
 
 -- a node's name is inside the file
 inside : (c : After-row_at-name) → c.row_at-name.result ≤ length c.args.file.now
 inside c =
-    let l = c.before.before in
-    let a = l.args in
-    omega (arith, c.row_at-name.ensures, row_rise a.rows l.loop-v.v a.nodes (omega arith), l.requires)
+    let a = c.args in
+    omega (arith, c.row_at-name.ensures, row_rise a.rows c.loop-v.v a.nodes (omega arith), c.requires)
 
 pub slice_bounds-node_line-count : goal.slice_bounds-node_line-count
 slice_bounds-node_line-count c = inside c
@@ -36,29 +35,23 @@ slice_bounds-node_line-start c = search (rules, inside c)
 
 pub put_line-at-requires : goal.put_line-at-requires
 put_line-at-requires c =
-    let n = c.before in
-    let l = n.before.before.before.before.before.loop-v in
+    let l = c.loop-v in
     let i = l.invariant.1 in
-    ready n.node_line-line.result n.node_line-line.ensures (omega arith) l.at (omega (arith, i.next, i.short, kept i))
+    ready c.node_line-line.result c.node_line-line.ensures (omega arith) l.at (omega (arith, i.next, i.short, kept i))
 
 pub loop-v-preserved : goal.loop-v-preserved
 loop-v-preserved c =
-    let p = c.before.before in
-    let n = p.before.before in
-    let nn = n.before.before.before in
-    let l = nn.before.before in
-    let a = l.args in
-    let named = rw (name_read a.file.now a.rows l.loop-v.v _ nn.row_at-name.ensures) at n.node_line-line.ensures in
-    let next = copied n.node_line-line.result named (omega arith) p.put_line-at.ensures in
-    (omega arith, longer (rows_more {w = 57} (row a.t6 a.file.now a.rows) l.loop-v.v l.loop-v.invariant.1 next) (omega arith))
+    let a = c.args in
+    let named = rw (name_read a.file.now a.rows c.loop-v.v _ c.row_at-name.ensures) at c.node_line-line.ensures in
+    let next = copied c.node_line-line.result named (omega arith) c.put_line-at.ensures in
+    (omega arith, longer (rows_more {w = 57} (row a.local a.file.now a.rows) c.loop-v.v c.loop-v.invariant.1 next) (omega arith))
 
 pub shape_of-out : goal.shape_of-out
-shape_of-out c = kept c.before.loop-v.invariant.1
+shape_of-out c = kept c.loop-v.invariant.1
 
 pub returns : goal.returns
 unfolding node_lines
 returns c =
-    let l = c.before in
-    let a = l.args in
-    let e : l.loop-v.v ≡ a.nodes = omega arith in
-    longer (rw e at l.loop-v.invariant.1) (omega arith)
+    let a = c.args in
+    let e : c.loop-v.v ≡ a.nodes = omega arith in
+    longer (rw e at c.loop-v.invariant.1) (omega arith)

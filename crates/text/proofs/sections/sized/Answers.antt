@@ -8,5 +8,4 @@ returns-then-figures-gt256 c = sized_false _ _ _ (λ w. omega (arith, w.nodes))
 
 pub returns : goal.returns
 returns c =
-    let s = c.before.before.before.before.before.before.before in
-    rw c.row_at.ensures (sized_few s.args.figures s.args.file.now s.args.rows (omega arith))
+    rw c.row_at.ensures (sized_few c.args.figures c.args.file.now c.args.rows (omega arith))

@@ -11,16 +11,16 @@ pub loop-c-init : goal.loop-c-init
 loop-c-init c = sought_none (omega arith)
 
 pub returns-then-in_word : goal.returns-then-in_word
-returns-then-in_word c = sought_here c.before.before.before.before.loop-c.invariant (or_left _ _ (sym c.before.in_word.ensures ∙ c.if-in_word.true))
+returns-then-in_word c = sought_here c.loop-c.invariant (or_left _ _ (sym c.in_word.ensures ∙ c.if-in_word.true))
 
 pub returns-then-in_word-2 : goal.returns-then-in_word-2
 returns-then-in_word-2 c =
-    let l = c.before.before.before.before.before.before.before.loop-c in
+    let l = c.loop-c in
     let a = c.args in
-    sought_here l.invariant (or_right (in_word a.w a.word (number_at a.first.now l.c)) _ (sym c.before.in_word-in-loop-c.ensures ∙ c.if-in_word-2.true))
+    sought_here l.invariant (or_right (in_word a.w a.word (number_at a.first.now l.c)) _ (sym c.in_word-in-loop-c.ensures ∙ c.if-in_word-2.true))
 
 pub loop-c-preserved : goal.loop-c-preserved
-loop-c-preserved c = sought_more c.before.before.before.before.before.before.before.loop-c.invariant (omega arith) (or_neither _ _ (sym c.before.before.before.before.in_word.ensures ∙ c.before.before.before.if-in_word.false) (sym c.before.in_word-in-loop-c.ensures ∙ c.if-in_word-2.false))
+loop-c-preserved c = sought_more c.loop-c.invariant (omega arith) (or_neither _ _ (sym c.in_word.ensures ∙ c.if-in_word.false) (sym c.in_word-in-loop-c.ensures ∙ c.if-in_word-2.false))
 
 pub returns : goal.returns
-returns c = sought_end c.before.loop-c.invariant (omega arith)
+returns c = sought_end c.loop-c.invariant (omega arith)

@@ -6,7 +6,7 @@ use Rattle.zone_kw.proofs.LoadLaws.{loaded_none, loaded_fit, loaded_more}
 use Rattle.zone_kw.proofs.load.thousandths.Goals as goal
 
 pub loop-t-init : goal.loop-t-init
-loop-t-init c = let a = c.args in (omega arith, loaded_none a.nodes a.zone a.by-type a.t4)
+loop-t-init c = let a = c.args in (omega arith, loaded_none a.nodes a.zone a.by_type a.factors)
 
 pub overflow_add-t : goal.overflow_add-t
 overflow_add-t c = omega arith
@@ -19,11 +19,10 @@ bounds-factors-t c = omega arith
 
 pub with_type-more-requires : goal.with_type-more-requires
 with_type-more-requires c =
-    let l = c.before.before.before.before in
-    let a = l.args in
+    let a = c.args in
     record {
-      added = loaded_fit a.nodes a.zone a.by-type a.t4 l.loop-t.t l.loop-t.invariant.1 (omega arith);
-      more = rw c.by_zone-kw.ensures (zone_low a.zone c.before.by_node.result a.nodes);
+      added = loaded_fit a.nodes a.zone a.by_type a.factors c.loop-t.t c.loop-t.invariant.1 (omega arith);
+      more = rw c.by_zone-kw.ensures (zone_low a.zone c.by_node.result a.nodes);
     }
 
 pub overflow_add-t-in-loop-t : goal.overflow_add-t-in-loop-t
@@ -34,12 +33,8 @@ loop-t-smaller c = omega arith
 
 pub loop-t-preserved : goal.loop-t-preserved
 loop-t-preserved c =
-    let z = c.before in
-    let b = z.before in
-    let p = b.before in
-    let l = p.before.before in
-    let a = l.args in
-    (omega arith, loaded_more a.nodes a.zone a.by-type a.t4 l.loop-t.t l.loop-t.invariant.1 p.plant_of-plant.ensures b.by_node.ensures z.by_zone-kw.ensures c.with_type-more.ensures)
+    let a = c.args in
+    (omega arith, loaded_more a.nodes a.zone a.by_type a.factors c.loop-t.t c.loop-t.invariant.1 c.plant_of-plant.ensures c.by_node.ensures c.by_zone-kw.ensures c.with_type-more.ensures)
 
 pub returns : goal.returns
-returns c = let l = c.before in let q : l.loop-t.t ≡ 7 = omega arith in rw q at l.loop-t.invariant.1
+returns c = let q : c.loop-t.t ≡ 7 = omega arith in rw q at c.loop-t.invariant.1

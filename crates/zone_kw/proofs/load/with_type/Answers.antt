@@ -9,7 +9,7 @@ use Rattle.zone_kw.proofs.load.with_type.Goals as goal
 use Rattle.zone_kw.proofs.load.with_type.Goals.{After-part, At-loop-k, Start}
 
 pub loop-k-init : goal.loop-k-init
-loop-k-init c = let a = c.args in (omega arith, sym (column_none 0 32 (more a.t1 a.plant a.t3 a.factor)))
+loop-k-init c = let a = c.args in (omega arith, sym (column_none 0 32 (more a.sums a.plant a.kw a.factor)))
 
 pub offset_bounds-sums-k : goal.offset_bounds-sums-k
 offset_bounds-sums-k c = omega arith
@@ -31,17 +31,17 @@ module _ (c : After-part) where
   abbrev s : Start
   s = l.before.before
 
-  adds : c.part.result.0 * l.before.kept-factor.result ≡ load_of s.args.plant (kw_at s.args.kw l.loop-k.k) s.args.factor
-  adds = ap₂ ◌*◌ c.part.ensures l.before.kept-factor.ensures ∙ load_is s.args.plant (kw_at s.args.kw l.loop-k.k) s.args.factor
+  adds : c.part.result.0 * l.kept-factor.result ≡ load_of s.args.plant (kw_at s.args.kw l.loop-k.k) s.args.factor
+  adds = ap₂ ◌*◌ c.part.ensures l.kept-factor.ensures ∙ load_is s.args.plant (kw_at s.args.kw l.loop-k.k) s.args.factor
 
-  low : c.part.result.0 * l.before.kept-factor.result ≤ 25600000000000
-  low = rw adds (load_low s.args.plant (kw_at s.args.kw l.loop-k.k) s.args.factor (s.pre.more l.loop-k.k))
+  low : c.part.result.0 * l.kept-factor.result ≤ 25600000000000
+  low = rw adds (load_low s.args.plant (kw_at s.args.kw l.loop-k.k) s.args.factor (s.requires.more l.loop-k.k))
 
 pub overflow_mul-all : goal.overflow_mul-all
 overflow_mul-all c = omega (arith, low c.before)
 
 pub overflow_add-all : goal.overflow_add-all
-overflow_add-all c = omega (arith, low c.before, (s c.before).pre.added (l c.before).loop-k.k)
+overflow_add-all c = omega (arith, low c.before, (s c.before).requires.added (l c.before).loop-k.k)
 
 pub offset_bounds-all-k : goal.offset_bounds-all-k
 offset_bounds-all-k c = omega arith
@@ -63,4 +63,4 @@ loop-k-preserved c =
     (omega arith, column_turn 0 32 (more a.t1 a.plant a.t3 a.factor) k (omega arith) (l p).loop-k.invariant.1 (ap (λ (x : ℕ). number_at a.t1 k + x) (adds p)))
 
 pub returns : goal.returns
-returns c = more_done _ _ _ _ c.before.loop-k.k c.before.loop-k.invariant.1 (omega arith) (omega arith)
+returns c = more_done _ _ _ _ c.loop-k.k c.loop-k.invariant.1 (omega arith) (omega arith)

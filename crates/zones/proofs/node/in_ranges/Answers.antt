@@ -10,7 +10,7 @@ use Rattle.zones.proofs.node.in_ranges.Goals.{After-within}
 
 -- the distance, as it was read
 near : (c : After-within) → c.within.result ≡ leb (nat_abs c.args.distance.0) 10000000
-near c = simp (back c.args.distance.0 (omega (arith, c.before.struct_told-1.given))) at c.within.ensures
+near c = simp (back c.args.distance.0 (omega (arith, c.struct_told-1.given))) at c.within.ensures
 
 pub returns : goal.returns
 unfolding in_ranges ◌between◌and◌

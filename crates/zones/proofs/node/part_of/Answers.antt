@@ -17,8 +17,8 @@ module _ (c : After-in_ranges) where
   abbrev m : ℤ
   m = turned s.args.side (metres s.args.potential)
 
-  far : c.before.distance-distance.result.0 ≡ m
-  far = simp (fit_back s.ranges.potential) at c.before.distance-distance.ensures
+  far : c.distance-distance.result.0 ≡ m
+  far = simp (fit_back s.ranges.potential) at c.distance-distance.ensures
 
   tested : c.in_ranges.result ≡ in_ranges s.args.zone s.args.weight.0 s.args.paying.0 m
   tested = rw far at c.in_ranges.ensures
@@ -36,8 +36,8 @@ pub returns-then-in_ranges : goal.returns-then-in_ranges
 returns-then-in_ranges c =
     let d = c.before.before in
     let a = (s d).args in
-    let e : to_z w64 (of_z w64 c.times.result) ≡ m d *ℤ pos a.weight.0 = back _ c.times.type-inv ∙ rw (far d) at c.times.ensures in
-    rw e (sym (part_full a.side a.zone a.weight a.paying a.potential (sym (tested d) ∙ c.before.if-in_ranges.true)))
+    let e : to_z w64 (of_z w64 c.times.result) ≡ m d *ℤ pos a.weight.0 = back _ c.times.type_inv ∙ rw (far d) at c.times.ensures in
+    rw e (sym (part_full a.side a.zone a.weight a.paying a.potential (sym (tested d) ∙ c.if-in_ranges.true)))
 
 pub returns : goal.returns
 returns c =

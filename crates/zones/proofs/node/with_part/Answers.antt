@@ -16,13 +16,13 @@ module _ (s : Start) where
   more = s.args.part.weighed
 
   bo : Back old
-  bo = fit_back (sfits_abs old (omega (arith, s.pre.0.weighed, s.pre.0.weight)))
+  bo = fit_back (sfits_abs old (omega (arith, s.requires.0.weighed, s.requires.0.weight)))
 
   bm : Back more
-  bm = fit_back (sfits_abs more (omega (arith, s.pre.1.weighed, s.pre.1.weight)))
+  bm = fit_back (sfits_abs more (omega (arith, s.requires.1.weighed, s.requires.1.weight)))
 
   fits : SFits w64 (old +ℤ more)
-  fits = sfits_abs (old +ℤ more) (omega (arith, abs-add old more, s.pre.0.weighed, s.pre.0.weight, s.pre.1.weighed, s.pre.1.weight))
+  fits = sfits_abs (old +ℤ more) (omega (arith, abs-add old more, s.requires.0.weighed, s.requires.0.weight, s.requires.1.weighed, s.requires.1.weight))
 
   bw : Back (old +ℤ more)
   bw = fit_back fits
