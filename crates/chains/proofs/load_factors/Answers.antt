@@ -4,40 +4,50 @@ use native.Mathlib.Omega.{arith}
 use Rattle.meaning.proofs.Columns.{column_none, column_turn}
 use Rattle.chains.proofs.Laws.{factors_on, factor_read, factors_filled}
 use Rattle.chains.proofs.load_factors.Goals as goal
-use Rattle.chains.proofs.load_factors.Goals.{In-loop-t}
 
 pub loop-t-init : goal.loop-t-init
 loop-t-init c = (omega arith, sym (column_none 0 7 _))
 
-on : (c : In-loop-t) → (c.args.zones ≤ 32) × (c.loop-t.t + 1 ≤ 7)
-on c = let t = factors_on c.args.zones c.loop-t.t c.loop-t-test.true in (t.0, omega (arith, t.1))
-
 pub overflow_add-zones : goal.overflow_add-zones
-overflow_add-zones c = omega (arith, on c)
+overflow_add-zones c =
+    let on : (c.args.zones ≤ 32) × (c.loop-t.t + 1 ≤ 7) = let t = factors_on c.args.zones c.loop-t.t c.loop-t-test.true in (t.0, omega (arith, t.1)) in
+    omega (arith, on)
 
 pub overflow_mul-zones : goal.overflow_mul-zones
-overflow_mul-zones c = omega (arith, on c)
+overflow_mul-zones c =
+    let on : (c.args.zones ≤ 32) × (c.loop-t.t + 1 ≤ 7) = let t = factors_on c.args.zones c.loop-t.t c.loop-t-test.true in (t.0, omega (arith, t.1)) in
+    omega (arith, on)
 
 pub u32_at-requires : goal.u32_at-requires
 u32_at-requires c = tt
 
 pub offset_bounds-all-t : goal.offset_bounds-all-t
-offset_bounds-all-t c = omega (arith, on c.before)
+offset_bounds-all-t c =
+    let on : (c.args.zones ≤ 32) × (c.loop-t.t + 1 ≤ 7) = let t = factors_on c.args.zones c.loop-t.t c.loop-t-test.true in (t.0, omega (arith, t.1)) in
+    omega (arith, on)
 
 pub bounds-all-t : goal.bounds-all-t
-bounds-all-t c = omega (arith, on c.before)
+bounds-all-t c =
+    let on : (c.args.zones ≤ 32) × (c.loop-t.t + 1 ≤ 7) = let t = factors_on c.args.zones c.loop-t.t c.loop-t-test.true in (t.0, omega (arith, t.1)) in
+    omega (arith, on)
 
 pub overflow_add-t : goal.overflow_add-t
-overflow_add-t c = omega (arith, on c.before)
+overflow_add-t c =
+    let on : (c.args.zones ≤ 32) × (c.loop-t.t + 1 ≤ 7) = let t = factors_on c.args.zones c.loop-t.t c.loop-t-test.true in (t.0, omega (arith, t.1)) in
+    omega (arith, on)
 
 pub loop-t-smaller : goal.loop-t-smaller
-loop-t-smaller c = omega (arith, on c.before)
+loop-t-smaller c =
+    let on : (c.args.zones ≤ 32) × (c.loop-t.t + 1 ≤ 7) = let t = factors_on c.args.zones c.loop-t.t c.loop-t-test.true in (t.0, omega (arith, t.1)) in
+    omega (arith, on)
 
 pub loop-t-preserved : goal.loop-t-preserved
 loop-t-preserved c =
-    let a = c.args in
-    let t = on c.before in
-    (t.1, column_turn 0 7 _ c.loop-t.t (omega (arith, t.1)) c.loop-t.invariant.1 (c.u32_at.ensures.value ∙ factor_read a.share.now a.zones c.loop-t.t t.0))
+    let on : let l = c in (l.args.zones ≤ 32) × (l.loop-t.t + 1 ≤ 7) = let t = factors_on c.args.zones c.loop-t.t c.loop-t-test.true in (t.0, omega (arith, t.1)) in
+    let l = c in
+    let a = l.args in
+    let t = on in
+    (t.1, column_turn 0 7 _ l.loop-t.t (omega (arith, t.1)) l.loop-t.invariant.1 (c.u32_at.ensures.value ∙ factor_read a.share.now a.zones l.loop-t.t t.0))
 
 pub returns : goal.returns
 returns c =

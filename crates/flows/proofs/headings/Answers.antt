@@ -8,14 +8,6 @@ use Rattle.meaning.proofs.Columns.{column_none, column_turn, column_done}
 use Rattle.numbers.specs.Numbers.{no_heading}
 use Rattle.flows.specs.Flows.{number, headings_of}
 use Rattle.flows.proofs.headings.Goals as goal
-use Rattle.flows.proofs.headings.Goals.{After-heading_of-arg-in-loop-c-1, After-number_at-peak}
-
--- the two base flows of a turn's circuit
-bf : (c : After-heading_of-arg-in-loop-c-1) → Back (number c.args.base.now (c.args.n + c.loop-c.c))
-bf c = back _ c.heading_of-arg-in-loop-c-1.given
-
-answered : (c : After-number_at-peak) → to_z w64 (of_z w64 c.number_at-peak.result) ≡ number c.args.peak_base.now (c.args.n + c.loop-c.c)
-answered c = back _ c.number_at-peak.type_inv ∙ c.number_at-peak.ensures
 
 pub circuits_in-m-requires : goal.circuits_in-m-requires
 circuits_in-m-requires c = tt
@@ -61,8 +53,10 @@ loop-c-smaller c = omega arith
 
 pub loop-c-preserved : goal.loop-c-preserved
 loop-c-preserved c =
-    let p = c.before.before.before in
-    (omega arith, column_turn no_heading 512 _ p.loop-c.c (omega arith) p.loop-c.invariant.1 (simp (bf c.before, answered p) at c.heading_of.ensures))
+    let bf : Back (let l = c in let s = l in number s.args.base.now (s.args.n + l.loop-c.c)) = back _ c.heading_of-arg-in-loop-c-1.given in
+    let answered : to_z w64 (of_z w64 c.number_at-peak.result) ≡ let l = c in let s = l in number s.args.peak_base.now (s.args.n + l.loop-c.c) = back _ c.number_at-peak.type_inv ∙ c.number_at-peak.ensures in
+    let l = c in
+    (omega arith, column_turn no_heading 512 _ l.loop-c.c (omega arith) l.loop-c.invariant.1 (simp (bf, answered) at c.heading_of.ensures))
 
 pub returns : goal.returns
 unfolding headings_of

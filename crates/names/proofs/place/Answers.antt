@@ -7,12 +7,6 @@ use Rattle.meaning.proofs.Rows.{passed_zero, passed_more}
 use Rattle.names.specs.Search.{name_row}
 use Rattle.names.proofs.RowLaws.{row_below, search_stops, search_ends}
 use Rattle.names.proofs.place.Goals as goal
-use Rattle.names.proofs.place.Goals.{After-row_is}
-
--- what a comparison tells of a row
-told : (c : After-row_is)
-    → let a = c.args in c.row_is.result ≡ same_name (name_row a.file.now a.rows c.loop-row.row) (name_at a.file.now a.at)
-told c = rw c.row_at-in-loop-row.ensures at c.row_is.ensures
 
 pub loop-row-init : goal.loop-row-init
 loop-row-init c = (omega arith, passed_zero _)
@@ -25,10 +19,14 @@ row_is-requires c =
     (rw c.row_at-in-loop-row.ensures (row_below rows _ _ (omega arith) p.0), p.1)
 
 pub returns-then-row_is : goal.returns-then-row_is
-returns-then-row_is c = search_stops _ _ c.loop-row.invariant.1 (omega arith) (sym (told c.before) ∙ c.if-row_is.true)
+returns-then-row_is c =
+    let told : let a = c.args in c.row_is.result ≡ same_name (name_row a.file.now a.rows c.loop-row.row) (name_at a.file.now a.at) = rw c.row_at-in-loop-row.ensures at c.row_is.ensures in
+    search_stops _ _ c.loop-row.invariant.1 (omega arith) (sym (told) ∙ c.if-row_is.true)
 
 pub loop-row-preserved : goal.loop-row-preserved
-loop-row-preserved c = (omega arith, passed_more c.loop-row.invariant.1 (sym (told c.before) ∙ c.if-row_is.false))
+loop-row-preserved c =
+    let told : let a = c.args in c.row_is.result ≡ same_name (name_row a.file.now a.rows c.loop-row.row) (name_at a.file.now a.at) = rw c.row_at-in-loop-row.ensures at c.row_is.ensures in
+    (omega arith, passed_more c.loop-row.invariant.1 (sym (told) ∙ c.if-row_is.false))
 
 pub returns : goal.returns
 returns c = search_ends _ _ c.loop-row.invariant.1 (omega arith) (omega arith)

@@ -6,12 +6,6 @@ use Rattle.meaning.proofs.Rows.{passed_zero, passed_more}
 use Rattle.names.specs.Search.{name_row}
 use Rattle.names.proofs.RowLaws.{row_below, search_stops, search_ends, seen, unseen}
 use Rattle.names.proofs.repeated.Goals as goal
-use Rattle.names.proofs.repeated.Goals.{After-row_is}
-
--- what a comparison tells of two rows
-told : (c : After-row_is)
-    → let a = c.args in c.row_is.result ≡ same_name (name_row a.file.now a.rows c.loop-early.early) (name_row a.file.now a.rows c.rows.row)
-told c = rw c.row_at-later.ensures at (rw c.row_at.ensures at c.row_is.ensures)
 
 pub rows-init : goal.rows-init
 rows-init c = (omega arith, passed_zero _)
@@ -27,7 +21,9 @@ row_is-requires c =
     (rw c.row_at.ensures (row_below rows _ _ (omega arith) p.0), rw c.row_at-later.ensures (row_below rows _ _ (omega arith) p.0))
 
 pub loop-early-preserved : goal.loop-early-preserved
-loop-early-preserved c = (omega arith, passed_more c.loop-early.invariant.1 (sym (told c.before) ∙ c.if-row_is.false))
+loop-early-preserved c =
+    let told : let a = c.args in c.row_is.result ≡ same_name (name_row a.file.now a.rows c.loop-early.early) (name_row a.file.now a.rows c.rows.row) = rw c.row_at-later.ensures at (rw c.row_at.ensures at c.row_is.ensures) in
+    (omega arith, passed_more c.loop-early.invariant.1 (sym (told) ∙ c.if-row_is.false))
 
 pub rows-preserved : goal.rows-preserved
 rows-preserved c =
@@ -39,5 +35,6 @@ returns-then-row-count c = search_ends _ _ c.rows.invariant.1 (omega arith) (ome
 
 pub returns-then-row_is : goal.returns-then-row_is
 returns-then-row_is c =
+    let told : let a = c.args in c.row_is.result ≡ same_name (name_row a.file.now a.rows c.loop-early.early) (name_row a.file.now a.rows c.rows.row) = rw c.row_at-later.ensures at (rw c.row_at.ensures at c.row_is.ensures) in
     let l = c.loop-early in
-    search_stops _ _ c.rows.invariant.1 (omega arith) (seen _ _ l.early (omega arith) (sym (told c.before) ∙ c.if-row_is.true))
+    search_stops _ _ c.rows.invariant.1 (omega arith) (seen _ _ l.early (omega arith) (sym (told) ∙ c.if-row_is.true))

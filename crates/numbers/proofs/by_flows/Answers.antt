@@ -11,13 +11,13 @@ module _ (c : After-magnitude-here) where
   abbrev s : Start
   s = c.before.before
 
-  by : Back s.args.year-round
-  by = fit_back s.ranges.year-round
+  by : Back s.args.year_round
+  by = fit_back s.ranges.year_round
 
   bp : Back s.args.peak
   bp = fit_back s.ranges.peak
 
-  there : c.magnitude-there.result ≡ nat_abs s.args.year-round
+  there : c.magnitude-there.result ≡ nat_abs s.args.year_round
   there = simp by at c.magnitude-there.ensures
 
   here : c.magnitude-here.result ≡ nat_abs s.args.peak

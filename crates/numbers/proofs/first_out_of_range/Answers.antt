@@ -1,18 +1,10 @@
 use mathlib.Core.Path.{◌≡◌, sym, ◌∙◌}
-use mathlib.Core.Bool.{Bool}
-use mathlib.Core.List.{List}
-use Prim.Native.Nat.{ℕ, ◌-◌}
+use Prim.Native.Nat.{◌-◌}
 use native.Mathlib.Omega.{arith}
-use lib.IntN.{ℤ}
 use lib.ListN.{length}
 use Rattle.meaning.specs.Proposal.{number_in_range}
-use Rattle.numbers.specs.Numbers.{pinned}
 use Rattle.numbers.proofs.Found.{pass_none, pass_more, row_here, row_none}
 use Rattle.numbers.proofs.first_out_of_range.Goals as goal
-
--- the test that a row of the run is put to
-abbrev test : (n reference limit : ℕ) → List ℤ → ℕ → Bool
-test n reference limit run = number_in_range (pinned n reference) limit run
 
 pub loop-i-init : goal.loop-i-init
 loop-i-init c = (omega arith, pass_none _)

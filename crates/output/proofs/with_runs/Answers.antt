@@ -8,21 +8,15 @@ use Rattle.meaning.specs.Outcome.{Settled, settle}
 use Rattle.meaning.specs.Calls.{Prints}
 use Rattle.output.proofs.Printing.{zeros, refusal_printed, sheet_printed}
 use Rattle.output.proofs.with_runs.Goals as goal
-use Rattle.output.proofs.with_runs.Goals.{After-write-answer}
-
--- with the file's own runs
-settled : (w : After-write-answer)
-    → ◌≡◌ {A = Settled} (record { answer = w.write-answer.result; buffer = w.write-answer.new.1.1.1.1.1.1.1.0 }) (settle w.args.file.now (runs_in w.args.file.now) w.args.share.now zeros)
-settled w = subst (λ (r : Runs). ◌≡◌ {A = Settled} (record { answer = w.write-answer.result; buffer = w.write-answer.new.1.1.1.1.1.1.1.0 }) (settle w.args.file.now r w.args.share.now zeros)) w.requires w.write-answer.ensures.contract
 
 pub returns-in-Refused : goal.returns-in-Refused
 returns-in-Refused c =
-    let w = c.before.before.before.before.before in
+    let settled : ◌≡◌ {A = Settled} (record { answer = c.write-answer.result; buffer = c.write-answer.new.1.1.1.1.1.1.1.0 }) (settle c.args.file.now (runs_in c.args.file.now) c.args.share.now zeros) = subst (λ (r : Runs). ◌≡◌ {A = Settled} (record { answer = c.write-answer.result; buffer = c.write-answer.new.1.1.1.1.1.1.1.0 }) (settle c.args.file.now r c.args.share.now zeros)) c.requires c.write-answer.ensures.contract in
     subst (λ (t : List ℕ). Prints t c.refused.result)
-    (refusal_printed w.args.file.now w.args.share.now w.write-answer.result _ (settled w) c.in-Refused.is)
+    (refusal_printed c.args.file.now c.args.share.now c.write-answer.result _ (settled) c.in-Refused.is)
     c.refused.ensures
 
 pub returns-in-Accepted : goal.returns-in-Accepted
 returns-in-Accepted c =
-    let w = c.before.before.before.before in
-    sheet_printed w.args.file.now w.args.share.now w.write-answer.result _ (settled w) c.in-Accepted.is
+    let settled : ◌≡◌ {A = Settled} (record { answer = c.write-answer.result; buffer = c.write-answer.new.1.1.1.1.1.1.1.0 }) (settle c.args.file.now (runs_in c.args.file.now) c.args.share.now zeros) = subst (λ (r : Runs). ◌≡◌ {A = Settled} (record { answer = c.write-answer.result; buffer = c.write-answer.new.1.1.1.1.1.1.1.0 }) (settle c.args.file.now r c.args.share.now zeros)) c.requires c.write-answer.ensures.contract in
+    sheet_printed c.args.file.now c.args.share.now c.write-answer.result _ (settled) c.in-Accepted.is

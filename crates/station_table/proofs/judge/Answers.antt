@@ -22,12 +22,12 @@ below c = tec_below c.args.file.now (λ i. omega (arith, c.shared_slice_known-1.
 
 pub by_type-by_type-requires : goal.by_type-by_type-requires
 by_type-by_type-requires c =
-    let s = c.before.before.before in
+    let s = c in
     (nodes_few _ s.section-nodes.ensures, stations_few _ s.section-rows.ensures, below s)
 
 pub returns : goal.returns
 returns c =
-    let s = c.before.before.before.before in
+    let s = c in
     let nodes = nodes_from _ s.section-nodes.ensures in
     let stations = stations_from _ s.section-rows.ensures in
     let few = stations_few _ s.section-rows.ensures in

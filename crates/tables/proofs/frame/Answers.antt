@@ -6,30 +6,29 @@ use Rattle.meaning.specs.Editions.{by_system}
 use Rattle.meaning.specs.File.{file_whole, runs_whole}
 use Rattle.tables.proofs.FrameLaws.{file_stops, runs_stop, settings_decide, few_rows, setting_is, runs_are}
 use Rattle.tables.proofs.frame.Goals as goal
-use Rattle.tables.proofs.frame.Goals.{After-peak_runs, Then-whole}
-
-is_whole : (c : Then-whole) → file_whole c.args.file.now ≡ true
-is_whole c = sym c.whole.ensures ∙ c.if-whole.true
 
 pub overflow_add-count : goal.overflow_add-count
 overflow_add-count c = omega (arith, few_rows _ c.counts-counts.ensures)
 
-runs-told : (c : After-peak_runs) → let a = c.args in
-    (c.year_round_runs.result && c.peak_runs.result) ≡ runs_whole a.file.now (by_system a.base a.wider a.local a.peak-base a.peak-wider)
-runs-told c =
-    let n = c.before in
-    let a = n.args in
-    ap₂ ◌&&◌ c.year_round_runs.ensures (rw c.peak_count-peak.ensures at c.peak_runs.ensures)
-    ∙ runs_are a.file.now n.counts-counts.ensures (is_whole n.before) c.settings-settings.ensures a.base a.wider a.local a.peak-base a.peak-wider
-
 pub returns-then-year_round_runs-peak_runs : goal.returns-then-year_round_runs-peak_runs
 returns-then-year_round_runs-peak_runs c =
-    let l = c.before.before in
-    let s = l.before.before.before.before in
-    settings_decide _ _ (is_whole s.before.before) (sym (runs-told l) ∙ c.if-year_round_runs-peak_runs.true) (setting_is _ s.counts-counts.ensures s.settings-settings.ensures c.stage.ensures)
+    let is_whole : file_whole c.args.file.now ≡ true = sym c.whole.ensures ∙ c.if-whole.true in
+    let runs-told : let a = c.args in (c.year_round_runs.result && c.peak_runs.result) ≡ runs_whole a.file.now (by_system a.base a.wider a.local a.peak_base a.peak_wider) = let s = c in
+    let n = s in
+    let a = n.args in
+    ap₂ ◌&&◌ c.year_round_runs.ensures (rw c.peak_count-peak.ensures at c.peak_runs.ensures)
+    ∙ runs_are a.file.now n.counts-counts.ensures (is_whole n.before) s.settings-settings.ensures a.base a.wider a.local a.peak_base a.peak_wider in
+    let s = c in
+    settings_decide _ _ (is_whole) (sym (runs-told) ∙ c.if-year_round_runs-peak_runs.true) (setting_is _ s.counts-counts.ensures s.settings-settings.ensures c.stage.ensures)
 
 pub returns-then-whole : goal.returns-then-whole
-returns-then-whole c = runs_stop _ _ (is_whole c.before.before.before.before.before.before.before) (sym (runs-told c.before) ∙ c.if-year_round_runs-peak_runs.false)
+returns-then-whole c =
+    let is_whole : file_whole c.args.file.now ≡ true = sym c.whole.ensures ∙ c.if-whole.true in
+    let runs-told : let a = c.args in (c.year_round_runs.result && c.peak_runs.result) ≡ runs_whole a.file.now (by_system a.base a.wider a.local a.peak_base a.peak_wider) = let n = c in
+    let a = n.args in
+    ap₂ ◌&&◌ c.year_round_runs.ensures (rw c.peak_count-peak.ensures at c.peak_runs.ensures)
+    ∙ runs_are a.file.now n.counts-counts.ensures (is_whole n.before) c.settings-settings.ensures a.base a.wider a.local a.peak_base a.peak_wider in
+    runs_stop _ _ (is_whole) (sym (runs-told) ∙ c.if-year_round_runs-peak_runs.false)
 
 pub returns : goal.returns
 returns c = file_stops _ _ (sym c.whole.ensures ∙ c.if-whole.false)

@@ -19,7 +19,7 @@ ranged_figures-requires c =
     let t = c.before in
     let a = t.args in
     let reached = reached_most a.nodes (length a.local.now) in (
-      sides_fit a.settings a.nodes a.generation-zone a.tec a.paying a.paying-at-peak a.demand-zone a.demand a.wider.now a.peak-wider.now
+      sides_fit a.settings a.nodes a.generation_zone a.tec a.paying a.paying_at_peak a.demand_zone a.demand a.wider.now a.peak_wider.now
           c.backgrounds_of-sides.ensures (tested t),
       rw c.nodes_in-count.ensures reached.0,
       rw c.nodes_in-count.ensures reached.1,
@@ -29,12 +29,12 @@ pub returns-then-settings_fit : goal.returns-then-settings_fit
 returns-then-settings_fit c =
     let t = c.before in
     let a = t.args in
-    over_made a.settings a.nodes a.generation-zone a.tec a.paying a.paying-at-peak a.demand-zone a.demand a.wider.now a.peak-wider.now
+    over_made a.settings a.nodes a.generation_zone a.tec a.paying a.paying_at_peak a.demand_zone a.demand a.wider.now a.peak_wider.now
     c.backgrounds_of-sides.ensures (tested t) a.local.now a.shares c.nodes_in-count.ensures c.ranged_figures.ensures
 
 pub returns : goal.returns
 returns c =
     let a = c.args in
     c.no_figures.ensures
-    ∙ over_none a.settings a.nodes a.generation-zone a.tec a.paying a.paying-at-peak a.demand-zone a.demand a.wider.now a.peak-wider.now a.local.now a.shares
+    ∙ over_none a.settings a.nodes a.generation_zone a.tec a.paying a.paying_at_peak a.demand_zone a.demand a.wider.now a.peak_wider.now a.local.now a.shares
     (sym c.settings_fit.ensures ∙ c.if-settings_fit.false)

@@ -16,15 +16,8 @@ use Rattle.text.proofs.write_figures.Goals.{After-sized, Start, Then-sized}
 abbrev start : After-sized → Start
 start c = c.before.before.before
 
--- the figures are sized, and this is their text
-is-sized : (t : Then-sized) → let a = (start t.before).args in sized a.figures a.file.now a.rows ≡ true
-is-sized t = sym t.sized.ensures ∙ t.if-sized.true
-
 abbrev whole : Then-sized → List ℕ
 whole t = let a = (start t.before).args in sheet_text (shown_in a.figures a.file.now a.rows)
-
-is-text : (t : Then-sized) → let a = (start t.before).args in text_of a.figures a.file.now a.rows ≡ whole t
-is-text t = let a = (start t.before).args in text_sized a.figures a.file.now a.rows (is-sized t)
 
 -- there is room aside for any text
 wide : room ≤ length (replicate {A = ℕ} room 0)
@@ -32,25 +25,30 @@ wide = rw (length-replicate {A = ℕ} room 0) (omega arith)
 
 pub put_figures-length-requires : goal.put_figures-length-requires
 put_figures-length-requires c =
-    let t = c.before in
+    let is-sized : let a = (start c.before).args in sized a.figures a.file.now a.rows ≡ true = sym c.sized.ensures ∙ c.if-sized.true in
+    let t = c in
     let a = (start t.before).args in
-    ((says_sized a.figures a.file.now a.rows).0 (is-sized t), wide)
+    ((says_sized a.figures a.file.now a.rows).0 (is-sized), wide)
 
 pub returns-then-out-length : goal.returns-then-out-length
 returns-then-out-length c =
-    let t = c.before.before in
+    let is-sized : let a = (start c.before).args in sized a.figures a.file.now a.rows ≡ true = sym c.sized.ensures ∙ c.if-sized.true in
+    let is-text : let a = (start c.before).args in text_of a.figures a.file.now a.rows ≡ whole c = let a = (start c.before).args in text_sized a.figures a.file.now a.rows (is-sized) in
+    let t = c in
     let long = c.put_figures-length.ensures.next in
-    rw (is-text t) (fitted_short (whole t) (start t.before).args.out.now _ (omega (arith, long, c.if-out-length.true)) (omega (arith, long)))
+    rw (is-text) (fitted_short (whole t) (start t.before).args.out.now _ (omega (arith, long, c.if-out-length.true)) (omega (arith, long)))
 
 pub returns-then-sized : goal.returns-then-sized
 returns-then-sized c =
-    let e = c.before.before.before.before in
-    let t = e.before.before in
+    let is-sized : let a = (start c.before).args in sized a.figures a.file.now a.rows ≡ true = sym c.sized.ensures ∙ c.if-sized.true in
+    let is-text : let a = (start c.before).args in text_of a.figures a.file.now a.rows ≡ whole c = let a = (start c.before).args in text_sized a.figures a.file.now a.rows (is-sized) in
+    let e = c in
+    let t = e in
     let room : length (whole t) ≤ length (start t.before).args.out.now = omega (arith, e.put_figures-length.ensures.next, e.if-out-length.false) in
     let n = e.put_figures-length.result in
     let e : n - 0 ≡ n = omega arith in
     let part : take (n - 0) e.put_figures-length.new.0 ≡ whole t = rw e (front e.put_figures-length.ensures wide) in
-    rw (is-text t)
+    rw (is-text)
     (fitted_written (whole t) (start t.before).args.out.now _ _ room
     (written (rw part at c.put_bytes.ensures) room))
 

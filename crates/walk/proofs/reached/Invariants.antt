@@ -1,3 +1,4 @@
+use mathlib.Core.List.{[]}
 use Prim.Native.Nat.{◌-◌}
 use Rattle.integers.specs.Numbers.{count}
 use Rattle.meaning.specs.Columns.{network_in}

@@ -1,14 +1,10 @@
 use Prim.Native.Nat.{◌-◌}
 use native.Mathlib.Omega.{arith}
-use borrow.Author.Rules.{rules}
 use Rattle.layout.proofs.FileLaws.{size_low, chained_none, chained_on, chained_is}
 use Rattle.layout.proofs.trailer.chained.Goals as goal
 
 pub loop-section-init : goal.loop-section-init
 loop-section-init c = chained_none
-
-record-size-requires : goal.Need-record-size-requires
-record-size-requires c κs = search rules
 
 pub overflow_mul-start : goal.overflow_mul-start
 overflow_mul-start c = omega (arith, size_low _ c.loop-section.section c.record_size.ensures c.count.ensures.1)

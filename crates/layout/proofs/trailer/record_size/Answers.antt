@@ -4,24 +4,21 @@ use Rattle.meaning.specs.File.{record_size}
 use Rattle.layout.proofs.FileLaws.{solution_size}
 use Rattle.layout.proofs.trailer.record_size.Goals as goal
 
-pub UNMATCHED-returns : goal.UNMATCHED-returns
+pub returns-in-0 : goal.returns-in-0
 unfolding record_size
-UNMATCHED-returns c = sym (ap (record_size c.args.version) c.in_default.keys1)
+returns-in-0 c = sym (ap (record_size c.args.version) c.in_default.keys1)
 
-pub UNMATCHED-returns-2 : goal.UNMATCHED-returns-2
+pub returns-in-1 : goal.returns-in-1
 unfolding record_size
-UNMATCHED-returns-2 c = sym (ap (record_size c.args.version) c.in_default.keys2)
+returns-in-1 c = sym (ap (record_size c.args.version) c.in_default.keys2)
 
-pub UNMATCHED-returns-3 : goal.UNMATCHED-returns-3
+pub returns-in-2 : goal.returns-in-2
 unfolding record_size
-UNMATCHED-returns-3 c = c.circuit_size.ensures ∙ sym (ap (record_size c.args.version) c.in_default.keys3)
+returns-in-2 c = c.circuit_size.ensures ∙ sym (ap (record_size c.args.version) c.in_default.keys3)
 
-pub UNMATCHED-returns-4 : goal.UNMATCHED-returns-4
+pub returns-in-3 : goal.returns-in-3
 unfolding record_size
-UNMATCHED-returns-4 c = sym (ap (record_size c.args.version) c.in_default.keys4)
+returns-in-3 c = sym (ap (record_size c.args.version) c.in_default.keys4)
 
-pub UNMATCHED-returns-5 : goal.UNMATCHED-returns-5
-UNMATCHED-returns-5 c = solution_size _ _ (omega arith) (omega arith)
-
-pub record-size-spec : {M : Type 1} → statement M
-record-size-spec = goal.close (goal.spec circuit-size-requires returns returns-2 returns-3 returns-4 returns-5)
+pub returns-in_default : goal.returns-in_default
+returns-in_default c = solution_size _ _ (omega arith) (omega arith)

@@ -4,34 +4,38 @@ use Rattle.lines.proofs.Making.{copy_none, copy_more, longer}
 use Rattle.lines.proofs.Names.{passed_none, passed_more, passed_space, passed_end, says_more}
 use native.Mathlib.Omega.{arith}
 use Rattle.lines.proofs.words.with_name.Goals as goal
-use Rattle.lines.proofs.words.with_name.Goals.{In-loop-i}
 
 pub loop-i-init : goal.loop-i-init
 loop-i-init c = (omega arith, passed_none c.args.name.now, copy_none _ _)
 
--- there is another byte
-more : (c : In-loop-i) → (c.loop-i.i < 12) × (c.loop-i.i < length c.args.name.now)
-more c = (says_more _ _).0 c.loop-i-test.true
-
 pub bounds-name-i : goal.bounds-name-i
-bounds-name-i c = omega (arith, more c.before)
+bounds-name-i c =
+    let more : (c.loop-i.i < 12) × (c.loop-i.i < length c.args.name.now) = (says_more _ _).0 c.loop-i-test.true in
+    omega (arith, more)
 
 pub returns-then-byte-eq32 : goal.returns-then-byte-eq32
 returns-then-byte-eq32 c =
-    let m = more c in
-    rw (passed_space c.args.name.now c.loop-i.i c.loop-i.invariant.1 m.0 m.1 c.if-byte-eq32.true) (longer c.loop-i.invariant.2 c.loop-i.invariant.0)
+    let more : let l = c in (l.loop-i.i < 12) × (l.loop-i.i < length l.args.name.now) = (says_more _ _).0 c.loop-i-test.true in
+    let l = c in
+    rw (passed_space l.args.name.now l.loop-i.i l.loop-i.invariant.1 more.0 more.1 c.if-byte-eq32.true) (longer l.loop-i.invariant.2 l.loop-i.invariant.0)
 
 pub bounds-bytes-at : goal.bounds-bytes-at
-bounds-bytes-at c = let g = c.before.before in omega (arith, more g)
+bounds-bytes-at c =
+    let more : (c.loop-i.i < 12) × (c.loop-i.i < length c.args.name.now) = (says_more _ _).0 c.loop-i-test.true in
+    omega (arith, more)
 
 pub loop-i-smaller : goal.loop-i-smaller
-loop-i-smaller c = omega (arith, more c.before.before)
+loop-i-smaller c =
+    let more : (c.loop-i.i < 12) × (c.loop-i.i < length c.args.name.now) = (says_more _ _).0 c.loop-i-test.true in
+    omega (arith, more)
 
 pub loop-i-preserved : goal.loop-i-preserved
 loop-i-preserved c =
-    let m = more c in
-    let n = c.args.name.now in
-    (omega (arith, m), passed_more n c.loop-i.i c.loop-i.invariant.1 m.0 m.1 c.if-byte-eq32.false, copy_more n c.loop-i.i m.1 c.loop-i.invariant.2)
+    let more : let l = c in (l.loop-i.i < 12) × (l.loop-i.i < length l.args.name.now) = (says_more _ _).0 c.loop-i-test.true in
+    let l = c in
+    let m = more in
+    let n = l.args.name.now in
+    (omega (arith, m), passed_more n l.loop-i.i l.loop-i.invariant.1 m.0 m.1 c.if-byte-eq32.false, copy_more n l.loop-i.i m.1 l.loop-i.invariant.2)
 
 pub returns : goal.returns
 returns c =

@@ -8,12 +8,6 @@ use Rattle.meaning.proofs.Frame.{row_low}
 use Rattle.meaning.proofs.Rows.{passed_zero, passed_more}
 use Rattle.meaning.proofs.First.{first_stops, first_ends}
 use Rattle.node_table.proofs.row.first_unsound.Goals as goal
-use Rattle.node_table.proofs.row.first_unsound.Goals.{After-sound_row}
-
--- what the test tells of a row
-told : (c : After-sound_row)
-    → let a = c.args in sound_node_row a.settings (node_at a.file.now (row_at a.rows c.loop-i.i)) ≡ c.sound_row.result
-told c = sym (rw c.row_at.ensures at c.sound_row.ensures)
 
 pub loop-i-init : goal.loop-i-init
 loop-i-init c = (omega arith, passed_zero _)
@@ -23,10 +17,14 @@ sound_row-requires c =
     omega (arith, c.row_at.ensures, row_low c.args.rows {i = c.loop-i.i} (omega arith) (omega arith) (omega arith))
 
 pub loop-i-preserved : goal.loop-i-preserved
-loop-i-preserved c = (omega arith, passed_more c.loop-i.invariant.1 (ap not (told c.before ∙ c.if-sound_row.true)))
+loop-i-preserved c =
+    let told : let a = c.args in sound_node_row a.settings (node_at a.file.now (row_at a.rows c.loop-i.i)) ≡ c.sound_row.result = sym (rw c.row_at.ensures at c.sound_row.ensures) in
+    (omega arith, passed_more c.loop-i.invariant.1 (ap not (told ∙ c.if-sound_row.true)))
 
 pub returns-else-sound_row : goal.returns-else-sound_row
-returns-else-sound_row c = first_stops c.loop-i.invariant.1 (omega arith) (ap not (told c.before ∙ c.if-sound_row.false))
+returns-else-sound_row c =
+    let told : let a = c.args in sound_node_row a.settings (node_at a.file.now (row_at a.rows c.loop-i.i)) ≡ c.sound_row.result = sym (rw c.row_at.ensures at c.sound_row.ensures) in
+    first_stops c.loop-i.invariant.1 (omega arith) (ap not (told ∙ c.if-sound_row.false))
 
 pub returns : goal.returns
 returns c = first_ends c.loop-i.invariant.1 (omega arith)

@@ -10,45 +10,45 @@ use Rattle.meaning.specs.declared.Side.TheVariants.{Generation, Demand}
 use Rattle.meaning.specs.Charging.{target_of}
 use Rattle.tariffs.proofs.CaseLaws.{generation_share, demand_share}
 use Rattle.tariffs.proofs.case.target_of.Goals as goal
-use Rattle.tariffs.proofs.case.target_of.Goals.{Start}
-
-module _ (s : Start) where
-  for-generation : s.args.settings.revenue * (1000 - s.args.settings.p) ≤ 10000000000000
-  for-generation = generation_share s.requires
-
-  for-demand : s.args.settings.revenue * s.args.settings.p ≤ 10000000000000
-  for-demand = demand_share s.requires
-
-  bg : (let k = s.args.settings in to_z w64 (target_of Generation k.p k.revenue) ≡ pos (target_of Generation k.p k.revenue))
-  bg = of_nat _ (omega (arith, for-generation))
-
-  bd : (let k = s.args.settings in to_z w64 (target_of Demand k.p k.revenue) ≡ pos (target_of Demand k.p k.revenue))
-  bd = of_nat _ (omega (arith, for-demand))
 
 pub overflow_mul-settings : goal.overflow_mul-settings
-overflow_mul-settings c = omega (arith, for-generation c.before.before.before)
+overflow_mul-settings c =
+    let for-generation : c.args.settings.revenue * (1000 - c.args.settings.p) ≤ 10000000000000 = generation_share c.requires in
+    omega (arith, for-generation)
 
 pub overflow_mul-settings-in-Generation : goal.overflow_mul-settings-in-Generation
-overflow_mul-settings-in-Generation c = omega (arith, for-generation c.before.before.before)
+overflow_mul-settings-in-Generation c =
+    let for-generation : c.args.settings.revenue * (1000 - c.args.settings.p) ≤ 10000000000000 = generation_share c.requires in
+    omega (arith, for-generation)
 
 pub overflow_cast-settings : goal.overflow_cast-settings
-overflow_cast-settings c = simp Z (omega (arith, for-generation c.before.before.before))
+overflow_cast-settings c =
+    let for-generation : c.args.settings.revenue * (1000 - c.args.settings.p) ≤ 10000000000000 = generation_share c.requires in
+    simp Z (omega (arith, for-generation))
 
 pub overflow_mul-settings-in-Demand : goal.overflow_mul-settings-in-Demand
-overflow_mul-settings-in-Demand c = omega (arith, for-demand c.before.before.before)
+overflow_mul-settings-in-Demand c =
+    let for-demand : c.args.settings.revenue * c.args.settings.p ≤ 10000000000000 = demand_share c.requires in
+    omega (arith, for-demand)
 
 pub overflow_mul-settings-in-Demand-2 : goal.overflow_mul-settings-in-Demand-2
-overflow_mul-settings-in-Demand-2 c = omega (arith, for-demand c.before.before.before)
+overflow_mul-settings-in-Demand-2 c =
+    let for-demand : c.args.settings.revenue * c.args.settings.p ≤ 10000000000000 = demand_share c.requires in
+    omega (arith, for-demand)
 
 pub overflow_cast-settings-in-Demand : goal.overflow_cast-settings-in-Demand
-overflow_cast-settings-in-Demand c = simp Z (omega (arith, for-demand c.before.before.before))
+overflow_cast-settings-in-Demand c =
+    let for-demand : c.args.settings.revenue * c.args.settings.p ≤ 10000000000000 = demand_share c.requires in
+    simp Z (omega (arith, for-demand))
 
 pub returns-in-Generation : goal.returns-in-Generation
 returns-in-Generation c =
-    let s = c.before.before.before.before in
-    simp (bg s) at c.start.ensures ∙ rw c.in-Generation.is refl
+    let for-generation : c.args.settings.revenue * (1000 - c.args.settings.p) ≤ 10000000000000 = generation_share c.requires in
+    let bg : (let k = c.args.settings in to_z w64 (target_of Generation k.p k.revenue) ≡ pos (target_of Generation k.p k.revenue)) = of_nat _ (omega (arith, for-generation)) in
+    simp (bg) at c.start.ensures ∙ rw c.in-Generation.is refl
 
 pub returns-in-Demand : goal.returns-in-Demand
 returns-in-Demand c =
-    let s = c.before.before.before.before in
-    simp (bd s) at c.start-in-Demand.ensures ∙ rw c.in-Demand.is refl
+    let for-demand : c.args.settings.revenue * c.args.settings.p ≤ 10000000000000 = demand_share c.requires in
+    let bd : (let k = c.args.settings in to_z w64 (target_of Demand k.p k.revenue) ≡ pos (target_of Demand k.p k.revenue)) = of_nat _ (omega (arith, for-demand)) in
+    simp (bd) at c.start-in-Demand.ensures ∙ rw c.in-Demand.is refl

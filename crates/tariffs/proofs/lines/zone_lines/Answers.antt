@@ -1,20 +1,10 @@
 use mathlib.Core.Path.{◌≡◌, sym, ◌∙◌, ap}
-use mathlib.Core.List.{List}
-use Prim.Native.Nat.{ℕ, ◌-◌}
+use Prim.Native.Nat.{◌-◌}
 use native.Mathlib.Omega.{arith}
 use lib.ListN.{replicate}
-use Rattle.meaning.specs.declared.MicroPerKw.{MicroPerKw}
-use Rattle.meaning.specs.declared.WiderFigures.{WiderFigures}
-use Rattle.meaning.specs.declared.SharedFigures.{SharedFigures}
-use Rattle.meaning.specs.declared.ZoneFigures.{ZoneFigures}
 use Rattle.meaning.specs.Columns.{no_line}
 use Rattle.meaning.proofs.Columns.{column_none, column_turn}
-use Rattle.zones.specs.declared.ZoneSums.{ZoneSums}
-use Rattle.tariffs.specs.Sides.{sums_in, wider_at, shared_at, line_from}
 use Rattle.tariffs.proofs.lines.zone_lines.Goals as goal
-
-abbrev mine : MicroPerKw → List ZoneSums → (year_round peak : List WiderFigures) → List SharedFigures → ℕ → ZoneFigures
-mine residual sums y p s k = line_from (sums_in sums k).weight (wider_at y k) (wider_at p k) (shared_at s k) residual
 
 pub no_line-all-requires : goal.no_line-all-requires
 no_line-all-requires c = tt

@@ -1,17 +1,11 @@
 use mathlib.Core.Path.{◌≡◌, refl, sym}
-use mathlib.Core.List.{List}
-use Prim.Native.Nat.{ℕ, ◌-◌}
+use Prim.Native.Nat.{◌-◌}
 use native.Mathlib.Omega.{arith}
 use lib.IntN.{pos}
-use Rattle.meaning.specs.declared.Metres.{Metres}
 use Rattle.meaning.specs.Columns.{distance}
 use Rattle.meaning.proofs.Columns.{column_none, column_turn}
-use Rattle.boundaries.specs.declared.Split.{Split}
-use Rattle.tariffs.specs.Sides.{parts_in, not_shared_over}
+use Rattle.tariffs.specs.Sides.{not_shared_over}
 use Rattle.tariffs.proofs.metres.not_shared.Goals as goal
-
-abbrev mine : List Split → ℕ → Metres
-mine parts k = (parts_in parts k).not_shared
 
 pub loop-k-init : goal.loop-k-init
 loop-k-init c = (omega arith, sym (column_none _ _ _))

@@ -1,17 +1,11 @@
 use mathlib.Core.Path.{◌≡◌, sym, ap}
-use mathlib.Core.List.{List}
-use Prim.Native.Nat.{ℕ, ◌-◌}
+use Prim.Native.Nat.{◌-◌}
 use native.Mathlib.Omega.{arith}
 use lib.IntN.{pos}
-use Rattle.meaning.specs.declared.Metres.{Metres}
 use Rattle.meaning.specs.Columns.{distance}
 use Rattle.meaning.proofs.Columns.{column_none, column_turn}
-use Rattle.zones.specs.declared.ZoneSums.{ZoneSums}
-use Rattle.tariffs.specs.Sides.{metres_from, sums_in, metres_over}
+use Rattle.tariffs.specs.Sides.{metres_over}
 use Rattle.tariffs.proofs.metres.zone_metres.Goals as goal
-
-abbrev mine : List ZoneSums → ℕ → Metres
-mine sums k = distance (metres_from (sums_in sums k))
 
 pub loop-k-init : goal.loop-k-init
 loop-k-init c = (omega arith, sym (column_none _ _ _))

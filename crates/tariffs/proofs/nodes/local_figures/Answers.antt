@@ -1,26 +1,18 @@
 use mathlib.Core.Path.{◌≡◌, refl, sym, ◌∙◌, ap}
-use mathlib.Core.List.{List}
 use Prim.Native.Nat.{ℕ, ◌-◌}
 use native.Mathlib.Omega.{arith}
-use lib.IntN.{ℤ}
 use lib.ListN.{replicate}
 use Rattle.integers.proofs.Machine.{back}
-use Rattle.meaning.specs.declared.Kw.{Kw}
 use Rattle.meaning.specs.declared.LocalFigures.{LocalFigures}
-use Rattle.meaning.specs.Columns.{kw_at, no_local}
+use Rattle.meaning.specs.Columns.{no_local}
 use Rattle.meaning.specs.Charging.{tariff}
 use Rattle.meaning.specs.Proposal.{potential}
 use Rattle.meaning.proofs.Columns.{column_none, column_turn}
 use Rattle.rests.proofs.Laws.{less_none, less_turn}
-use Rattle.tariffs.specs.Case.{local_from, node_from, local_of}
+use Rattle.tariffs.specs.Case.{node_from, local_of}
 use Rattle.tariffs.proofs.nodes.local_figures.Goals as goal
+use Rattle.tariffs.proofs.nodes.local_figures.Invariants.{line, charge}
 use Rattle.tariffs.proofs.nodes.local_figures.Goals.{After-node_line-line, At-loop-v, Start}
-
-abbrev line : (tec : List Kw) (local : List ℤ) (constant factor : ℕ) → ℕ → LocalFigures
-line tec local constant factor v = node_from (kw_at tec v) (potential local v) constant factor
-
-abbrev charge : (local : List ℤ) (constant factor : ℕ) → ℕ → ℤ
-charge local constant factor v = tariff (local_from (potential local v)) constant factor
 
 pub no_local-lines-requires : goal.no_local-lines-requires
 no_local-lines-requires c = tt

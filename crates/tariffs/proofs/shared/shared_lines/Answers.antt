@@ -1,24 +1,15 @@
 use mathlib.Core.Path.{◌≡◌, refl, sym, ◌∙◌, ap}
-use mathlib.Core.List.{List}
-use Prim.Native.Nat.{ℕ, ◌-◌}
+use Prim.Native.Nat.{◌-◌}
 use native.Mathlib.Omega.{arith}
-use lib.IntN.{ℤ}
 use lib.ListN.{replicate}
 use Rattle.meaning.specs.declared.SharedFigures.{SharedFigures}
 use Rattle.meaning.specs.Charging.{no_shared}
 use Rattle.meaning.proofs.Columns.{column_none, column_turn}
 use Rattle.rests.proofs.Laws.{less_none, less_turn}
-use Rattle.boundaries.specs.declared.Split.{Split}
-use Rattle.tariffs.specs.declared.wider.Terms.{Terms}
-use Rattle.tariffs.specs.Sides.{parts_in, shared_tariff_from, shared_from, shared_over}
+use Rattle.tariffs.specs.Sides.{shared_from, shared_over}
 use Rattle.tariffs.proofs.shared.shared_lines.Goals as goal
+use Rattle.tariffs.proofs.shared.shared_lines.Invariants.{price}
 use Rattle.tariffs.proofs.shared.shared_lines.Goals.{After-shared_line-line}
-
-abbrev line : Terms → List Split → ℕ → SharedFigures
-line terms parts k = shared_from terms (parts_in parts k).shared.0
-
-abbrev price : Terms → List Split → ℕ → ℤ
-price terms parts k = shared_tariff_from terms (parts_in parts k).shared.0
 
 pub no_shared-lines-requires : goal.no_shared-lines-requires
 no_shared-lines-requires c = tt
@@ -65,7 +56,8 @@ loop-k-smaller c = omega arith
 
 pub loop-k-preserved : goal.loop-k-preserved
 loop-k-preserved c =
-    let w = c.before.before in (
+    let w = c.before.before in
+    (
       omega arith,
       column_turn no_shared 32 _ w.loop-k.k (omega arith) w.loop-k.invariant.1 w.shared_line-line.ensures,
       less_turn _ _ _ _ w.loop-k.k w.loop-k.invariant.2 (priced w) c.less-left.ensures,

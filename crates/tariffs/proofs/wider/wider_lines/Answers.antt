@@ -1,25 +1,15 @@
 use mathlib.Core.Path.{◌≡◌, refl, sym, ◌∙◌, ap}
-use mathlib.Core.List.{List}
-use Prim.Native.Nat.{ℕ, ◌-◌}
+use Prim.Native.Nat.{◌-◌}
 use native.Mathlib.Omega.{arith}
-use lib.IntN.{ℤ}
 use lib.ListN.{replicate}
-use Rattle.meaning.specs.declared.Metres.{Metres}
 use Rattle.meaning.specs.declared.WiderFigures.{WiderFigures}
-use Rattle.meaning.specs.Columns.{metres_at}
 use Rattle.meaning.specs.Charging.{no_wider}
 use Rattle.meaning.proofs.Columns.{column_none, column_turn}
 use Rattle.rests.proofs.Laws.{less_none, less_turn}
-use Rattle.tariffs.specs.declared.wider.Terms.{Terms}
-use Rattle.tariffs.specs.Sides.{tariff_from, wider_from, wider_over}
+use Rattle.tariffs.specs.Sides.{wider_from, wider_over}
 use Rattle.tariffs.proofs.wider.wider_lines.Goals as goal
+use Rattle.tariffs.proofs.wider.wider_lines.Invariants.{price}
 use Rattle.tariffs.proofs.wider.wider_lines.Goals.{After-wider_line-line}
-
-abbrev line : Terms → List Metres → ℕ → WiderFigures
-line terms metres k = wider_from terms (metres_at metres k)
-
-abbrev price : Terms → List Metres → ℕ → ℤ
-price terms metres k = tariff_from terms (metres_at metres k)
 
 pub no_wider-lines-requires : goal.no_wider-lines-requires
 no_wider-lines-requires c = tt
@@ -66,7 +56,8 @@ priced c = ap (λ (w : WiderFigures). w.tariff.0) c.wider_line-line.ensures
 
 pub loop-k-preserved : goal.loop-k-preserved
 loop-k-preserved c =
-    let w = c.before in (
+    let w = c.before in
+    (
       omega arith,
       column_turn no_wider 32 _ w.loop-k.k (omega arith) w.loop-k.invariant.1 w.wider_line-line.ensures,
       less_turn _ _ _ _ w.loop-k.k w.loop-k.invariant.2 (priced w) c.less-left.ensures,

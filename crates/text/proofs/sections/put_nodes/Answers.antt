@@ -1,37 +1,29 @@
 use mathlib.Core.Path.{◌≡◌}
-use mathlib.Core.List.{List}
-use Prim.Native.Nat.{ℕ, ◌≤◌, ◌-◌}
+use Prim.Native.Nat.{◌≤◌, ◌-◌}
 use lib.ListN.{length}
-use Rattle.meaning.specs.declared.Section.{Section}
-use Rattle.meaning.specs.declared.LocalFigures.{LocalFigures}
-use Rattle.meaning.specs.Sheet.{node_line, node_lines}
+use Rattle.meaning.specs.Sheet.{node_lines}
 use Rattle.meaning.proofs.Frame.{row_rise}
 use Rattle.lines.proofs.Making.{kept, longer, ready, copied, rows_start, rows_more}
-use Rattle.text.specs.SheetText.{name_of, local_in}
 use Rattle.text.proofs.Names.{name_read}
 use borrow.Author.Rules.{rules}
 use native.Mathlib.Omega.{arith}
 use Rattle.text.proofs.sections.put_nodes.Goals as goal
-use Rattle.text.proofs.sections.put_nodes.Goals.{After-row_at-name}
-
--- the text of row v
-abbrev row : List LocalFigures → (file : List ℕ) → Section → ℕ → List ℕ
-row local file rows v = node_line (name_of file rows v) (local_in local v)
+use Rattle.text.proofs.sections.put_nodes.Invariants.{row}
 
 pub loop-v-init : goal.loop-v-init
 loop-v-init c = let a = c.args in (omega arith, rows_start a.out.now a.from (row a.local a.file.now a.rows))
 
--- a node's name is inside the file
-inside : (c : After-row_at-name) → c.row_at-name.result ≤ length c.args.file.now
-inside c =
-    let a = c.args in
-    omega (arith, c.row_at-name.ensures, row_rise a.rows c.loop-v.v a.nodes (omega arith), c.requires)
-
 pub slice_bounds-node_line-count : goal.slice_bounds-node_line-count
-slice_bounds-node_line-count c = inside c
+slice_bounds-node_line-count c =
+    let inside : c.row_at-name.result ≤ length c.args.file.now = let a = c.args in
+    omega (arith, c.row_at-name.ensures, row_rise a.rows c.loop-v.v a.nodes (omega arith), c.requires) in
+    inside
 
 pub slice_bounds-node_line-start : goal.slice_bounds-node_line-start
-slice_bounds-node_line-start c = search (rules, inside c)
+slice_bounds-node_line-start c =
+    let inside : c.row_at-name.result ≤ length c.args.file.now = let a = c.args in
+    omega (arith, c.row_at-name.ensures, row_rise a.rows c.loop-v.v a.nodes (omega arith), c.requires) in
+    search (rules, inside)
 
 pub put_line-at-requires : goal.put_line-at-requires
 put_line-at-requires c =

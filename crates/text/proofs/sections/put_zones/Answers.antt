@@ -1,20 +1,12 @@
 use mathlib.Core.Path.{◌≡◌}
-use mathlib.Core.List.{List}
-use Prim.Native.Nat.{ℕ, ◌-◌}
+use Prim.Native.Nat.{◌-◌}
 use native.Mathlib.Numerals.{add-one}
 use native.Mathlib.Omega.{arith}
-use Rattle.meaning.specs.Text.{line}
-use Rattle.meaning.specs.declared.Side.{Side}
-use Rattle.meaning.specs.declared.SideFigures.{SideFigures}
-use Rattle.meaning.specs.Sheet.{zone_row, zone_lines}
+use Rattle.meaning.specs.Sheet.{zone_lines}
 use Rattle.lines.specs.Making.{width}
 use Rattle.lines.proofs.Making.{kept, longer, ready, copied, rows_start, rows_more}
-use Rattle.text.specs.SheetText.{side_in}
 use Rattle.text.proofs.sections.put_zones.Goals as goal
-
--- the text of row k
-abbrev row : Side → SideFigures → ℕ → List ℕ
-row side f k = line (zone_row side (side_in f) k)
+use Rattle.text.proofs.sections.put_zones.Invariants.{row}
 
 pub loop-k-init : goal.loop-k-init
 loop-k-init c = let a = c.args in (omega arith, rows_start a.out.now a.from (row a.side a.f))

@@ -1,3 +1,4 @@
+use mathlib.Core.List.{[]}
 use Prim.Native.Nat.{◌-◌}
 use Rattle.meaning.specs.Columns.{network_in}
 use Rattle.walk.proofs.Following.{Following}

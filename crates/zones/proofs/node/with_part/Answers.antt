@@ -1,35 +1,24 @@
 use native.Mathlib.Omega.{arith}
-use lib.IntN.{ℤ, ◌+ℤ◌}
+use lib.IntN.{◌+ℤ◌}
 use mir.Syntax.{w64}
 use mir.Val.{SFits}
 use Rattle.integers.proofs.Laws.{abs-add, sfits_abs}
 use Rattle.integers.proofs.Machine.{Back, fit_back}
 use Rattle.zones.specs.Sums.{with_part}
 use Rattle.zones.proofs.node.with_part.Goals as goal
-use Rattle.zones.proofs.node.with_part.Goals.{Start}
-
-module _ (s : Start) where
-  abbrev old : ℤ
-  old = s.args.sums.weighed
-
-  abbrev more : ℤ
-  more = s.args.part.weighed
-
-  bo : Back old
-  bo = fit_back (sfits_abs old (omega (arith, s.requires.0.weighed, s.requires.0.weight)))
-
-  bm : Back more
-  bm = fit_back (sfits_abs more (omega (arith, s.requires.1.weighed, s.requires.1.weight)))
-
-  fits : SFits w64 (old +ℤ more)
-  fits = sfits_abs (old +ℤ more) (omega (arith, abs-add old more, s.requires.0.weighed, s.requires.0.weight, s.requires.1.weighed, s.requires.1.weight))
-
-  bw : Back (old +ℤ more)
-  bw = fit_back fits
 
 pub overflow_add-weighed : goal.overflow_add-weighed
-overflow_add-weighed c = simp (bo, bm) (fits c.before.before.before.before.before.before)
+overflow_add-weighed c =
+    let bo : Back c.args.sums.weighed = fit_back (sfits_abs c.args.sums.weighed (omega (arith, c.requires.0.weighed, c.requires.0.weight))) in
+    let bm : Back c.args.part.weighed = fit_back (sfits_abs c.args.part.weighed (omega (arith, c.requires.1.weighed, c.requires.1.weight))) in
+    let fits : SFits w64 (c.args.sums.weighed +ℤ c.args.part.weighed) = sfits_abs (c.args.sums.weighed +ℤ c.args.part.weighed) (omega (arith, abs-add c.args.sums.weighed c.args.part.weighed, c.requires.0.weighed, c.requires.0.weight, c.requires.1.weighed, c.requires.1.weight)) in
+    simp (bo, bm) (fits)
 
 pub returns : goal.returns
 unfolding with_part
-returns c = simp (bo, bm, bw)
+returns c =
+    let bo : Back c.args.sums.weighed = fit_back (sfits_abs c.args.sums.weighed (omega (arith, c.requires.0.weighed, c.requires.0.weight))) in
+    let bm : Back c.args.part.weighed = fit_back (sfits_abs c.args.part.weighed (omega (arith, c.requires.1.weighed, c.requires.1.weight))) in
+    let fits : SFits w64 (c.args.sums.weighed +ℤ c.args.part.weighed) = sfits_abs (c.args.sums.weighed +ℤ c.args.part.weighed) (omega (arith, abs-add c.args.sums.weighed c.args.part.weighed, c.requires.0.weighed, c.requires.0.weight, c.requires.1.weighed, c.requires.1.weight)) in
+    let bw : Back (c.args.sums.weighed +ℤ c.args.part.weighed) = fit_back fits in
+    simp (bo, bm, bw)
