@@ -55,4 +55,4 @@ returns-then-sized c =
 pub returns : goal.returns
 returns c =
     let a = (start c.before).args in
-    rw (text_none a.figures a.file.now a.rows (sym c.sized.ensures ∙ c.if-sized.false)) (fitted_none a.out-1.now)
+    rw (text_none a.figures a.file.now a.rows (sym c.sized.ensures ∙ c.if-sized.false)) (fitted_none a.out.now)
