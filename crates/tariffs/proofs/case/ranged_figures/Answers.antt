@@ -26,9 +26,9 @@ module _ (c : After-shares_fit-shared) where
   test : Bool
   test = let a = s.args in tested a.settings a.sides a.nodes a.tec a.paying a.demand a.local.now a.shares payers.total-payers.ensures load.total-load.ensures
 
-  as-tested : test ≡ (served.totals_fit-generation.result && served.totals_fit-served.result && c.shares_fit_lem.result)
+  as-tested : test ≡ (served.totals_fit-generation.result && served.totals_fit-served.result && c.shares_fit-shared.result)
   unfolding test
-  as-tested = ap₂ (λ a b. a && b) (ap₂ (λ a b. a && b) (sym served.totals_fit-generation.ensures) (sym served.totals_fit-served.ensures)) (sym c.shares_fit_lem.ensures)
+  as-tested = ap₂ (λ a b. a && b) (ap₂ (λ a b. a && b) (sym served.totals_fit-generation.ensures) (sym served.totals_fit-served.ensures)) (sym c.shares_fit-shared.ensures)
 
 pub figures_from-requires : goal.figures_from-requires
 unfolding test
