@@ -1,0 +1,84 @@
+-- `tariff::read_input` ends, and reads into its buffer alone.
+use mathlib.Core.Path.{◌≡◌}
+use Prim.Native.Nat.{◌-◌, ◌≤◌}
+use lib.ListN.{length}
+use borrow.Author.Rules.{rules}
+use Rattle.tariff.proofs.read_input.Statement.{statement}
+use Rattle.tariff.proofs.read_input.Tie as tie
+
+abbrev invariant-loop : tie.invariant-loop
+invariant-loop from₀ buffer₀ count₀ buffer count = (length buffer ≡ length buffer₀) × (count ≤ length buffer₀)
+
+abbrev decreases-loop : tie.decreases-loop
+decreases-loop from₀ buffer₀ count₀ buffer count = length buffer₀ - count
+
+loop-holds : tie.Need-loop-init invariant-loop decreases-loop
+loop-holds c = search rules
+
+sub_read : tie.Need-overflow-sub-read invariant-loop decreases-loop
+sub_read c = search rules
+
+part-read-start : tie.Need-slice-bounds-read-start invariant-loop decreases-loop
+part-read-start c = search rules
+
+part-read-end : tie.Need-slice-bounds-read-end invariant-loop decreases-loop
+part-read-end c = search rules
+
+read-requires : tie.Need-read-requires invariant-loop decreases-loop
+read-requires c κs = search rules
+
+sub-count : tie.Need-overflow-sub-count invariant-loop decreases-loop
+sub-count c = search rules
+
+part-count-start : tie.Need-slice-bounds-count-start invariant-loop decreases-loop
+part-count-start c = search rules
+
+part-count-end : tie.Need-slice-bounds-count-end invariant-loop decreases-loop
+part-count-end c = search rules
+
+count-requires : tie.Need-count-requires invariant-loop decreases-loop
+count-requires c κs = search rules
+
+same_length : tie.Need-same-length invariant-loop decreases-loop
+same_length c = search rules
+
+returns : tie.Need-returns invariant-loop decreases-loop
+returns c = search rules
+
+add-count : tie.Need-overflow-add-count invariant-loop decreases-loop
+add-count c = search rules
+
+loop-less : tie.Need-loop-smaller invariant-loop decreases-loop
+loop-less c = search rules
+
+loop-again : tie.Need-loop-preserved invariant-loop decreases-loop
+loop-again c = search rules
+
+same-length-2 : tie.Need-same-length-2 invariant-loop decreases-loop
+same-length-2 c = search rules
+
+returns-2 : tie.Need-returns-2 invariant-loop decreases-loop
+returns-2 c = search rules
+
+pub read-input-spec : {M : Type 1} → statement M
+read-input-spec =
+    tie.close
+    (tie.spec
+    invariant-loop
+    decreases-loop
+    loop-holds
+    sub_read
+    part-read-start
+    part-read-end
+    read-requires
+    sub-count
+    part-count-start
+    part-count-end
+    count-requires
+    same_length
+    returns
+    add-count
+    loop-less
+    loop-again
+    same-length-2
+    returns-2)
