@@ -139,6 +139,9 @@ numbers_taken First OneBackground one residual z w m t l = omega (arith, w YearR
 numbers_taken Second TwoBackgrounds two residual z w m t l = omega (arith, w YearRound tt, w Peak tt)
 numbers_taken Second Sharing sharing residual z w m t l =
     omega (arith, w YearRound tt, w Peak tt, within_length 8 z.shared.metres.0 (omega arith), within_length 11 z.shared.tariff.0 (omega arith))
+numbers_taken First TwoBackgrounds x10 residual z w m t l = elim x10 [ ]
+numbers_taken First Sharing x11 residual z w m t l = elim x11 [ ]
+numbers_taken Second OneBackground x7 residual z w m t l = elim x7 [ ]
 
 constants_taken : (e : Edition) (c peak_c : ℤ) → length (decimal c) ≤ 9 → (Of Peak e → length (decimal peak_c) ≤ 9) → taken (decimals (constant_numbers e c peak_c)) ≤ 10 * backgrounds e
 unfolding decimals taken backgrounds
@@ -159,6 +162,9 @@ unfolding backgrounds zone_line_most
 longest First OneBackground one c g d h k l = omega arith
 longest Second TwoBackgrounds two c g d h k l = omega arith
 longest Second Sharing sharing c g d h k l = omega arith
+longest First TwoBackgrounds x8 c g d h k l = elim x8 [ ]
+longest First Sharing x9 c g d h k l = elim x9 [ ]
+longest Second OneBackground x6 c g d h k l = elim x6 [ ]
 
 module _ (G : Grid) (runs : Runs) (share : List ℕ) (r : Ranged G) (f : FiguresFit G runs share) where
   abbrev s : Shown

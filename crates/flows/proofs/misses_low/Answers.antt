@@ -78,8 +78,8 @@ miss_size-total-requires c = tt
 
 pub overflow_add-total : goal.overflow_add-total
 overflow_add-total c =
-    let bp : Back c.number_at-p.result = back _ c.number_at-p.ok in
-    let bq : Back c.number_at-q.result = back _ c.number_at-q.ok in
+    let bp : Back c.number_at-p.result = back _ c.number_at-p.type_inv in
+    let bq : Back c.number_at-q.result = back _ c.number_at-q.type_inv in
     let bf : Back (number c.args.run.now (c.args.n + c.loop-c.c)) = back _ c.miss_size-arg-in-loop-c-1.given in
     let bo : Back (number c.args.offset.now c.loop-c.c) = back _ c.miss_size-arg-in-loop-c-2-1.given in
     let sized : c.miss_size-total.result ≡ (size_at (net_of c.args.n 0 c.args.first.now c.args.second.now c.args.x.now c.args.run.now) c.args.offset.now c.args.run.now) c.loop-c.c = simp (bp, bq, bf, bo) at c.miss_size-total.ensures
@@ -89,8 +89,8 @@ overflow_add-total c =
 
 pub returns-then-total-gt100000000 : goal.returns-then-total-gt100000000
 returns-then-total-gt100000000 c =
-    let bp : Back c.number_at-p.result = back _ c.number_at-p.ok in
-    let bq : Back c.number_at-q.result = back _ c.number_at-q.ok in
+    let bp : Back c.number_at-p.result = back _ c.number_at-p.type_inv in
+    let bq : Back c.number_at-q.result = back _ c.number_at-q.type_inv in
     let bf : Back (number c.args.run.now (c.args.n + c.loop-c.c)) = back _ c.miss_size-arg-in-loop-c-1.given in
     let bo : Back (number c.args.offset.now c.loop-c.c) = back _ c.miss_size-arg-in-loop-c-2-1.given in
     let sized : c.miss_size-total.result ≡ (size_at (net_of c.args.n 0 c.args.first.now c.args.second.now c.args.x.now c.args.run.now) c.args.offset.now c.args.run.now) c.loop-c.c = simp (bp, bq, bf, bo) at c.miss_size-total.ensures
@@ -107,8 +107,8 @@ loop-c-smaller c = omega arith
 
 pub loop-c-preserved : goal.loop-c-preserved
 loop-c-preserved c =
-    let bp : Back c.number_at-p.result = back _ c.number_at-p.ok in
-    let bq : Back c.number_at-q.result = back _ c.number_at-q.ok in
+    let bp : Back c.number_at-p.result = back _ c.number_at-p.type_inv in
+    let bq : Back c.number_at-q.result = back _ c.number_at-q.type_inv in
     let bf : Back (number c.args.run.now (c.args.n + c.loop-c.c)) = back _ c.miss_size-arg-in-loop-c-1.given in
     let bo : Back (number c.args.offset.now c.loop-c.c) = back _ c.miss_size-arg-in-loop-c-2-1.given in
     let sized : c.miss_size-total.result ≡ (size_at (net_of c.args.n 0 c.args.first.now c.args.second.now c.args.x.now c.args.run.now) c.args.offset.now c.args.run.now) c.loop-c.c = simp (bp, bq, bf, bo) at c.miss_size-total.ensures

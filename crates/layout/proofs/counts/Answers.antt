@@ -8,7 +8,7 @@ pub row_counts-requires : goal.row_counts-requires
 row_counts-requires c = omega (arith, (whole_file _ (sym c.whole.ensures ∙ c.if-whole.true)).long)
 
 pub returns-then-whole : goal.returns-then-whole
-returns-then-whole c = counts_whole _ c.row_Counts.ensures (sym c.whole.ensures ∙ c.if-whole.true)
+returns-then-whole c = counts_whole _ c.row_counts.ensures (sym c.whole.ensures ∙ c.if-whole.true)
 
 pub returns : goal.returns
 returns c = counts_none _ (sym c.whole.ensures ∙ c.if-whole.false)

@@ -14,7 +14,7 @@ returns-in-First c =
     let e = c in
     let a = e.args in
     rw (ap (λ (e : Edition). constant_numbers e a.c.0 a.peak_c.0) e.in-First.is)
-    (longer (both e.Line-of.ensures (rw (back a.c.0 (omega (arith, c.struct_told-1.given))) at c.with_numbers.ensures)) (omega arith))
+    (longer (both e.line_of-word.ensures (rw (back a.c.0 (omega (arith, c.struct_told-1.given))) at c.with_numbers.ensures)) (omega arith))
 
 pub returns-in-Second : goal.returns-in-Second
 unfolding constant_fields line
@@ -24,4 +24,4 @@ returns-in-Second c =
     let bp = back a.peak_c.0 (omega (arith, c.struct_told-in-Second-1.given)) in
     let bc = back a.c.0 (omega (arith, c.struct_told-in-Second-2-1.given)) in
     rw (ap (λ (e : Edition). constant_numbers e a.c.0 a.peak_c.0) e.in-Second.is)
-    (both e.Line-of.ensures (rw (bp, bc) at c.with_numbers-in-Second.ensures))
+    (both e.line_of-word.ensures (rw (bp, bc) at c.with_numbers-in-Second.ensures))

@@ -5,7 +5,7 @@ use Rattle.lines.proofs.letter_of.Goals as goal
 
 pub returns-in-Generation : goal.returns-in-Generation
 unfolding letter
-returns-in-Generation c = rw (ap letter c.in-Generation.is) c.Line-of.ensures
+returns-in-Generation c = rw (ap letter c.in-Generation.is) c.line_of.ensures
 
 pub returns-in-Demand : goal.returns-in-Demand
 unfolding letter

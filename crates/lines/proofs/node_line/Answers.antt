@@ -22,4 +22,4 @@ returns c =
     let bm = back a.l.metres.0 (omega (arith, c.struct_told-1.given)) in
     let bt = back a.l.tariff.0 (omega (arith, c.struct_told-1.given)) in
     rw (node_full (unpadded (take 12 a.name.now)) a.l c.if-tec-eq0.false)
-    (both (both c.Line-of.ensures c.with_name-named.ensures) (rw (bm, bt) at c.with_numbers.ensures))
+    (both (both c.line_of-word.ensures c.with_name-named.ensures) (rw (bm, bt) at c.with_numbers.ensures))

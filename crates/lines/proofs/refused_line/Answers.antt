@@ -7,4 +7,4 @@ use Rattle.lines.proofs.refused_line.Goals as goal
 pub returns : goal.returns
 unfolding refused_fields line ends
 returns c =
-    both c.Line-of.ensures (both c.with_count-l1.ensures (both c.with_count-l2.ensures (both c.with_count-l3.ensures c.with_byte.ensures)))
+    both c.line_of-word.ensures (both c.with_count-l1.ensures (both c.with_count-l2.ensures (both c.with_count-l3.ensures c.with_byte.ensures)))

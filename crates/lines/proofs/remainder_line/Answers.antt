@@ -8,4 +8,4 @@ use Rattle.lines.proofs.remainder_line.Goals as goal
 pub returns : goal.returns
 unfolding remainder_fields line
 returns c =
-    both c.Line-of.ensures (rw (fit_back c.ranges.generation, fit_back c.ranges.demand) at c.with_numbers.ensures)
+    both c.line_of-word.ensures (rw (fit_back c.ranges.generation, fit_back c.ranges.demand) at c.with_numbers.ensures)

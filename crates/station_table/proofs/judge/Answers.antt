@@ -6,30 +6,29 @@ use Rattle.layout.proofs.Rows.{nodes_from, nodes_few, stations_from, stations_fe
 use Rattle.station_table.specs.declared.StationColumns.{StationColumns}
 use Rattle.station_table.proofs.TecLaws.{cells_all, tec_below, by_type_is}
 use Rattle.station_table.proofs.judge.Goals as goal
-use Rattle.station_table.proofs.judge.Goals.{After-columns-columns}
 
 pub stage-judgement-requires : goal.stage-judgement-requires
 stage-judgement-requires c =
     record {
       nodes = sym (nodes_from _ c.section-nodes.ensures).count;
       section = c.section-rows.ensures;
-      column = ap (λ (s : StationColumns). s.node-1) c.columns-columns.ensures;
+      column = ap (λ (s : StationColumns). s.node) c.columns-columns.ensures;
     }
-
--- a station's TEC is a u32
-below : (c : After-columns-columns) (k : ℕ) → kw_at c.columns-columns.result.tec k < 2 ^ 32
-below c = tec_below c.args.file.now (λ i. omega (arith, c.shared_slice_known-1.given i)) c.columns-columns.ensures
 
 pub by_type-by_type-requires : goal.by_type-by_type-requires
 by_type-by_type-requires c =
-    let s = c in
-    (nodes_few _ s.section-nodes.ensures, stations_few _ s.section-rows.ensures, below s)
+    -- a station's TEC is a u32
+    let below : (k : ℕ) → kw_at c.columns-columns.result.tec k < 2 ^ 32 =
+        tec_below c.args.file.now (λ i. omega (arith, c.shared_slice_known-1.given i)) c.columns-columns.ensures in
+    (nodes_few _ c.section-nodes.ensures, stations_few _ c.section-rows.ensures, below)
 
 pub returns : goal.returns
 returns c =
-    let s = c in
-    let nodes = nodes_from _ s.section-nodes.ensures in
-    let stations = stations_from _ s.section-rows.ensures in
-    let few = stations_few _ s.section-rows.ensures in
-    let by = by_type_is _ _ _ _ _ (sym nodes.count) (sym stations.count) s.columns-columns.ensures few c.by_type-by_type.ensures in
-    (c.stage-judgement.ensures, by, λ cell. cells_all _ _ _ _ _ cell c.by_type-by_type.ensures (below s) few)
+    -- a station's TEC is a u32
+    let below : (k : ℕ) → kw_at c.columns-columns.result.tec k < 2 ^ 32 =
+        tec_below c.args.file.now (λ i. omega (arith, c.shared_slice_known-1.given i)) c.columns-columns.ensures in
+    let nodes = nodes_from _ c.section-nodes.ensures in
+    let stations = stations_from _ c.section-rows.ensures in
+    let few = stations_few _ c.section-rows.ensures in
+    let by = by_type_is _ _ _ _ _ (sym nodes.count) (sym stations.count) c.columns-columns.ensures few c.by_type-by_type.ensures in
+    (c.stage-judgement.ensures, by, λ cell. cells_all _ _ _ _ _ cell c.by_type-by_type.ensures below few)

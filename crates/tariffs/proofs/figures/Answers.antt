@@ -5,32 +5,25 @@ use Rattle.zones.proofs.Laws.{reached_most}
 use Rattle.tariffs.specs.Case.{settings_fit}
 use Rattle.tariffs.proofs.CaseLaws.{settings_say, sides_fit, over_made, over_none}
 use Rattle.tariffs.proofs.figures.Goals as goal
-use Rattle.tariffs.proofs.figures.Goals.{Then-settings_fit}
-
--- the settings, as they were tested
-tested : (c : Then-settings_fit) → settings_fit c.args.settings ≡ true
-tested c = sym c.settings_fit.ensures ∙ c.if-settings_fit.true
 
 pub backgrounds_of-sides-requires : goal.backgrounds_of-sides-requires
-backgrounds_of-sides-requires c = settings_say c.args.settings (tested c)
+backgrounds_of-sides-requires c = settings_say c.args.settings (sym c.settings_fit.ensures ∙ c.if-settings_fit.true)
 
 pub ranged_figures-requires : goal.ranged_figures-requires
 ranged_figures-requires c =
-    let t = c.before in
-    let a = t.args in
+    let a = c.args in
     let reached = reached_most a.nodes (length a.local.now) in (
       sides_fit a.settings a.nodes a.generation_zone a.tec a.paying a.paying_at_peak a.demand_zone a.demand a.wider.now a.peak_wider.now
-          c.backgrounds_of-sides.ensures (tested t),
+          c.backgrounds_of-sides.ensures (sym c.settings_fit.ensures ∙ c.if-settings_fit.true),
       rw c.nodes_in-count.ensures reached.0,
       rw c.nodes_in-count.ensures reached.1,
     )
 
 pub returns-then-settings_fit : goal.returns-then-settings_fit
 returns-then-settings_fit c =
-    let t = c.before in
-    let a = t.args in
+    let a = c.args in
     over_made a.settings a.nodes a.generation_zone a.tec a.paying a.paying_at_peak a.demand_zone a.demand a.wider.now a.peak_wider.now
-    c.backgrounds_of-sides.ensures (tested t) a.local.now a.shares c.nodes_in-count.ensures c.ranged_figures.ensures
+    c.backgrounds_of-sides.ensures (sym c.settings_fit.ensures ∙ c.if-settings_fit.true) a.local.now a.shares c.nodes_in-count.ensures c.ranged_figures.ensures
 
 pub returns : goal.returns
 returns c =

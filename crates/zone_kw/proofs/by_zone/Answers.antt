@@ -3,26 +3,33 @@ use native.Mathlib.Omega.{arith}
 use Rattle.meaning.proofs.Says.{says_lt, ◌also◌}
 use Rattle.zone_kw.proofs.ZoneLaws.{sums_none, sums_more, sums_past, sums_fit, sums_done}
 use Rattle.zone_kw.proofs.by_zone.Goals as goal
-use Rattle.zone_kw.proofs.by_zone.Goals.{In-loop-v}
 
 pub loop-v-init : goal.loop-v-init
 loop-v-init c = (omega arith, omega arith, sums_none c.args.zone c.args.kw)
 
--- there is another node, and a row for it
-on : (c : In-loop-v) → (c.loop-v.v < c.args.nodes) × (c.loop-v.v < 256)
-on c = (says_lt also says_lt).0 c.loop-v-test.true
-
 pub offset_bounds-zone-v : goal.offset_bounds-zone-v
-offset_bounds-zone-v c = omega (arith, (on c).1)
+offset_bounds-zone-v c =
+    -- there is another node, and a row for it
+    let on : (c.loop-v.v < c.args.nodes) × (c.loop-v.v < 256) = (says_lt also says_lt).0 c.loop-v-test.true in
+    omega (arith, on.1)
 
 pub bounds-zone-v : goal.bounds-zone-v
-bounds-zone-v c = (on c).1
+bounds-zone-v c =
+    -- there is another node, and a row for it
+    let on : (c.loop-v.v < c.args.nodes) × (c.loop-v.v < 256) = (says_lt also says_lt).0 c.loop-v-test.true in
+    on.1
 
 pub offset_bounds-kw-v : goal.offset_bounds-kw-v
-offset_bounds-kw-v c = omega (arith, (on c.before).1)
+offset_bounds-kw-v c =
+    -- there is another node, and a row for it
+    let on : (c.loop-v.v < c.args.nodes) × (c.loop-v.v < 256) = (says_lt also says_lt).0 c.loop-v-test.true in
+    omega (arith, on.1)
 
 pub bounds-kw-v : goal.bounds-kw-v
-bounds-kw-v c = (on c.before).1
+bounds-kw-v c =
+    -- there is another node, and a row for it
+    let on : (c.loop-v.v < c.args.nodes) × (c.loop-v.v < 256) = (says_lt also says_lt).0 c.loop-v-test.true in
+    on.1
 
 pub overflow_add-v : goal.overflow_add-v
 overflow_add-v c = omega arith
@@ -35,34 +42,46 @@ bounds-sums-slot c = omega arith
 
 pub overflow_add-sums : goal.overflow_add-sums
 overflow_add-sums c =
+    -- there is another node, and a row for it
+    let on : (c.loop-v.v < c.args.nodes) × (c.loop-v.v < 256) = (says_lt also says_lt).0 c.loop-v-test.true in
     let t = c.before.before.before in
-    omega (arith, sums_fit t.args.zone t.args.kw t.loop-v.v c.slot_of-slot.result t.loop-v.invariant.2 c.kept-more.ensures (on t).1 (omega arith))
+    omega (arith, sums_fit c.args.zone c.args.kw c.loop-v.v c.slot_of-slot.result c.loop-v.invariant.2 c.kept-more.ensures on.1 (omega arith))
 
 pub bounds-sums-slot-then-slot-lt32 : goal.bounds-sums-slot-then-slot-lt32
 bounds-sums-slot-then-slot-lt32 c = omega arith
 
 pub loop-v-smaller-then-slot-lt32 : goal.loop-v-smaller-then-slot-lt32
-loop-v-smaller-then-slot-lt32 c = omega (arith, (on c.before.before.before.before).1)
+loop-v-smaller-then-slot-lt32 c =
+    -- there is another node, and a row for it
+    let on : (c.loop-v.v < c.args.nodes) × (c.loop-v.v < 256) = (says_lt also says_lt).0 c.loop-v-test.true in
+    omega (arith, on.1)
 
 pub loop-v-preserved-then-slot-lt32 : goal.loop-v-preserved-then-slot-lt32
 loop-v-preserved-then-slot-lt32 c =
+    -- there is another node, and a row for it
+    let on : (c.loop-v.v < c.args.nodes) × (c.loop-v.v < 256) = (says_lt also says_lt).0 c.loop-v-test.true in
     let t = c.before.before in
-    let a = t.args in (
-      omega (arith, (on t).0),
-      omega (arith, (on t).1),
-      sums_more a.zone a.kw t.loop-v.v _ t.loop-v.invariant.2 c.slot_of-slot.ensures c.kept-more.ensures (omega arith),
+    let a = c.args in (
+      omega (arith, on.0),
+      omega (arith, on.1),
+      sums_more a.zone a.kw c.loop-v.v _ c.loop-v.invariant.2 c.slot_of-slot.ensures c.kept-more.ensures (omega arith),
     )
 
 pub loop-v-smaller : goal.loop-v-smaller
-loop-v-smaller c = omega (arith, (on c.before.before.before).1)
+loop-v-smaller c =
+    -- there is another node, and a row for it
+    let on : (c.loop-v.v < c.args.nodes) × (c.loop-v.v < 256) = (says_lt also says_lt).0 c.loop-v-test.true in
+    omega (arith, on.1)
 
 pub loop-v-preserved : goal.loop-v-preserved
 loop-v-preserved c =
+    -- there is another node, and a row for it
+    let on : (c.loop-v.v < c.args.nodes) × (c.loop-v.v < 256) = (says_lt also says_lt).0 c.loop-v-test.true in
     let t = c.before.before in
-    let a = t.args in (
-      omega (arith, (on t).0),
-      omega (arith, (on t).1),
-      sums_past a.zone a.kw t.loop-v.v _ t.loop-v.invariant.2 c.slot_of-slot.ensures (omega arith),
+    let a = c.args in (
+      omega (arith, on.0),
+      omega (arith, on.1),
+      sums_past a.zone a.kw c.loop-v.v _ c.loop-v.invariant.2 c.slot_of-slot.ensures (omega arith),
     )
 
 pub returns : goal.returns

@@ -70,7 +70,7 @@ pub with_part-requires : goal.with_part-requires
 with_part-requires c =
     let p = c.before in
     let a = (l p).args in
-    (all_fit a.side a.t3 a.t4 a.t5 a.wider.now (l p).loop-v.v _ (omega arith) (fits p).slot (l p).loop-v.invariant.3, fits p)
+    (all_fit a.side a.zone a.weight a.paying a.wider.now (l p).loop-v.v _ (omega arith) (fits p).slot (l p).loop-v.invariant.3, fits p)
 
 pub offset_bounds-all-k-in-loop-v : goal.offset_bounds-all-k-in-loop-v
 offset_bounds-all-k-in-loop-v c = omega (arith, (fits c.before.before).slot)
@@ -89,7 +89,7 @@ loop-v-preserved c =
     let p = c.before.before in
     let a = (l p).args in
     let e = added p in
-    (omega arith, omega arith, omega arith, rw e (sums_turn a.side a.t3 a.t4 a.t5 a.wider.now (l p).loop-v.v (l p).loop-v.invariant.3 (rw e at c.with_part.ensures)))
+    (omega arith, omega arith, omega arith, rw e (sums_turn a.side a.zone a.weight a.paying a.wider.now (l p).loop-v.v (l p).loop-v.invariant.3 (rw e at c.with_part.ensures)))
 
 pub returns : goal.returns
 unfolding zone_sums

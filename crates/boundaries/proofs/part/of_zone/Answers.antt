@@ -13,8 +13,8 @@ module _ (c : After-metres_at-inner_metres) where
   abbrev s : Start
   s = c.before.before.before
 
-  b1 : to_z w64 (of_z w64 c.metres_at_lem.result) ≡ near s.args.metres s.args.z
-  b1 = back _ c.metres_at_lem.type_inv ∙ c.metres_at_lem.ensures
+  b1 : to_z w64 (of_z w64 c.metres_at-outer_metres.result) ≡ near s.args.metres s.args.z
+  b1 = back _ c.metres_at-outer_metres.type_inv ∙ c.metres_at-outer_metres.ensures
 
   b2 : to_z w64 (of_z w64 c.metres_at-inner_metres.result) ≡ near s.args.metres (next_in s.args.next.now s.args.z)
   b2 = back _ c.metres_at-inner_metres.type_inv ∙ c.metres_at-inner_metres.ensures ∙ ap (near s.args.metres) c.step-inner.ensures

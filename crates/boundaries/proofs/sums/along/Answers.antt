@@ -43,7 +43,7 @@ pub loop-k-preserved : goal.loop-k-preserved
 loop-k-preserved c = (
   omega arith,
   going_on _ _ _ (l c).loop-k.invariant.1 (omega arith) ((l c).requires.1.each (l c).loop-k.here) c.step-inner.ensures c.if-inner-eq0.false
-      (to_z-of_z (overflow_add-sum c) ∙ ap (λ (x : ℤ). to_z w64 (l c).loop-k.sum +ℤ x) (added c)),
+      (to_z-of_z (overflow_add-sum c) ∙ ap (λ (x : ℤ). to_z w64 (l c).loop-k.sum-bits +ℤ x) (added c)),
 )
 
 pub returns : goal.returns

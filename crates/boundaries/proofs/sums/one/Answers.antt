@@ -24,8 +24,8 @@ module _ (s : Start) where
 bs : (c : After-along-shared) → to_z w64 (of_z w64 c.along-shared.result) ≡ shared c.before
 bs c = back _ c.along-shared.type_inv ∙ c.along-shared.ensures
 
-bm : (c : After-metres_at-all) → to_z w64 (of_z w64 c.metres_at_lem.result) ≡ near c.args.metres c.args.z
-bm c = back _ c.metres_at_lem.type_inv ∙ c.metres_at_lem.ensures
+bm : (c : After-metres_at-all) → to_z w64 (of_z w64 c.metres_at-all.result) ≡ near c.args.metres c.args.z
+bm c = back _ c.metres_at-all.type_inv ∙ c.metres_at-all.ensures
 
 pub overflow_sub-result : goal.overflow_sub-result
 overflow_sub-result c = simp (bs, bm) (fits c.before.before)

@@ -5,8 +5,8 @@ use Rattle.layout.proofs.trailer.circuit_size.Goals as goal
 
 pub returns-in-2 : goal.returns-in-2
 unfolding circuit_size
-returns-in-2 c = sym (ap circuit_size c.in_default.keys1)
+returns-in-2 c = sym (ap circuit_size c.in-2.is)
 
 pub returns-in_default : goal.returns-in_default
 unfolding circuit_size
-returns-in_default c = simp (ne_eqb _ _ c.in_default.rest.1)
+returns-in_default c = simp (ne_eqb _ _ c.in_default.in_default-own.rest.1)

@@ -6,8 +6,8 @@ use Rattle.layout.proofs.trailer.edition.Goals as goal
 
 pub returns-in-2 : goal.returns-in-2
 unfolding edition_at edition_of
-returns-in-2 c = ap edition_of (sym c.in_default.keys1 ∙ c.u32_at.ensures.value)
+returns-in-2 c = ap edition_of (sym c.in-2.is ∙ c.u32_at.ensures.value)
 
 pub returns-in_default : goal.returns-in_default
 unfolding edition_at edition_of
-returns-in_default c = rw (sym c.u32_at.ensures.value, ne_eqb _ _ c.in_default.rest.1) refl
+returns-in_default c = rw (sym c.u32_at.ensures.value, ne_eqb _ _ c.in_default.in_default-own.rest.1) refl

@@ -6,8 +6,8 @@ use Rattle.layout.proofs.trailer.most_of_first.Goals as goal
 
 pub returns-in-2 : goal.returns-in-2
 unfolding most_circuits
-returns-in-2 c = sym (ap (most_circuits First) c.in_default.keys1)
+returns-in-2 c = sym (ap (most_circuits First) c.in-2.is)
 
 pub returns-in_default : goal.returns-in_default
 unfolding most_circuits
-returns-in_default c = simp (ne_eqb _ _ c.in_default.rest.1)
+returns-in_default c = simp (ne_eqb _ _ c.in_default.in_default-own.rest.1)

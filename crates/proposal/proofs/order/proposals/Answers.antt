@@ -21,4 +21,4 @@ returns-in-Stops c =
 pub returns-in-Passes : goal.returns-in-Passes
 unfolding offset_in
 returns-in-Passes c =
-    passes-first _ (c.of_peak_flows-of_peak_base.ensures ∙ flows_first _ _ _ c.of_flows-of_base.ensures) c.in-Passes.is c.After-Flows.ensures ∙ in_two_parts _ _ _ _
+    passes-first _ (c.of_peak_flows-of_peak_base.ensures ∙ flows_first _ _ _ c.of_flows-of_base.ensures) c.in-Passes.is c.after_flows.ensures ∙ in_two_parts _ _ _ _

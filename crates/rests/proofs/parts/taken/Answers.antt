@@ -15,6 +15,109 @@ use Rattle.rests.specs.Rests.{rest_over}
 use Rattle.rests.proofs.Laws as laws
 use Rattle.rests.proofs.Laws.{taken_rest, high_within, low_within, low_kw, share_within, whole_within, part_within, last_within, more_within, tariff_divides, share_divides, last_divides}
 use Rattle.rests.proofs.parts.taken.Goals as goal
+use Rattle.rests.proofs.parts.taken.Goals.{After-divided-last, After-divided-millions, After-divided-share, Start}
+
+module _ (s : Start) where
+  abbrev high : ℤ
+  high = laws.high s.args.each s.args.over s.args.payers s.args.tariff s.args.kw
+
+  abbrev low : ℕ
+  low = laws.low s.args.each s.args.over s.args.payers s.args.tariff s.args.kw
+
+  abbrev whole : ℤ
+  whole = laws.whole s.args.each s.args.over s.args.payers s.args.tariff s.args.kw
+
+  abbrev part : ℕ
+  part = laws.part s.args.each s.args.over s.args.payers s.args.tariff s.args.kw
+
+  abbrev last : ℤ
+  last = laws.last s.args.each s.args.over s.args.payers s.args.tariff s.args.kw
+
+  abbrev more : ℤ
+  more = floor_div last s.args.payers
+
+  -- bounds
+  hh : nat_abs high ≤ 1000000
+  hh = high_within s.args.each s.args.over s.args.payers s.args.tariff s.args.kw s.requires
+
+  hl : low < 1000000
+  hl = low_within s.args.each s.args.over s.args.payers s.args.tariff s.args.kw s.requires
+
+  hs : nat_abs (high *ℤ pos s.args.kw) ≤ 1000000 * s.args.payers
+  hs = share_within s.args.each s.args.over s.args.payers s.args.tariff s.args.kw s.requires
+
+  hw : nat_abs whole ≤ 1000000
+  hw = whole_within s.args.each s.args.over s.args.payers s.args.tariff s.args.kw s.requires
+
+  hp : part < s.args.payers
+  hp = part_within s.args.each s.args.over s.args.payers s.args.tariff s.args.kw s.requires
+
+  hk : low * s.args.kw ≤ 100000000000000
+  hk = low_kw s.args.each s.args.over s.args.payers s.args.tariff s.args.kw s.requires
+
+  hm : nat_abs more ≤ 200000100000000
+  hm = more_within s.args.each s.args.over s.args.payers s.args.tariff s.args.kw s.requires
+
+  -- what is read back
+  bt : Back s.args.tariff
+  bt = fit_back s.ranges.tariff
+
+  be : Back s.args.each
+  be = fit_back s.ranges.each
+
+  bk : to_z w64 s.args.kw ≡ pos s.args.kw
+  bk = of_nat s.args.kw (omega (arith, s.requires.part, s.requires.most))
+
+  bo : to_z w64 s.args.over ≡ pos s.args.over
+  bo = of_nat s.args.over (omega (arith, s.requires.below, s.requires.most))
+
+  fs : SFits w64 (high *ℤ pos s.args.kw)
+  fs = sfits_abs _ (omega (arith, hs, s.requires.most))
+
+  bs : Back (high *ℤ pos s.args.kw)
+  bs = fit_back fs
+
+  fp : SFits w64 (pos part *ℤ pos 1000000)
+  fp = simp Z (omega (arith, hp, s.requires.most))
+
+  bp : Back (pos part *ℤ pos 1000000)
+  bp = fit_back fp
+
+  fq : SFits w64 (pos s.args.over -ℤ pos part *ℤ pos 1000000)
+  fq = simp Z (omega (arith, hp, s.requires.most, s.requires.below))
+
+  bq : Back (pos s.args.over -ℤ pos part *ℤ pos 1000000)
+  bq = fit_back fq
+
+  fl : SFits w64 (pos low *ℤ pos s.args.kw)
+  fl = simp Z (omega (arith, hk))
+
+  bl : Back (pos low *ℤ pos s.args.kw)
+  bl = fit_back fl
+
+  fz : SFits w64 last
+  fz = sfits_abs last (omega (arith, last_within s.args.each s.args.over s.args.payers s.args.tariff s.args.kw s.requires))
+
+  bz : Back last
+  bz = fit_back fz
+
+  fw : SFits w64 (whole *ℤ pos 1000000)
+  fw = simp Z (omega (arith, simp Z at hw))
+
+  bw : Back (whole *ℤ pos 1000000)
+  bw = fit_back fw
+
+  fd : SFits w64 (s.args.each -ℤ whole *ℤ pos 1000000)
+  fd = simp Z (omega (arith, simp Z at hw, simp Z at s.requires.near))
+
+  bd : Back (s.args.each -ℤ whole *ℤ pos 1000000)
+  bd = fit_back fd
+
+  fe : SFits w64 (s.args.each -ℤ whole *ℤ pos 1000000 +ℤ more)
+  fe = simp Z (omega (arith, simp Z at hw, simp Z at hm, simp Z at s.requires.near))
+
+  bf : Back (s.args.each -ℤ whole *ℤ pos 1000000 +ℤ more)
+  bf = fit_back fe
 
 each_of : (r : Rest) (v : ℤ) (d : ℕ) → r ≡ rest_over v d → r.each ≡ floor_div v d
 unfolding rest_over residual_of remainder_of
@@ -32,275 +135,85 @@ read-nat : {m n : ℕ} → m ≡ n → n < 9223372036854775808 → to_z w64 m �
 read-nat {m} {n} e h = ap (λ (x : ℕ). to_z w64 x) e ∙ of_nat n h
 
 pub divided-millions-requires : goal.divided-millions-requires
-divided-millions-requires c =
-    let bt : Back c.args.tariff = fit_back c.ranges.tariff in
-    simp bt (tariff_divides _ _ _ _ _ c.requires)
+divided-millions-requires c = simp bt (tariff_divides _ _ _ _ _ c.requires)
+
+module _ (c : After-divided-millions) where
+  first : c.divided-millions.result ≡ rest_over c.args.tariff 1000000
+  first = simp bt at c.divided-millions.ensures
+
+  el : c.divided-millions.result.over ≡ low c.before
+  el = over-of _ _ _ first
+
+  bh : to_z w64 (of_z w64 c.divided-millions.result.each) ≡ high c.before
+  bh = read (each_of _ _ _ first) (sfits_abs _ (omega (arith, hh c.before)))
+
+  bv : to_z w64 c.divided-millions.result.over ≡ pos (low c.before)
+  bv = read-nat el (omega (arith, hl c.before))
 
 pub overflow_cast-low : goal.overflow_cast-low
-overflow_cast-low c =
-    let hl : (laws.low c.args.each c.args.over c.args.payers c.args.tariff c.args.kw) < 1000000 = low_within c.args.each c.args.over c.args.payers c.args.tariff c.args.kw c.requires in
-    let bt : Back c.args.tariff = fit_back c.ranges.tariff in
-    let first : c.divided-millions.result ≡ rest_over c.args.tariff 1000000 = simp bt at c.divided-millions.ensures in
-    let el : c.divided-millions.result.over ≡ (laws.low c.args.each c.args.over c.args.payers c.args.tariff c.args.kw) = over-of _ _ _ first in
-    rw (el) (simp Z (omega (arith, hl)))
+overflow_cast-low c = rw (el c.before.before) (simp Z (omega (arith, hl c.before.before.before)))
 
 pub overflow_mul-high : goal.overflow_mul-high
-overflow_mul-high c =
-    let hh : nat_abs (laws.high c.args.each c.args.over c.args.payers c.args.tariff c.args.kw) ≤ 1000000 = high_within c.args.each c.args.over c.args.payers c.args.tariff c.args.kw c.requires in
-    let hs : nat_abs ((laws.high c.args.each c.args.over c.args.payers c.args.tariff c.args.kw) *ℤ pos c.args.kw) ≤ 1000000 * c.args.payers = share_within c.args.each c.args.over c.args.payers c.args.tariff c.args.kw c.requires in
-    let bt : Back c.args.tariff = fit_back c.ranges.tariff in
-    let bk : to_z w64 c.args.kw ≡ pos c.args.kw = of_nat c.args.kw (omega (arith, c.requires.part, c.requires.most)) in
-    let fs : SFits w64 ((laws.high c.args.each c.args.over c.args.payers c.args.tariff c.args.kw) *ℤ pos c.args.kw) = sfits_abs _ (omega (arith, hs, c.requires.most)) in
-    let first : c.divided-millions.result ≡ rest_over c.args.tariff 1000000 = simp bt at c.divided-millions.ensures in
-    let bh : to_z w64 (of_z w64 c.divided-millions.result.each) ≡ (laws.high c.args.each c.args.over c.args.payers c.args.tariff c.args.kw) = read (each_of _ _ _ first) (sfits_abs _ (omega (arith, hh))) in
-    simp (bh, bk) (fs)
+overflow_mul-high c = simp (bh, bk) (fs c.before.before.before)
 
 pub divided-share-requires : goal.divided-share-requires
-divided-share-requires c =
-    let hh : nat_abs (laws.high c.args.each c.args.over c.args.payers c.args.tariff c.args.kw) ≤ 1000000 = high_within c.args.each c.args.over c.args.payers c.args.tariff c.args.kw c.requires in
-    let hs : nat_abs ((laws.high c.args.each c.args.over c.args.payers c.args.tariff c.args.kw) *ℤ pos c.args.kw) ≤ 1000000 * c.args.payers = share_within c.args.each c.args.over c.args.payers c.args.tariff c.args.kw c.requires in
-    let bt : Back c.args.tariff = fit_back c.ranges.tariff in
-    let bk : to_z w64 c.args.kw ≡ pos c.args.kw = of_nat c.args.kw (omega (arith, c.requires.part, c.requires.most)) in
-    let fs : SFits w64 ((laws.high c.args.each c.args.over c.args.payers c.args.tariff c.args.kw) *ℤ pos c.args.kw) = sfits_abs _ (omega (arith, hs, c.requires.most)) in
-    let bs : Back ((laws.high c.args.each c.args.over c.args.payers c.args.tariff c.args.kw) *ℤ pos c.args.kw) = fit_back fs in
-    let first : c.divided-millions.result ≡ rest_over c.args.tariff 1000000 = simp bt at c.divided-millions.ensures in
-    let bh : to_z w64 (of_z w64 c.divided-millions.result.each) ≡ (laws.high c.args.each c.args.over c.args.payers c.args.tariff c.args.kw) = read (each_of _ _ _ first) (sfits_abs _ (omega (arith, hh))) in
-    simp (bh, bk, bs) (share_divides _ _ _ _ _ c.requires)
+divided-share-requires c = simp (bh, bk, bs) (share_divides _ _ _ _ _ c.requires)
+
+module _ (c : After-divided-share) where
+  abbrev s2 : Start
+  s2 = c.before.before.before.before
+
+  second : c.divided-share.result ≡ rest_over (high s2 *ℤ pos s2.args.kw) s2.args.payers
+  second = simp (bh, bk, bs) at c.divided-share.ensures
+
+  ep : c.divided-share.result.over ≡ part s2
+  ep = over-of _ _ _ second
+
+  bwhole : to_z w64 (of_z w64 c.divided-share.result.each) ≡ whole s2
+  bwhole = read (each_of _ _ _ second) (sfits_abs _ (omega (arith, hw s2)))
+
+  bpart : to_z w64 c.divided-share.result.over ≡ pos (part s2)
+  bpart = read-nat ep (omega (arith, hp s2, s2.requires.most))
 
 pub overflow_cast-part : goal.overflow_cast-part
-overflow_cast-part c =
-    let hh : nat_abs (laws.high c.args.each c.args.over c.args.payers c.args.tariff c.args.kw) ≤ 1000000 = high_within c.args.each c.args.over c.args.payers c.args.tariff c.args.kw c.requires in
-    let hs : nat_abs ((laws.high c.args.each c.args.over c.args.payers c.args.tariff c.args.kw) *ℤ pos c.args.kw) ≤ 1000000 * c.args.payers = share_within c.args.each c.args.over c.args.payers c.args.tariff c.args.kw c.requires in
-    let hp : (laws.part c.args.each c.args.over c.args.payers c.args.tariff c.args.kw) < c.args.payers = part_within c.args.each c.args.over c.args.payers c.args.tariff c.args.kw c.requires in
-    let bt : Back c.args.tariff = fit_back c.ranges.tariff in
-    let bk : to_z w64 c.args.kw ≡ pos c.args.kw = of_nat c.args.kw (omega (arith, c.requires.part, c.requires.most)) in
-    let fs : SFits w64 ((laws.high c.args.each c.args.over c.args.payers c.args.tariff c.args.kw) *ℤ pos c.args.kw) = sfits_abs _ (omega (arith, hs, c.requires.most)) in
-    let bs : Back ((laws.high c.args.each c.args.over c.args.payers c.args.tariff c.args.kw) *ℤ pos c.args.kw) = fit_back fs in
-    let first : c.divided-millions.result ≡ rest_over c.args.tariff 1000000 = simp bt at c.divided-millions.ensures in
-    let bh : to_z w64 (of_z w64 c.divided-millions.result.each) ≡ (laws.high c.args.each c.args.over c.args.payers c.args.tariff c.args.kw) = read (each_of _ _ _ first) (sfits_abs _ (omega (arith, hh))) in
-    let second : c.divided-share.result ≡ rest_over ((laws.high c.args.each c.args.over c.args.payers c.args.tariff c.args.kw) *ℤ pos c.args.kw) c.args.payers = simp (bh, bk, bs) at c.divided-share.ensures in
-    let ep : c.divided-share.result.over ≡ (laws.part c.args.each c.args.over c.args.payers c.args.tariff c.args.kw) = over-of _ _ _ second in
-    rw (ep) (simp Z (omega (arith, hp, c.requires.most)))
+overflow_cast-part c = let d = c.before.before in rw (ep d) (simp Z (omega (arith, hp (s2 d), (s2 d).requires.most)))
 
 pub overflow_mul-part : goal.overflow_mul-part
-overflow_mul-part c =
-    let hh : nat_abs (laws.high c.args.each c.args.over c.args.payers c.args.tariff c.args.kw) ≤ 1000000 = high_within c.args.each c.args.over c.args.payers c.args.tariff c.args.kw c.requires in
-    let hs : nat_abs ((laws.high c.args.each c.args.over c.args.payers c.args.tariff c.args.kw) *ℤ pos c.args.kw) ≤ 1000000 * c.args.payers = share_within c.args.each c.args.over c.args.payers c.args.tariff c.args.kw c.requires in
-    let hp : (laws.part c.args.each c.args.over c.args.payers c.args.tariff c.args.kw) < c.args.payers = part_within c.args.each c.args.over c.args.payers c.args.tariff c.args.kw c.requires in
-    let bt : Back c.args.tariff = fit_back c.ranges.tariff in
-    let bk : to_z w64 c.args.kw ≡ pos c.args.kw = of_nat c.args.kw (omega (arith, c.requires.part, c.requires.most)) in
-    let fs : SFits w64 ((laws.high c.args.each c.args.over c.args.payers c.args.tariff c.args.kw) *ℤ pos c.args.kw) = sfits_abs _ (omega (arith, hs, c.requires.most)) in
-    let bs : Back ((laws.high c.args.each c.args.over c.args.payers c.args.tariff c.args.kw) *ℤ pos c.args.kw) = fit_back fs in
-    let fp : SFits w64 (pos (laws.part c.args.each c.args.over c.args.payers c.args.tariff c.args.kw) *ℤ pos 1000000) = simp Z (omega (arith, hp, c.requires.most)) in
-    let first : c.divided-millions.result ≡ rest_over c.args.tariff 1000000 = simp bt at c.divided-millions.ensures in
-    let bh : to_z w64 (of_z w64 c.divided-millions.result.each) ≡ (laws.high c.args.each c.args.over c.args.payers c.args.tariff c.args.kw) = read (each_of _ _ _ first) (sfits_abs _ (omega (arith, hh))) in
-    let second : c.divided-share.result ≡ rest_over ((laws.high c.args.each c.args.over c.args.payers c.args.tariff c.args.kw) *ℤ pos c.args.kw) c.args.payers = simp (bh, bk, bs) at c.divided-share.ensures in
-    let ep : c.divided-share.result.over ≡ (laws.part c.args.each c.args.over c.args.payers c.args.tariff c.args.kw) = over-of _ _ _ second in
-    let bpart : to_z w64 c.divided-share.result.over ≡ pos ((laws.part c.args.each c.args.over c.args.payers c.args.tariff c.args.kw)) = read-nat ep (omega (arith, hp s2, c.requires.most)) in
-    simp (bpart) (fp)
+overflow_mul-part c = simp (bpart) (fp (s2 c.before.before))
 
 pub overflow_sub-over : goal.overflow_sub-over
-overflow_sub-over c =
-    let hh : nat_abs (laws.high c.args.each c.args.over c.args.payers c.args.tariff c.args.kw) ≤ 1000000 = high_within c.args.each c.args.over c.args.payers c.args.tariff c.args.kw c.requires in
-    let hs : nat_abs ((laws.high c.args.each c.args.over c.args.payers c.args.tariff c.args.kw) *ℤ pos c.args.kw) ≤ 1000000 * c.args.payers = share_within c.args.each c.args.over c.args.payers c.args.tariff c.args.kw c.requires in
-    let hp : (laws.part c.args.each c.args.over c.args.payers c.args.tariff c.args.kw) < c.args.payers = part_within c.args.each c.args.over c.args.payers c.args.tariff c.args.kw c.requires in
-    let bt : Back c.args.tariff = fit_back c.ranges.tariff in
-    let bk : to_z w64 c.args.kw ≡ pos c.args.kw = of_nat c.args.kw (omega (arith, c.requires.part, c.requires.most)) in
-    let bo : to_z w64 c.args.over ≡ pos c.args.over = of_nat c.args.over (omega (arith, c.requires.below, c.requires.most)) in
-    let fs : SFits w64 ((laws.high c.args.each c.args.over c.args.payers c.args.tariff c.args.kw) *ℤ pos c.args.kw) = sfits_abs _ (omega (arith, hs, c.requires.most)) in
-    let bs : Back ((laws.high c.args.each c.args.over c.args.payers c.args.tariff c.args.kw) *ℤ pos c.args.kw) = fit_back fs in
-    let fp : SFits w64 (pos (laws.part c.args.each c.args.over c.args.payers c.args.tariff c.args.kw) *ℤ pos 1000000) = simp Z (omega (arith, hp, c.requires.most)) in
-    let bp : Back (pos (laws.part c.args.each c.args.over c.args.payers c.args.tariff c.args.kw) *ℤ pos 1000000) = fit_back fp in
-    let fq : SFits w64 (pos c.args.over -ℤ pos (laws.part c.args.each c.args.over c.args.payers c.args.tariff c.args.kw) *ℤ pos 1000000) = simp Z (omega (arith, hp, c.requires.most, c.requires.below)) in
-    let first : c.divided-millions.result ≡ rest_over c.args.tariff 1000000 = simp bt at c.divided-millions.ensures in
-    let bh : to_z w64 (of_z w64 c.divided-millions.result.each) ≡ (laws.high c.args.each c.args.over c.args.payers c.args.tariff c.args.kw) = read (each_of _ _ _ first) (sfits_abs _ (omega (arith, hh))) in
-    let second : c.divided-share.result ≡ rest_over ((laws.high c.args.each c.args.over c.args.payers c.args.tariff c.args.kw) *ℤ pos c.args.kw) c.args.payers = simp (bh, bk, bs) at c.divided-share.ensures in
-    let ep : c.divided-share.result.over ≡ (laws.part c.args.each c.args.over c.args.payers c.args.tariff c.args.kw) = over-of _ _ _ second in
-    let bpart : to_z w64 c.divided-share.result.over ≡ pos ((laws.part c.args.each c.args.over c.args.payers c.args.tariff c.args.kw)) = read-nat ep (omega (arith, hp s2, c.requires.most)) in
-    simp (bpart, bo, bp) (fq)
+overflow_sub-over c = simp (bpart, bo, bp) (fq (s2 c.before.before))
 
 pub overflow_mul-low : goal.overflow_mul-low
-overflow_mul-low c =
-    let hl : (laws.low c.args.each c.args.over c.args.payers c.args.tariff c.args.kw) < 1000000 = low_within c.args.each c.args.over c.args.payers c.args.tariff c.args.kw c.requires in
-    let hk : (laws.low c.args.each c.args.over c.args.payers c.args.tariff c.args.kw) * c.args.kw ≤ 100000000000000 = low_kw c.args.each c.args.over c.args.payers c.args.tariff c.args.kw c.requires in
-    let bt : Back c.args.tariff = fit_back c.ranges.tariff in
-    let bk : to_z w64 c.args.kw ≡ pos c.args.kw = of_nat c.args.kw (omega (arith, c.requires.part, c.requires.most)) in
-    let fl : SFits w64 (pos (laws.low c.args.each c.args.over c.args.payers c.args.tariff c.args.kw) *ℤ pos c.args.kw) = simp Z (omega (arith, hk)) in
-    let first : c.divided-millions.result ≡ rest_over c.args.tariff 1000000 = simp bt at c.divided-millions.ensures in
-    let el : c.divided-millions.result.over ≡ (laws.low c.args.each c.args.over c.args.payers c.args.tariff c.args.kw) = over-of _ _ _ first in
-    let bv : to_z w64 c.divided-millions.result.over ≡ pos ((laws.low c.args.each c.args.over c.args.payers c.args.tariff c.args.kw)) = read-nat el (omega (arith, hl)) in
-    simp (bv, bk) (fl)
+overflow_mul-low c = simp (bv, bk) (fl (s2 c.before.before))
 
 pub overflow_sub-over-2 : goal.overflow_sub-over-2
-overflow_sub-over-2 c =
-    let hh : nat_abs (laws.high c.args.each c.args.over c.args.payers c.args.tariff c.args.kw) ≤ 1000000 = high_within c.args.each c.args.over c.args.payers c.args.tariff c.args.kw c.requires in
-    let hl : (laws.low c.args.each c.args.over c.args.payers c.args.tariff c.args.kw) < 1000000 = low_within c.args.each c.args.over c.args.payers c.args.tariff c.args.kw c.requires in
-    let hs : nat_abs ((laws.high c.args.each c.args.over c.args.payers c.args.tariff c.args.kw) *ℤ pos c.args.kw) ≤ 1000000 * c.args.payers = share_within c.args.each c.args.over c.args.payers c.args.tariff c.args.kw c.requires in
-    let hp : (laws.part c.args.each c.args.over c.args.payers c.args.tariff c.args.kw) < c.args.payers = part_within c.args.each c.args.over c.args.payers c.args.tariff c.args.kw c.requires in
-    let hk : (laws.low c.args.each c.args.over c.args.payers c.args.tariff c.args.kw) * c.args.kw ≤ 100000000000000 = low_kw c.args.each c.args.over c.args.payers c.args.tariff c.args.kw c.requires in
-    let bt : Back c.args.tariff = fit_back c.ranges.tariff in
-    let bk : to_z w64 c.args.kw ≡ pos c.args.kw = of_nat c.args.kw (omega (arith, c.requires.part, c.requires.most)) in
-    let bo : to_z w64 c.args.over ≡ pos c.args.over = of_nat c.args.over (omega (arith, c.requires.below, c.requires.most)) in
-    let fs : SFits w64 ((laws.high c.args.each c.args.over c.args.payers c.args.tariff c.args.kw) *ℤ pos c.args.kw) = sfits_abs _ (omega (arith, hs, c.requires.most)) in
-    let bs : Back ((laws.high c.args.each c.args.over c.args.payers c.args.tariff c.args.kw) *ℤ pos c.args.kw) = fit_back fs in
-    let fp : SFits w64 (pos (laws.part c.args.each c.args.over c.args.payers c.args.tariff c.args.kw) *ℤ pos 1000000) = simp Z (omega (arith, hp, c.requires.most)) in
-    let bp : Back (pos (laws.part c.args.each c.args.over c.args.payers c.args.tariff c.args.kw) *ℤ pos 1000000) = fit_back fp in
-    let fq : SFits w64 (pos c.args.over -ℤ pos (laws.part c.args.each c.args.over c.args.payers c.args.tariff c.args.kw) *ℤ pos 1000000) = simp Z (omega (arith, hp, c.requires.most, c.requires.below)) in
-    let bq : Back (pos c.args.over -ℤ pos (laws.part c.args.each c.args.over c.args.payers c.args.tariff c.args.kw) *ℤ pos 1000000) = fit_back fq in
-    let fl : SFits w64 (pos (laws.low c.args.each c.args.over c.args.payers c.args.tariff c.args.kw) *ℤ pos c.args.kw) = simp Z (omega (arith, hk)) in
-    let bl : Back (pos (laws.low c.args.each c.args.over c.args.payers c.args.tariff c.args.kw) *ℤ pos c.args.kw) = fit_back fl in
-    let fz : SFits w64 (laws.last c.args.each c.args.over c.args.payers c.args.tariff c.args.kw) = sfits_abs (laws.last c.args.each c.args.over c.args.payers c.args.tariff c.args.kw) (omega (arith, last_within c.args.each c.args.over c.args.payers c.args.tariff c.args.kw c.requires)) in
-    let first : c.divided-millions.result ≡ rest_over c.args.tariff 1000000 = simp bt at c.divided-millions.ensures in
-    let el : c.divided-millions.result.over ≡ (laws.low c.args.each c.args.over c.args.payers c.args.tariff c.args.kw) = over-of _ _ _ first in
-    let bh : to_z w64 (of_z w64 c.divided-millions.result.each) ≡ (laws.high c.args.each c.args.over c.args.payers c.args.tariff c.args.kw) = read (each_of _ _ _ first) (sfits_abs _ (omega (arith, hh))) in
-    let bv : to_z w64 c.divided-millions.result.over ≡ pos ((laws.low c.args.each c.args.over c.args.payers c.args.tariff c.args.kw)) = read-nat el (omega (arith, hl)) in
-    let second : c.divided-share.result ≡ rest_over ((laws.high c.args.each c.args.over c.args.payers c.args.tariff c.args.kw) *ℤ pos c.args.kw) c.args.payers = simp (bh, bk, bs) at c.divided-share.ensures in
-    let ep : c.divided-share.result.over ≡ (laws.part c.args.each c.args.over c.args.payers c.args.tariff c.args.kw) = over-of _ _ _ second in
-    let bpart : to_z w64 c.divided-share.result.over ≡ pos ((laws.part c.args.each c.args.over c.args.payers c.args.tariff c.args.kw)) = read-nat ep (omega (arith, hp s2, c.requires.most)) in
-    simp (bpart, bo, bp, bq, bv, bk, bl) (fz)
+overflow_sub-over-2 c = simp (bpart, bo, bp, bq, bv, bk, bl) (fz (s2 c.before.before))
 
 pub divided-last-requires : goal.divided-last-requires
-divided-last-requires c =
-    let hh : nat_abs (laws.high c.args.each c.args.over c.args.payers c.args.tariff c.args.kw) ≤ 1000000 = high_within c.args.each c.args.over c.args.payers c.args.tariff c.args.kw c.requires in
-    let hl : (laws.low c.args.each c.args.over c.args.payers c.args.tariff c.args.kw) < 1000000 = low_within c.args.each c.args.over c.args.payers c.args.tariff c.args.kw c.requires in
-    let hs : nat_abs ((laws.high c.args.each c.args.over c.args.payers c.args.tariff c.args.kw) *ℤ pos c.args.kw) ≤ 1000000 * c.args.payers = share_within c.args.each c.args.over c.args.payers c.args.tariff c.args.kw c.requires in
-    let hp : (laws.part c.args.each c.args.over c.args.payers c.args.tariff c.args.kw) < c.args.payers = part_within c.args.each c.args.over c.args.payers c.args.tariff c.args.kw c.requires in
-    let hk : (laws.low c.args.each c.args.over c.args.payers c.args.tariff c.args.kw) * c.args.kw ≤ 100000000000000 = low_kw c.args.each c.args.over c.args.payers c.args.tariff c.args.kw c.requires in
-    let bt : Back c.args.tariff = fit_back c.ranges.tariff in
-    let bk : to_z w64 c.args.kw ≡ pos c.args.kw = of_nat c.args.kw (omega (arith, c.requires.part, c.requires.most)) in
-    let bo : to_z w64 c.args.over ≡ pos c.args.over = of_nat c.args.over (omega (arith, c.requires.below, c.requires.most)) in
-    let fs : SFits w64 ((laws.high c.args.each c.args.over c.args.payers c.args.tariff c.args.kw) *ℤ pos c.args.kw) = sfits_abs _ (omega (arith, hs, c.requires.most)) in
-    let bs : Back ((laws.high c.args.each c.args.over c.args.payers c.args.tariff c.args.kw) *ℤ pos c.args.kw) = fit_back fs in
-    let fp : SFits w64 (pos (laws.part c.args.each c.args.over c.args.payers c.args.tariff c.args.kw) *ℤ pos 1000000) = simp Z (omega (arith, hp, c.requires.most)) in
-    let bp : Back (pos (laws.part c.args.each c.args.over c.args.payers c.args.tariff c.args.kw) *ℤ pos 1000000) = fit_back fp in
-    let fq : SFits w64 (pos c.args.over -ℤ pos (laws.part c.args.each c.args.over c.args.payers c.args.tariff c.args.kw) *ℤ pos 1000000) = simp Z (omega (arith, hp, c.requires.most, c.requires.below)) in
-    let bq : Back (pos c.args.over -ℤ pos (laws.part c.args.each c.args.over c.args.payers c.args.tariff c.args.kw) *ℤ pos 1000000) = fit_back fq in
-    let fl : SFits w64 (pos (laws.low c.args.each c.args.over c.args.payers c.args.tariff c.args.kw) *ℤ pos c.args.kw) = simp Z (omega (arith, hk)) in
-    let bl : Back (pos (laws.low c.args.each c.args.over c.args.payers c.args.tariff c.args.kw) *ℤ pos c.args.kw) = fit_back fl in
-    let fz : SFits w64 (laws.last c.args.each c.args.over c.args.payers c.args.tariff c.args.kw) = sfits_abs (laws.last c.args.each c.args.over c.args.payers c.args.tariff c.args.kw) (omega (arith, last_within c.args.each c.args.over c.args.payers c.args.tariff c.args.kw c.requires)) in
-    let bz : Back (laws.last c.args.each c.args.over c.args.payers c.args.tariff c.args.kw) = fit_back fz in
-    let first : c.divided-millions.result ≡ rest_over c.args.tariff 1000000 = simp bt at c.divided-millions.ensures in
-    let el : c.divided-millions.result.over ≡ (laws.low c.args.each c.args.over c.args.payers c.args.tariff c.args.kw) = over-of _ _ _ first in
-    let bh : to_z w64 (of_z w64 c.divided-millions.result.each) ≡ (laws.high c.args.each c.args.over c.args.payers c.args.tariff c.args.kw) = read (each_of _ _ _ first) (sfits_abs _ (omega (arith, hh))) in
-    let bv : to_z w64 c.divided-millions.result.over ≡ pos ((laws.low c.args.each c.args.over c.args.payers c.args.tariff c.args.kw)) = read-nat el (omega (arith, hl)) in
-    let second : c.divided-share.result ≡ rest_over ((laws.high c.args.each c.args.over c.args.payers c.args.tariff c.args.kw) *ℤ pos c.args.kw) c.args.payers = simp (bh, bk, bs) at c.divided-share.ensures in
-    let ep : c.divided-share.result.over ≡ (laws.part c.args.each c.args.over c.args.payers c.args.tariff c.args.kw) = over-of _ _ _ second in
-    let bpart : to_z w64 c.divided-share.result.over ≡ pos ((laws.part c.args.each c.args.over c.args.payers c.args.tariff c.args.kw)) = read-nat ep (omega (arith, hp s2, c.requires.most)) in
-    simp (bpart, bo, bp, bq, bv, bk, bl, bz) (last_divides _ _ _ _ _ c.requires)
+divided-last-requires c = simp (bpart, bo, bp, bq, bv, bk, bl, bz) (last_divides _ _ _ _ _ (s2 c.before.before).requires)
+
+module _ (c : After-divided-last) where
+  abbrev s3 : Start
+  s3 = s2 c.before.before.before
+
+  third : c.divided-last.result ≡ rest_over (last s3) s3.args.payers
+  third = simp (bpart, bo, bp, bq, bv, bk, bl, bz) at c.divided-last.ensures
+
+  eo : c.divided-last.result.over ≡ nat_abs (last s3 -ℤ more s3 *ℤ pos s3.args.payers)
+  eo = over-of _ _ _ third
+
+  bmore : to_z w64 (of_z w64 c.divided-last.result.each) ≡ more s3
+  bmore = read (each_of _ _ _ third) (sfits_abs _ (omega (arith, hm s3)))
 
 pub overflow_mul-result : goal.overflow_mul-result
-overflow_mul-result c =
-    let hh : nat_abs (laws.high c.args.each c.args.over c.args.payers c.args.tariff c.args.kw) ≤ 1000000 = high_within c.args.each c.args.over c.args.payers c.args.tariff c.args.kw c.requires in
-    let hs : nat_abs ((laws.high c.args.each c.args.over c.args.payers c.args.tariff c.args.kw) *ℤ pos c.args.kw) ≤ 1000000 * c.args.payers = share_within c.args.each c.args.over c.args.payers c.args.tariff c.args.kw c.requires in
-    let hw : nat_abs (laws.whole c.args.each c.args.over c.args.payers c.args.tariff c.args.kw) ≤ 1000000 = whole_within c.args.each c.args.over c.args.payers c.args.tariff c.args.kw c.requires in
-    let bt : Back c.args.tariff = fit_back c.ranges.tariff in
-    let bk : to_z w64 c.args.kw ≡ pos c.args.kw = of_nat c.args.kw (omega (arith, c.requires.part, c.requires.most)) in
-    let fs : SFits w64 ((laws.high c.args.each c.args.over c.args.payers c.args.tariff c.args.kw) *ℤ pos c.args.kw) = sfits_abs _ (omega (arith, hs, c.requires.most)) in
-    let bs : Back ((laws.high c.args.each c.args.over c.args.payers c.args.tariff c.args.kw) *ℤ pos c.args.kw) = fit_back fs in
-    let fw : SFits w64 ((laws.whole c.args.each c.args.over c.args.payers c.args.tariff c.args.kw) *ℤ pos 1000000) = simp Z (omega (arith, simp Z at hw)) in
-    let first : c.divided-millions.result ≡ rest_over c.args.tariff 1000000 = simp bt at c.divided-millions.ensures in
-    let bh : to_z w64 (of_z w64 c.divided-millions.result.each) ≡ (laws.high c.args.each c.args.over c.args.payers c.args.tariff c.args.kw) = read (each_of _ _ _ first) (sfits_abs _ (omega (arith, hh))) in
-    let second : c.divided-share.result ≡ rest_over ((laws.high c.args.each c.args.over c.args.payers c.args.tariff c.args.kw) *ℤ pos c.args.kw) c.args.payers = simp (bh, bk, bs) at c.divided-share.ensures in
-    let bwhole : to_z w64 (of_z w64 c.divided-share.result.each) ≡ (laws.whole c.args.each c.args.over c.args.payers c.args.tariff c.args.kw) = read (each_of _ _ _ second) (sfits_abs _ (omega (arith, hw))) in
-    simp bwhole (fw)
+overflow_mul-result c = simp bwhole (fw (s3 c.before))
 
 pub overflow_sub-result : goal.overflow_sub-result
-overflow_sub-result c =
-    let hh : nat_abs (laws.high c.args.each c.args.over c.args.payers c.args.tariff c.args.kw) ≤ 1000000 = high_within c.args.each c.args.over c.args.payers c.args.tariff c.args.kw c.requires in
-    let hs : nat_abs ((laws.high c.args.each c.args.over c.args.payers c.args.tariff c.args.kw) *ℤ pos c.args.kw) ≤ 1000000 * c.args.payers = share_within c.args.each c.args.over c.args.payers c.args.tariff c.args.kw c.requires in
-    let hw : nat_abs (laws.whole c.args.each c.args.over c.args.payers c.args.tariff c.args.kw) ≤ 1000000 = whole_within c.args.each c.args.over c.args.payers c.args.tariff c.args.kw c.requires in
-    let bt : Back c.args.tariff = fit_back c.ranges.tariff in
-    let be : Back c.args.each = fit_back c.ranges.each in
-    let bk : to_z w64 c.args.kw ≡ pos c.args.kw = of_nat c.args.kw (omega (arith, c.requires.part, c.requires.most)) in
-    let fs : SFits w64 ((laws.high c.args.each c.args.over c.args.payers c.args.tariff c.args.kw) *ℤ pos c.args.kw) = sfits_abs _ (omega (arith, hs, c.requires.most)) in
-    let bs : Back ((laws.high c.args.each c.args.over c.args.payers c.args.tariff c.args.kw) *ℤ pos c.args.kw) = fit_back fs in
-    let fw : SFits w64 ((laws.whole c.args.each c.args.over c.args.payers c.args.tariff c.args.kw) *ℤ pos 1000000) = simp Z (omega (arith, simp Z at hw)) in
-    let bw : Back ((laws.whole c.args.each c.args.over c.args.payers c.args.tariff c.args.kw) *ℤ pos 1000000) = fit_back fw in
-    let fd : SFits w64 (c.args.each -ℤ (laws.whole c.args.each c.args.over c.args.payers c.args.tariff c.args.kw) *ℤ pos 1000000) = simp Z (omega (arith, simp Z at hw, simp Z at c.requires.near)) in
-    let first : c.divided-millions.result ≡ rest_over c.args.tariff 1000000 = simp bt at c.divided-millions.ensures in
-    let bh : to_z w64 (of_z w64 c.divided-millions.result.each) ≡ (laws.high c.args.each c.args.over c.args.payers c.args.tariff c.args.kw) = read (each_of _ _ _ first) (sfits_abs _ (omega (arith, hh))) in
-    let second : c.divided-share.result ≡ rest_over ((laws.high c.args.each c.args.over c.args.payers c.args.tariff c.args.kw) *ℤ pos c.args.kw) c.args.payers = simp (bh, bk, bs) at c.divided-share.ensures in
-    let bwhole : to_z w64 (of_z w64 c.divided-share.result.each) ≡ (laws.whole c.args.each c.args.over c.args.payers c.args.tariff c.args.kw) = read (each_of _ _ _ second) (sfits_abs _ (omega (arith, hw))) in
-    simp (bwhole, be, bw) (fd)
+overflow_sub-result c = simp (bwhole, be, bw) (fd (s3 c.before))
 
 pub overflow_add-result : goal.overflow_add-result
-overflow_add-result c =
-    let hh : nat_abs (laws.high c.args.each c.args.over c.args.payers c.args.tariff c.args.kw) ≤ 1000000 = high_within c.args.each c.args.over c.args.payers c.args.tariff c.args.kw c.requires in
-    let hl : (laws.low c.args.each c.args.over c.args.payers c.args.tariff c.args.kw) < 1000000 = low_within c.args.each c.args.over c.args.payers c.args.tariff c.args.kw c.requires in
-    let hs : nat_abs ((laws.high c.args.each c.args.over c.args.payers c.args.tariff c.args.kw) *ℤ pos c.args.kw) ≤ 1000000 * c.args.payers = share_within c.args.each c.args.over c.args.payers c.args.tariff c.args.kw c.requires in
-    let hw : nat_abs (laws.whole c.args.each c.args.over c.args.payers c.args.tariff c.args.kw) ≤ 1000000 = whole_within c.args.each c.args.over c.args.payers c.args.tariff c.args.kw c.requires in
-    let hp : (laws.part c.args.each c.args.over c.args.payers c.args.tariff c.args.kw) < c.args.payers = part_within c.args.each c.args.over c.args.payers c.args.tariff c.args.kw c.requires in
-    let hk : (laws.low c.args.each c.args.over c.args.payers c.args.tariff c.args.kw) * c.args.kw ≤ 100000000000000 = low_kw c.args.each c.args.over c.args.payers c.args.tariff c.args.kw c.requires in
-    let hm : nat_abs (floor_div (laws.last c.args.each c.args.over c.args.payers c.args.tariff c.args.kw) c.args.payers) ≤ 200000100000000 = more_within c.args.each c.args.over c.args.payers c.args.tariff c.args.kw c.requires in
-    let bt : Back c.args.tariff = fit_back c.ranges.tariff in
-    let be : Back c.args.each = fit_back c.ranges.each in
-    let bk : to_z w64 c.args.kw ≡ pos c.args.kw = of_nat c.args.kw (omega (arith, c.requires.part, c.requires.most)) in
-    let bo : to_z w64 c.args.over ≡ pos c.args.over = of_nat c.args.over (omega (arith, c.requires.below, c.requires.most)) in
-    let fs : SFits w64 ((laws.high c.args.each c.args.over c.args.payers c.args.tariff c.args.kw) *ℤ pos c.args.kw) = sfits_abs _ (omega (arith, hs, c.requires.most)) in
-    let bs : Back ((laws.high c.args.each c.args.over c.args.payers c.args.tariff c.args.kw) *ℤ pos c.args.kw) = fit_back fs in
-    let fp : SFits w64 (pos (laws.part c.args.each c.args.over c.args.payers c.args.tariff c.args.kw) *ℤ pos 1000000) = simp Z (omega (arith, hp, c.requires.most)) in
-    let bp : Back (pos (laws.part c.args.each c.args.over c.args.payers c.args.tariff c.args.kw) *ℤ pos 1000000) = fit_back fp in
-    let fq : SFits w64 (pos c.args.over -ℤ pos (laws.part c.args.each c.args.over c.args.payers c.args.tariff c.args.kw) *ℤ pos 1000000) = simp Z (omega (arith, hp, c.requires.most, c.requires.below)) in
-    let bq : Back (pos c.args.over -ℤ pos (laws.part c.args.each c.args.over c.args.payers c.args.tariff c.args.kw) *ℤ pos 1000000) = fit_back fq in
-    let fl : SFits w64 (pos (laws.low c.args.each c.args.over c.args.payers c.args.tariff c.args.kw) *ℤ pos c.args.kw) = simp Z (omega (arith, hk)) in
-    let bl : Back (pos (laws.low c.args.each c.args.over c.args.payers c.args.tariff c.args.kw) *ℤ pos c.args.kw) = fit_back fl in
-    let fz : SFits w64 (laws.last c.args.each c.args.over c.args.payers c.args.tariff c.args.kw) = sfits_abs (laws.last c.args.each c.args.over c.args.payers c.args.tariff c.args.kw) (omega (arith, last_within c.args.each c.args.over c.args.payers c.args.tariff c.args.kw c.requires)) in
-    let bz : Back (laws.last c.args.each c.args.over c.args.payers c.args.tariff c.args.kw) = fit_back fz in
-    let fw : SFits w64 ((laws.whole c.args.each c.args.over c.args.payers c.args.tariff c.args.kw) *ℤ pos 1000000) = simp Z (omega (arith, simp Z at hw)) in
-    let bw : Back ((laws.whole c.args.each c.args.over c.args.payers c.args.tariff c.args.kw) *ℤ pos 1000000) = fit_back fw in
-    let fd : SFits w64 (c.args.each -ℤ (laws.whole c.args.each c.args.over c.args.payers c.args.tariff c.args.kw) *ℤ pos 1000000) = simp Z (omega (arith, simp Z at hw, simp Z at c.requires.near)) in
-    let bd : Back (c.args.each -ℤ (laws.whole c.args.each c.args.over c.args.payers c.args.tariff c.args.kw) *ℤ pos 1000000) = fit_back fd in
-    let fe : SFits w64 (c.args.each -ℤ (laws.whole c.args.each c.args.over c.args.payers c.args.tariff c.args.kw) *ℤ pos 1000000 +ℤ (floor_div (laws.last c.args.each c.args.over c.args.payers c.args.tariff c.args.kw) c.args.payers)) = simp Z (omega (arith, simp Z at hw, simp Z at hm, simp Z at c.requires.near)) in
-    let first : c.divided-millions.result ≡ rest_over c.args.tariff 1000000 = simp bt at c.divided-millions.ensures in
-    let el : c.divided-millions.result.over ≡ (laws.low c.args.each c.args.over c.args.payers c.args.tariff c.args.kw) = over-of _ _ _ first in
-    let bh : to_z w64 (of_z w64 c.divided-millions.result.each) ≡ (laws.high c.args.each c.args.over c.args.payers c.args.tariff c.args.kw) = read (each_of _ _ _ first) (sfits_abs _ (omega (arith, hh))) in
-    let bv : to_z w64 c.divided-millions.result.over ≡ pos ((laws.low c.args.each c.args.over c.args.payers c.args.tariff c.args.kw)) = read-nat el (omega (arith, hl)) in
-    let second : c.divided-share.result ≡ rest_over ((laws.high c.args.each c.args.over c.args.payers c.args.tariff c.args.kw) *ℤ pos c.args.kw) c.args.payers = simp (bh, bk, bs) at c.divided-share.ensures in
-    let ep : c.divided-share.result.over ≡ (laws.part c.args.each c.args.over c.args.payers c.args.tariff c.args.kw) = over-of _ _ _ second in
-    let bwhole : to_z w64 (of_z w64 c.divided-share.result.each) ≡ (laws.whole c.args.each c.args.over c.args.payers c.args.tariff c.args.kw) = read (each_of _ _ _ second) (sfits_abs _ (omega (arith, hw))) in
-    let bpart : to_z w64 c.divided-share.result.over ≡ pos ((laws.part c.args.each c.args.over c.args.payers c.args.tariff c.args.kw)) = read-nat ep (omega (arith, hp s2, c.requires.most)) in
-    let third : c.divided-last.result ≡ rest_over ((laws.last c.args.each c.args.over c.args.payers c.args.tariff c.args.kw)) c.args.payers = simp (bpart, bo, bp, bq, bv, bk, bl, bz) at c.divided-last.ensures in
-    let bmore : to_z w64 (of_z w64 c.divided-last.result.each) ≡ (floor_div (laws.last c.args.each c.args.over c.args.payers c.args.tariff c.args.kw) c.args.payers) = read (each_of _ _ _ third) (sfits_abs _ (omega (arith, hm))) in
-    simp (bwhole, be, bw, bd, bmore) (fe)
+overflow_add-result c = simp (bwhole, be, bw, bd, bmore) (fe (s3 c.before))
 
 pub returns : goal.returns
-returns c =
-    let hh : nat_abs (laws.high c.args.each c.args.over c.args.payers c.args.tariff c.args.kw) ≤ 1000000 = high_within c.args.each c.args.over c.args.payers c.args.tariff c.args.kw c.requires in
-    let hl : (laws.low c.args.each c.args.over c.args.payers c.args.tariff c.args.kw) < 1000000 = low_within c.args.each c.args.over c.args.payers c.args.tariff c.args.kw c.requires in
-    let hs : nat_abs ((laws.high c.args.each c.args.over c.args.payers c.args.tariff c.args.kw) *ℤ pos c.args.kw) ≤ 1000000 * c.args.payers = share_within c.args.each c.args.over c.args.payers c.args.tariff c.args.kw c.requires in
-    let hw : nat_abs (laws.whole c.args.each c.args.over c.args.payers c.args.tariff c.args.kw) ≤ 1000000 = whole_within c.args.each c.args.over c.args.payers c.args.tariff c.args.kw c.requires in
-    let hp : (laws.part c.args.each c.args.over c.args.payers c.args.tariff c.args.kw) < c.args.payers = part_within c.args.each c.args.over c.args.payers c.args.tariff c.args.kw c.requires in
-    let hk : (laws.low c.args.each c.args.over c.args.payers c.args.tariff c.args.kw) * c.args.kw ≤ 100000000000000 = low_kw c.args.each c.args.over c.args.payers c.args.tariff c.args.kw c.requires in
-    let hm : nat_abs (floor_div (laws.last c.args.each c.args.over c.args.payers c.args.tariff c.args.kw) c.args.payers) ≤ 200000100000000 = more_within c.args.each c.args.over c.args.payers c.args.tariff c.args.kw c.requires in
-    let bt : Back c.args.tariff = fit_back c.ranges.tariff in
-    let be : Back c.args.each = fit_back c.ranges.each in
-    let bk : to_z w64 c.args.kw ≡ pos c.args.kw = of_nat c.args.kw (omega (arith, c.requires.part, c.requires.most)) in
-    let bo : to_z w64 c.args.over ≡ pos c.args.over = of_nat c.args.over (omega (arith, c.requires.below, c.requires.most)) in
-    let fs : SFits w64 ((laws.high c.args.each c.args.over c.args.payers c.args.tariff c.args.kw) *ℤ pos c.args.kw) = sfits_abs _ (omega (arith, hs, c.requires.most)) in
-    let bs : Back ((laws.high c.args.each c.args.over c.args.payers c.args.tariff c.args.kw) *ℤ pos c.args.kw) = fit_back fs in
-    let fp : SFits w64 (pos (laws.part c.args.each c.args.over c.args.payers c.args.tariff c.args.kw) *ℤ pos 1000000) = simp Z (omega (arith, hp, c.requires.most)) in
-    let bp : Back (pos (laws.part c.args.each c.args.over c.args.payers c.args.tariff c.args.kw) *ℤ pos 1000000) = fit_back fp in
-    let fq : SFits w64 (pos c.args.over -ℤ pos (laws.part c.args.each c.args.over c.args.payers c.args.tariff c.args.kw) *ℤ pos 1000000) = simp Z (omega (arith, hp, c.requires.most, c.requires.below)) in
-    let bq : Back (pos c.args.over -ℤ pos (laws.part c.args.each c.args.over c.args.payers c.args.tariff c.args.kw) *ℤ pos 1000000) = fit_back fq in
-    let fl : SFits w64 (pos (laws.low c.args.each c.args.over c.args.payers c.args.tariff c.args.kw) *ℤ pos c.args.kw) = simp Z (omega (arith, hk)) in
-    let bl : Back (pos (laws.low c.args.each c.args.over c.args.payers c.args.tariff c.args.kw) *ℤ pos c.args.kw) = fit_back fl in
-    let fz : SFits w64 (laws.last c.args.each c.args.over c.args.payers c.args.tariff c.args.kw) = sfits_abs (laws.last c.args.each c.args.over c.args.payers c.args.tariff c.args.kw) (omega (arith, last_within c.args.each c.args.over c.args.payers c.args.tariff c.args.kw c.requires)) in
-    let bz : Back (laws.last c.args.each c.args.over c.args.payers c.args.tariff c.args.kw) = fit_back fz in
-    let fw : SFits w64 ((laws.whole c.args.each c.args.over c.args.payers c.args.tariff c.args.kw) *ℤ pos 1000000) = simp Z (omega (arith, simp Z at hw)) in
-    let bw : Back ((laws.whole c.args.each c.args.over c.args.payers c.args.tariff c.args.kw) *ℤ pos 1000000) = fit_back fw in
-    let fd : SFits w64 (c.args.each -ℤ (laws.whole c.args.each c.args.over c.args.payers c.args.tariff c.args.kw) *ℤ pos 1000000) = simp Z (omega (arith, simp Z at hw, simp Z at c.requires.near)) in
-    let bd : Back (c.args.each -ℤ (laws.whole c.args.each c.args.over c.args.payers c.args.tariff c.args.kw) *ℤ pos 1000000) = fit_back fd in
-    let fe : SFits w64 (c.args.each -ℤ (laws.whole c.args.each c.args.over c.args.payers c.args.tariff c.args.kw) *ℤ pos 1000000 +ℤ (floor_div (laws.last c.args.each c.args.over c.args.payers c.args.tariff c.args.kw) c.args.payers)) = simp Z (omega (arith, simp Z at hw, simp Z at hm, simp Z at c.requires.near)) in
-    let bf : Back (c.args.each -ℤ (laws.whole c.args.each c.args.over c.args.payers c.args.tariff c.args.kw) *ℤ pos 1000000 +ℤ (floor_div (laws.last c.args.each c.args.over c.args.payers c.args.tariff c.args.kw) c.args.payers)) = fit_back fe in
-    let first : c.divided-millions.result ≡ rest_over c.args.tariff 1000000 = simp bt at c.divided-millions.ensures in
-    let el : c.divided-millions.result.over ≡ (laws.low c.args.each c.args.over c.args.payers c.args.tariff c.args.kw) = over-of _ _ _ first in
-    let bh : to_z w64 (of_z w64 c.divided-millions.result.each) ≡ (laws.high c.args.each c.args.over c.args.payers c.args.tariff c.args.kw) = read (each_of _ _ _ first) (sfits_abs _ (omega (arith, hh))) in
-    let bv : to_z w64 c.divided-millions.result.over ≡ pos ((laws.low c.args.each c.args.over c.args.payers c.args.tariff c.args.kw)) = read-nat el (omega (arith, hl)) in
-    let second : c.divided-share.result ≡ rest_over ((laws.high c.args.each c.args.over c.args.payers c.args.tariff c.args.kw) *ℤ pos c.args.kw) c.args.payers = simp (bh, bk, bs) at c.divided-share.ensures in
-    let ep : c.divided-share.result.over ≡ (laws.part c.args.each c.args.over c.args.payers c.args.tariff c.args.kw) = over-of _ _ _ second in
-    let bwhole : to_z w64 (of_z w64 c.divided-share.result.each) ≡ (laws.whole c.args.each c.args.over c.args.payers c.args.tariff c.args.kw) = read (each_of _ _ _ second) (sfits_abs _ (omega (arith, hw))) in
-    let bpart : to_z w64 c.divided-share.result.over ≡ pos ((laws.part c.args.each c.args.over c.args.payers c.args.tariff c.args.kw)) = read-nat ep (omega (arith, hp s2, c.requires.most)) in
-    let third : c.divided-last.result ≡ rest_over ((laws.last c.args.each c.args.over c.args.payers c.args.tariff c.args.kw)) c.args.payers = simp (bpart, bo, bp, bq, bv, bk, bl, bz) at c.divided-last.ensures in
-    let eo : c.divided-last.result.over ≡ nat_abs ((laws.last c.args.each c.args.over c.args.payers c.args.tariff c.args.kw) -ℤ (floor_div (laws.last c.args.each c.args.over c.args.payers c.args.tariff c.args.kw) c.args.payers) *ℤ pos c.args.payers) = over-of _ _ _ third in
-    let bmore : to_z w64 (of_z w64 c.divided-last.result.each) ≡ (floor_div (laws.last c.args.each c.args.over c.args.payers c.args.tariff c.args.kw) c.args.payers) = read (each_of _ _ _ third) (sfits_abs _ (omega (arith, hm))) in
-    simp (bwhole, be, bw, bd, bmore, bf, eo) (taken_rest _ _ _ _ _ c.requires)
+returns c = simp (bwhole, be, bw, bd, bmore, bf, eo) (taken_rest _ _ _ _ _ (s3 c.before).requires)

@@ -36,10 +36,10 @@ module _ (c : After-kw-1) where
   more : let f = left_over s.args.n (kw_at s.args.tec) s.args.demand.0 in sum (v + 1) f ≡ sum v f + f v
   more = sum_more v (left_over s.args.n (kw_at s.args.tec) s.args.demand.0)
 
-over-answered : (c : After-over-more) → c.over-more.result ≡ let a = (s c.before).args in left_over a.n (kw_at a.t2) a.demand.0 (v c.before)
+over-answered : (c : After-over-more) → c.over-more.result ≡ let a = (s c.before).args in left_over a.n (kw_at a.tec) a.demand.0 (v c.before)
 over-answered c = c.over-more.ensures ∙ over_is _ _ _ _ (s c.before).requires (v c.before)
 
-share-answered : (c : After-share) → c.share.result.0 ≡ let a = (s c.before.before).args in whole_share a.n (kw_at a.t2) a.demand.0 (v c.before.before)
+share-answered : (c : After-share) → c.share.result.0 ≡ let a = (s c.before.before).args in whole_share a.n (kw_at a.tec) a.demand.0 (v c.before.before)
 share-answered c = c.share.ensures ∙ share_is _ _ _ _ (s c.before.before).requires (v c.before.before)
 
 pub over-more-requires : goal.over-more-requires

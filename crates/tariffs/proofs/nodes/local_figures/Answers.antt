@@ -12,7 +12,6 @@ use Rattle.rests.proofs.Laws.{less_none, less_turn}
 use Rattle.tariffs.specs.Case.{node_from, local_of}
 use Rattle.tariffs.proofs.nodes.local_figures.Goals as goal
 use Rattle.tariffs.proofs.nodes.local_figures.Invariants.{line, charge}
-use Rattle.tariffs.proofs.nodes.local_figures.Goals.{After-node_line-line, At-loop-v, Start}
 
 pub no_local-lines-requires : goal.no_local-lines-requires
 no_local-lines-requires c = tt
@@ -35,41 +34,20 @@ bounds-local-v c = omega (arith, c.requires.run)
 pub node_line-line-requires : goal.node_line-line-requires
 node_line-line-requires c = let p = c.requires in (p.constant, p.factor)
 
--- a turn's line
-module _ (c : After-node_line-line) where
-  abbrev L : At-loop-v
-  L = c.before.before.before.before
-
-  abbrev S : Start
-  S = L.before.before
-
-  abbrev I : ℕ
-  I = L.loop-v.v
-
-  abbrev lines : ℕ → LocalFigures
-  lines = line S.args.tec S.args.local.now S.args.constant S.args.factor
-
-  made : c.node_line-line.result ≡ lines I
-  made = simp (back (potential S.args.local.now I) c.node_line-arg-in-loop-v-1.given) at c.node_line-line.ensures
-
-  priced : c.node_line-line.result.tariff.0 ≡ charge S.args.local.now S.args.constant S.args.factor I
-  unfolding node_from
-  priced = ap (λ (l : LocalFigures). l.tariff.0) made
-
 pub offset_bounds-paying-v : goal.offset_bounds-paying-v
-offset_bounds-paying-v c = omega (arith, (S c).requires.few)
+offset_bounds-paying-v c = omega (arith, c.requires.few)
 
 pub bounds-paying-v : goal.bounds-paying-v
-bounds-paying-v c = omega (arith, (S c).requires.few)
+bounds-paying-v c = omega (arith, c.requires.few)
 
 pub less-left-requires : goal.less-left-requires
 less-left-requires c = tt
 
 pub offset_bounds-lines-v : goal.offset_bounds-lines-v
-offset_bounds-lines-v c = omega (arith, (S c.before.before).requires.few)
+offset_bounds-lines-v c = omega (arith, c.requires.few)
 
 pub bounds-lines-v : goal.bounds-lines-v
-bounds-lines-v c = omega (arith, (S c.before.before).requires.few)
+bounds-lines-v c = omega (arith, c.requires.few)
 
 pub overflow_add-v : goal.overflow_add-v
 overflow_add-v c = omega arith
@@ -78,11 +56,16 @@ pub loop-v-smaller : goal.loop-v-smaller
 loop-v-smaller c = omega arith
 
 pub loop-v-preserved : goal.loop-v-preserved
+unfolding node_from
 loop-v-preserved c =
-    let l = c.before.before in (
+    let a = c.args in
+    let v = c.loop-v.v in
+    let made : c.node_line-line.result ≡ line a.tec a.local.now a.constant a.factor v = simp (back (potential a.local.now v) c.node_line-arg-in-loop-v-1.given) at c.node_line-line.ensures in
+    let priced : c.node_line-line.result.tariff.0 ≡ charge a.local.now a.constant a.factor v = ap (λ (l : LocalFigures). l.tariff.0) made in
+    (
       omega arith,
-      column_turn no_local 256 _ (I l) (omega (arith, (S l).requires.few)) (L l).loop-v.invariant.1 (made l),
-      less_turn _ _ _ _ (I l) (L l).loop-v.invariant.2 (priced l) c.less-left.ensures,
+      column_turn no_local 256 _ v (omega (arith, c.requires.few)) c.loop-v.invariant.1 made,
+      less_turn _ _ _ _ v c.loop-v.invariant.2 priced c.less-left.ensures,
     )
 
 pub returns : goal.returns

@@ -9,53 +9,35 @@ use Rattle.integers.proofs.Machine.{Back, fit_back, of_nat}
 use Rattle.tariffs.specs.Sides.{metres_from, with_zone}
 use Rattle.tariffs.proofs.Laws.{zonal_near}
 use Rattle.tariffs.proofs.over.with_zone.Goals as goal
-use Rattle.tariffs.proofs.over.with_zone.Goals.{After-metres_of-metres, Start}
-
-module _ (s : Start) where
-  abbrev old : ℤ
-  old = s.args.over.metres
-
-  abbrev m : ℤ
-  m = metres_from s.args.zone
-
-  abbrev kw : ℕ
-  kw = s.args.zone.paying-1.0
-
-  bo : Back old
-  bo = fit_back (sfits_abs old (omega (arith, s.requires.0.metres, s.requires.0.total-1)))
-
-  bm : Back m
-  bm = fit_back (sfits_abs m (omega (arith, zonal_near s.args.zone s.requires.1)))
-
-  bk : to_z w64 kw ≡ pos kw
-  bk = of_nat kw (omega (arith, s.requires.1.paying-1))
-
-  one : nat_abs (m *ℤ pos kw) ≤ 256000000000000000
-  one = abs-mul-le m (pos kw) (zonal_near s.args.zone s.requires.1) s.requires.1.paying-1
-
-  fits : SFits w64 (m *ℤ pos kw)
-  fits = sfits_abs (m *ℤ pos kw) (omega (arith, one))
-
-  bp : Back (m *ℤ pos kw)
-  bp = fit_back fits
-
-  all-fits : SFits w64 (old +ℤ m *ℤ pos kw)
-  all-fits = sfits_abs (old +ℤ m *ℤ pos kw) (omega (arith, abs-add old (m *ℤ pos kw), one, s.requires.0.metres, s.requires.0.total-1))
-
-  bw : Back (old +ℤ m *ℤ pos kw)
-  bw = fit_back all-fits
-
-far : (c : After-metres_of-metres) → c.metres_of-metres.result.0 ≡ m c.before
-far c = c.metres_of-metres.ensures
-
-ruleset E = (far, bo, bm, bk, bp, bw)
 
 pub overflow_mul-sum : goal.overflow_mul-sum
-overflow_mul-sum c = simp E (fits c.before.before.before.before.before.before)
+overflow_mul-sum c =
+    let bm : Back (metres_from c.args.zone) = fit_back (sfits_abs _ (omega (arith, zonal_near c.args.zone c.requires.1))) in
+    let bk : to_z w64 c.args.zone.paying.0 ≡ pos c.args.zone.paying.0 = of_nat _ (omega (arith, c.requires.1.paying)) in
+    let one : nat_abs (metres_from c.args.zone *ℤ pos c.args.zone.paying.0) ≤ 256000000000000000 = abs-mul-le (metres_from c.args.zone) (pos c.args.zone.paying.0) (zonal_near c.args.zone c.requires.1) c.requires.1.paying in
+    let fits : SFits w64 (metres_from c.args.zone *ℤ pos c.args.zone.paying.0) = sfits_abs _ (omega (arith, one)) in
+    simp (c.metres_of-metres.ensures, bm, bk) fits
 
 pub overflow_add-sum : goal.overflow_add-sum
-overflow_add-sum c = simp E (all-fits c.before.before.before.before.before.before.before.before)
+overflow_add-sum c =
+    let bo : Back c.args.over.metres = fit_back (sfits_abs _ (omega (arith, c.requires.0.metres, c.requires.0.total))) in
+    let bm : Back (metres_from c.args.zone) = fit_back (sfits_abs _ (omega (arith, zonal_near c.args.zone c.requires.1))) in
+    let bk : to_z w64 c.args.zone.paying.0 ≡ pos c.args.zone.paying.0 = of_nat _ (omega (arith, c.requires.1.paying)) in
+    let one : nat_abs (metres_from c.args.zone *ℤ pos c.args.zone.paying.0) ≤ 256000000000000000 = abs-mul-le (metres_from c.args.zone) (pos c.args.zone.paying.0) (zonal_near c.args.zone c.requires.1) c.requires.1.paying in
+    let fits : SFits w64 (metres_from c.args.zone *ℤ pos c.args.zone.paying.0) = sfits_abs _ (omega (arith, one)) in
+    let bp : Back (metres_from c.args.zone *ℤ pos c.args.zone.paying.0) = fit_back fits in
+    let all_fits : SFits w64 (c.args.over.metres +ℤ metres_from c.args.zone *ℤ pos c.args.zone.paying.0) = sfits_abs _ (omega (arith, abs-add c.args.over.metres (metres_from c.args.zone *ℤ pos c.args.zone.paying.0), one, c.requires.0.metres, c.requires.0.total)) in
+    simp (c.metres_of-metres.ensures, bo, bm, bk, bp) all_fits
 
 pub returns : goal.returns
 unfolding with_zone
-returns c = simp E
+returns c =
+    let bo : Back c.args.over.metres = fit_back (sfits_abs _ (omega (arith, c.requires.0.metres, c.requires.0.total))) in
+    let bm : Back (metres_from c.args.zone) = fit_back (sfits_abs _ (omega (arith, zonal_near c.args.zone c.requires.1))) in
+    let bk : to_z w64 c.args.zone.paying.0 ≡ pos c.args.zone.paying.0 = of_nat _ (omega (arith, c.requires.1.paying)) in
+    let one : nat_abs (metres_from c.args.zone *ℤ pos c.args.zone.paying.0) ≤ 256000000000000000 = abs-mul-le (metres_from c.args.zone) (pos c.args.zone.paying.0) (zonal_near c.args.zone c.requires.1) c.requires.1.paying in
+    let fits : SFits w64 (metres_from c.args.zone *ℤ pos c.args.zone.paying.0) = sfits_abs _ (omega (arith, one)) in
+    let bp : Back (metres_from c.args.zone *ℤ pos c.args.zone.paying.0) = fit_back fits in
+    let all_fits : SFits w64 (c.args.over.metres +ℤ metres_from c.args.zone *ℤ pos c.args.zone.paying.0) = sfits_abs _ (omega (arith, abs-add c.args.over.metres (metres_from c.args.zone *ℤ pos c.args.zone.paying.0), one, c.requires.0.metres, c.requires.0.total)) in
+    let bw : Back (c.args.over.metres +ℤ metres_from c.args.zone *ℤ pos c.args.zone.paying.0) = fit_back all_fits in
+    simp (c.metres_of-metres.ensures, bo, bm, bk, bp, bw)

@@ -9,7 +9,6 @@ use Rattle.rests.proofs.Laws.{less_none, less_turn}
 use Rattle.tariffs.specs.Sides.{shared_from, shared_over}
 use Rattle.tariffs.proofs.shared.shared_lines.Goals as goal
 use Rattle.tariffs.proofs.shared.shared_lines.Invariants.{price}
-use Rattle.tariffs.proofs.shared.shared_lines.Goals.{After-shared_line-line}
 
 pub no_shared-lines-requires : goal.no_shared-lines-requires
 no_shared-lines-requires c = tt
@@ -27,11 +26,6 @@ pub shared_line-line-requires : goal.shared_line-line-requires
 shared_line-line-requires c =
     let p = c.requires in
     (p.0.shared c.loop-k.k (omega arith), p.2)
-
--- a turn's tariff
-priced : (c : After-shared_line-line) → (let a = c.args in c.shared_line-line.result.tariff.0 ≡ price a.terms a.parts c.loop-k.k)
-unfolding shared_from
-priced c = ap (λ (w : SharedFigures). w.tariff.0) c.shared_line-line.ensures
 
 pub offset_bounds-kw-k : goal.offset_bounds-kw-k
 offset_bounds-kw-k c = omega arith
@@ -55,12 +49,14 @@ pub loop-k-smaller : goal.loop-k-smaller
 loop-k-smaller c = omega arith
 
 pub loop-k-preserved : goal.loop-k-preserved
+unfolding shared_from
 loop-k-preserved c =
-    let w = c.before.before in
+    -- a turn's tariff
+    let priced : (let a = c.args in c.shared_line-line.result.tariff.0 ≡ price a.terms a.parts c.loop-k.k) = ap (λ (w : SharedFigures). w.tariff.0) c.shared_line-line.ensures in
     (
       omega arith,
-      column_turn no_shared 32 _ w.loop-k.k (omega arith) w.loop-k.invariant.1 w.shared_line-line.ensures,
-      less_turn _ _ _ _ w.loop-k.k w.loop-k.invariant.2 (priced w) c.less-left.ensures,
+      column_turn no_shared 32 _ c.loop-k.k (omega arith) c.loop-k.invariant.1 c.shared_line-line.ensures,
+      less_turn _ _ _ _ c.loop-k.k c.loop-k.invariant.2 priced c.less-left.ensures,
     )
 
 pub returns : goal.returns

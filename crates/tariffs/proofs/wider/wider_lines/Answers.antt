@@ -9,7 +9,6 @@ use Rattle.rests.proofs.Laws.{less_none, less_turn}
 use Rattle.tariffs.specs.Sides.{wider_from, wider_over}
 use Rattle.tariffs.proofs.wider.wider_lines.Goals as goal
 use Rattle.tariffs.proofs.wider.wider_lines.Invariants.{price}
-use Rattle.tariffs.proofs.wider.wider_lines.Goals.{After-wider_line-line}
 
 pub no_wider-lines-requires : goal.no_wider-lines-requires
 no_wider-lines-requires c = tt
@@ -49,18 +48,16 @@ overflow_add-k c = omega arith
 pub loop-k-smaller : goal.loop-k-smaller
 loop-k-smaller c = omega arith
 
--- a turn's tariff
-priced : (c : After-wider_line-line) → (let a = c.args in c.wider_line-line.result.tariff.0 ≡ price a.terms a.metres c.loop-k.k)
-unfolding wider_from
-priced c = ap (λ (w : WiderFigures). w.tariff.0) c.wider_line-line.ensures
-
 pub loop-k-preserved : goal.loop-k-preserved
+unfolding wider_from
 loop-k-preserved c =
-    let w = c.before in
+    -- a turn's tariff
+    let priced : (let a = c.args in c.wider_line-line.result.tariff.0 ≡ price a.terms a.metres c.loop-k.k) = ap (λ (w : WiderFigures). w.tariff.0) c.wider_line-line.ensures
+ in
     (
       omega arith,
-      column_turn no_wider 32 _ w.loop-k.k (omega arith) w.loop-k.invariant.1 w.wider_line-line.ensures,
-      less_turn _ _ _ _ w.loop-k.k w.loop-k.invariant.2 (priced w) c.less-left.ensures,
+      column_turn no_wider 32 _ c.loop-k.k (omega arith) c.loop-k.invariant.1 c.wider_line-line.ensures,
+      less_turn _ _ _ _ c.loop-k.k c.loop-k.invariant.2 priced c.less-left.ensures,
     )
 
 pub returns : goal.returns

@@ -12,11 +12,11 @@ pub put_line-requires : goal.put_line-requires
 put_line-requires c =
     let first = copied c.constant_line-first.result c.constant_line-first.ensures (omega arith) c.put_line-p1.ensures in
     ready c.remainder_line-last.result c.remainder_line-last.ensures (omega arith) c.put_nodes-p4.result
-    (omega (arith, c.put_nodes-p4.ensures.next, c.put_nodes-p4.ensures.short, c.put_nodes-p4.auto.0, c.put_zones-p3.ensures.next, c.put_zones-p3.ensures.short, c.put_zones-p3.auto.0, c.put_zones-p2.ensures.next, c.put_zones-p2.ensures.short, c.put_zones-p2.auto.0, first.next, first.short, c.put_line-p1.auto.0))
+    (omega (arith, c.put_nodes-p4.ensures.next, c.put_nodes-p4.ensures.short, c.put_nodes-p4.auto.out, c.put_zones-p3.ensures.next, c.put_zones-p3.ensures.short, c.put_zones-p3.auto.out, c.put_zones-p2.ensures.next, c.put_zones-p2.ensures.short, c.put_zones-p2.auto.out, first.next, first.short, c.put_line-p1.auto.out))
 
 pub shape_of-out : goal.shape_of-out
 shape_of-out c =
-    omega (arith, c.put_line.auto.0, c.put_nodes-p4.auto.0, c.put_zones-p3.auto.0, c.put_zones-p2.auto.0, c.put_line-p1.auto.0)
+    omega (arith, c.put_line.auto.out, c.put_nodes-p4.auto.out, c.put_zones-p3.auto.out, c.put_zones-p2.auto.out, c.put_line-p1.auto.out)
 
 pub returns : goal.returns
 unfolding sheet_text

@@ -9,21 +9,22 @@ use borrow.Author.Rules.{rules}
 use native.Mathlib.Omega.{arith}
 use Rattle.text.proofs.sections.put_nodes.Goals as goal
 use Rattle.text.proofs.sections.put_nodes.Invariants.{row}
+use Rattle.text.proofs.sections.put_nodes.Goals.{After-row_at-name}
 
 pub loop-v-init : goal.loop-v-init
 loop-v-init c = let a = c.args in (omega arith, rows_start a.out.now a.from (row a.local a.file.now a.rows))
 
+-- a node's name is inside the file
+inside : (c : After-row_at-name) → c.row_at-name.result ≤ length c.args.file.now
+inside c =
+    let a = c.args in
+    omega (arith, c.row_at-name.ensures, row_rise a.rows c.loop-v.v a.nodes (omega arith), c.requires)
+
 pub slice_bounds-node_line-count : goal.slice_bounds-node_line-count
-slice_bounds-node_line-count c =
-    let inside : c.row_at-name.result ≤ length c.args.file.now = let a = c.args in
-    omega (arith, c.row_at-name.ensures, row_rise a.rows c.loop-v.v a.nodes (omega arith), c.requires) in
-    inside
+slice_bounds-node_line-count c = inside c
 
 pub slice_bounds-node_line-start : goal.slice_bounds-node_line-start
-slice_bounds-node_line-start c =
-    let inside : c.row_at-name.result ≤ length c.args.file.now = let a = c.args in
-    omega (arith, c.row_at-name.ensures, row_rise a.rows c.loop-v.v a.nodes (omega arith), c.requires) in
-    search (rules, inside)
+slice_bounds-node_line-start c = search (rules, inside c)
 
 pub put_line-at-requires : goal.put_line-at-requires
 put_line-at-requires c =

@@ -60,7 +60,7 @@ loop-k-preserved c =
     let p = c.before in
     let a = (s p).args in
     let k = (l p).loop-k.k in
-    (omega arith, column_turn 0 32 (more a.t1 a.plant a.t3 a.factor) k (omega arith) (l p).loop-k.invariant.1 (ap (λ (x : ℕ). number_at a.t1 k + x) (adds p)))
+    (omega arith, column_turn 0 32 (more a.sums a.plant a.kw a.factor) k (omega arith) (l p).loop-k.invariant.1 (ap (λ (x : ℕ). number_at a.sums k + x) (adds p)))
 
 pub returns : goal.returns
 returns c = more_done _ _ _ _ c.loop-k.k c.loop-k.invariant.1 (omega arith) (omega arith)

@@ -23,7 +23,7 @@ module _ (c : After-in_ranges) where
   tested : c.in_ranges.result ≡ in_ranges s.args.zone s.args.weight.0 s.args.paying.0 m
   tested = rw far at c.in_ranges.ensures
 
-in-range : (c : Then-in_ranges) → Counts (s c.before).args.zone (s c.before).args.weight.0 (s c.before).args.paying.0 (m c.before)
+in_range_lem : (c : Then-in_ranges) → Counts (s c.before).args.zone (s c.before).args.weight.0 (s c.before).args.paying.0 (m c.before)
 in_range_lem c = counted _ _ _ _ (sym (tested c.before) ∙ c.if-in_ranges.true)
 
 pub overflow_sub-result : goal.overflow_sub-result
