@@ -1,7 +1,8 @@
-// Reads one case from standard input, and a share file where there is one, and prints its sheet, or its refusal. A program has no exit status: a read or a write that fails is told on standard error.
+// Reads one case from standard input, and a share file where there is one, and prints its sheet, or its refusal. Its exit status says nothing, it is always 0: a read or a write that fails is told on standard error.
 #![tactic(auto)]
 
-ghost use Rattle.std.specs.Prelude.{◌≤◌, length};
+ghost use Rattle.std.specs.Prelude.{◌<◌, ◌≤◌, IsNone, length, take};
+ghost use Rattle.std.specs.Io.KnownBytes.{Consumes, IsAtEnd};
 
 use std::io::{ErrorKind, Read, Write};
 use std::rt::Files;
@@ -16,7 +17,9 @@ struct Input {
 
 // Reads until the buffer is full, the input ends or a read fails.
 fn read_input<R: Read>(from: &mut R, buffer: &mut [u8]) -> Input
-    ensures { result.count ≤ length buffer.new }
+    ensures count { result.count ≤ length buffer.new }
+    ensures front { Consumes (R.remaining from.old) (R.remaining from.new) (take result.count buffer.new) }
+    ensures whole { IsNone result.failure → result.count < length buffer.new → IsAtEnd (R.remaining from.new) }
 {
     let mut count = 0;
     while count < buffer.len() {
