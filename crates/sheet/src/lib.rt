@@ -34,7 +34,7 @@ pub fn write(
     share: &[u8],
     out: &mut [u8],
 ) -> Answer
-    ensures { Kept (record { file = file.entry.now; runs = runs_of base.now wider.now local.now peak_base.now peak_wider.now; share = share.now; before = out.old; answer = result; after = out.new }) }
+    ensures { Kept (record { file = file.now; runs = runs_of base.now wider.now local.now peak_base.now peak_wider.now; share = share.now; before = out.old; answer = result; after = out.new }) }
 {
     let charged = charges::charge(file, base, wider, local, peak_base, peak_wider, share);
     let judgement = charged.judgement;

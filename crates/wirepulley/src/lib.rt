@@ -34,7 +34,7 @@ pub extern "C" fn wirepulley_write(
     out: &mut [u8],
     numbers: &mut [u64; 4],
 ) -> u64
-    ensures* { λ r. ⌜ ToldKept (record { file = file.entry.now; runs = three_runs base.now wider.now local.now; share = []; before = out.old; result = r; after = out.new; numbers = numbers.new }) ⌝ }
+    ensures { ToldKept (record { file = file.now; runs = three_runs base.now wider.now local.now; share = []; before = out.old; result = result; after = out.new; numbers = numbers.new }) }
 {
     let answer = sheet::write(file, base, wider, local, &[], &[], &[], out);
     tell(answer, numbers)
@@ -52,7 +52,7 @@ pub extern "C" fn wirepulley_write_five(
     out: &mut [u8],
     numbers: &mut [u64; 4],
 ) -> u64
-    ensures* { λ r. ⌜ ToldKept (record { file = file.entry.now; runs = runs_of base.now wider.now local.now peak_base.now peak_wider.now; share = []; before = out.old; result = r; after = out.new; numbers = numbers.new }) ⌝ }
+    ensures { ToldKept (record { file = file.now; runs = runs_of base.now wider.now local.now peak_base.now peak_wider.now; share = []; before = out.old; result = result; after = out.new; numbers = numbers.new }) }
 {
     let answer = sheet::write(file, base, wider, local, peak_base, peak_wider, &[], out);
     tell(answer, numbers)
@@ -71,7 +71,7 @@ pub extern "C" fn wirepulley_write_shared(
     out: &mut [u8],
     numbers: &mut [u64; 4],
 ) -> u64
-    ensures* { λ r. ⌜ ToldKept (record { file = file.entry.now; runs = runs_of base.now wider.now local.now peak_base.now peak_wider.now; share = share.now; before = out.old; result = r; after = out.new; numbers = numbers.new }) ⌝ }
+    ensures { ToldKept (record { file = file.now; runs = runs_of base.now wider.now local.now peak_base.now peak_wider.now; share = share.now; before = out.old; result = result; after = out.new; numbers = numbers.new }) }
 {
     let answer = sheet::write(file, base, wider, local, peak_base, peak_wider, share, out);
     tell(answer, numbers)
