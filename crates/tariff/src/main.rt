@@ -26,12 +26,10 @@ fn read_input<R: Read>(from: &mut R, buffer: &mut [u8]) -> Input
         match from.read(&mut buffer[count..]) {
             Ok(0) => break,
             Ok(more) => count += more,
-            Err(error) => {
-                return Input {
-                    count,
-                    failure: Some(error),
-                };
-            }
+            Err(error) => return Input {
+                count,
+                failure: Some(error),
+            },
         }
     }
     Input {
