@@ -1,4 +1,4 @@
-// The library as C and Rust call it: a slice is a pointer and a count there, and an answer is four numbers.
+// The library as C and Rust call it: a slice is a pointer and a count there, and an answer is four numbers. The crate wirepulley_c exports these functions.
 #![tactic(auto)]
 
 ghost use Rattle.std.specs.Prelude.{[]};
@@ -25,8 +25,7 @@ fn tell(answer: Answer, numbers: &mut [u64; 4]) -> u64
 
 // Judges a case of edition 1 and writes its sheet: 01's number (0 where accepted), the sheet's buffer and the answer's four numbers, of any bytes, runs and buffer.
 // It lends no run for peak, so a case of edition 2 is refused as 1.
-#[unsafe(no_mangle)]
-pub extern "C" fn wirepulley_write(
+pub fn wirepulley_write(
     file: &[u8],
     base: &[i64],
     wider: &[i64],
@@ -41,8 +40,7 @@ pub extern "C" fn wirepulley_write(
 }
 
 // The same for a case of either edition: peak's runs are empty in edition 1.
-#[unsafe(no_mangle)]
-pub extern "C" fn wirepulley_write_five(
+pub fn wirepulley_write_five(
     file: &[u8],
     base: &[i64],
     wider: &[i64],
@@ -59,8 +57,7 @@ pub extern "C" fn wirepulley_write_five(
 }
 
 // The same with the bytes of a share file (02, request 6), none for no file; it counts in edition 2 alone.
-#[unsafe(no_mangle)]
-pub extern "C" fn wirepulley_write_shared(
+pub fn wirepulley_write_shared(
     file: &[u8],
     base: &[i64],
     wider: &[i64],
@@ -78,8 +75,7 @@ pub extern "C" fn wirepulley_write_shared(
 }
 
 // Judges a case of edition 1 for a caller without a buffer: what `wirepulley_write` answers with room enough, the sheet's length included.
-#[unsafe(no_mangle)]
-pub extern "C" fn wirepulley_judge(
+pub fn wirepulley_judge(
     file: &[u8],
     base: &[i64],
     wider: &[i64],
@@ -93,8 +89,7 @@ pub extern "C" fn wirepulley_judge(
 }
 
 // The same for a case of either edition.
-#[unsafe(no_mangle)]
-pub extern "C" fn wirepulley_judge_five(
+pub fn wirepulley_judge_five(
     file: &[u8],
     base: &[i64],
     wider: &[i64],
@@ -110,8 +105,7 @@ pub extern "C" fn wirepulley_judge_five(
 }
 
 // The same with a share file.
-#[unsafe(no_mangle)]
-pub extern "C" fn wirepulley_judge_shared(
+pub fn wirepulley_judge_shared(
     file: &[u8],
     base: &[i64],
     wider: &[i64],
