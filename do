@@ -16,7 +16,7 @@ build_program() {
     (cd crates/tariff && rt run) </dev/null >target/tariff.log 2>&1 || { cat target/tariff.log >&2 && exit 2; }
 }
 
-# The program has no exit status. This has: 0 for a sheet, 1 for a refusal, 2 where something was not read or written. It runs in a folder, whose share.bin counts.
+# The program always ends with status 0. This has: 0 for a sheet, 1 for a refusal, 2 where something was not read or written. It runs in a folder, whose share.bin counts.
 print_sheet() { # FILE FOLDER
     said=$made/said faults=$made/faults
     (cd "$2" && "$repository/clients/x86" run "$program") <"$1" >"$said" 2>"$faults" || echo "do: the program ended with status $?" >>"$faults"

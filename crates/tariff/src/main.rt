@@ -1,10 +1,10 @@
-// Reads one case from standard input, and a share file where there is one, and prints its sheet, or its refusal. Its exit status says nothing, it is always 0: a read or a write that fails is told on standard error.
+// Reads one case from standard input, and a share file where there is one, and prints its sheet, or its refusal. It always ends with status 0: a read or a write that fails is told on standard error.
 #![tactic(auto)]
 
 ghost use Rattle.std.specs.Prelude.{◌<◌, ◌≤◌, IsNone, length, take};
 ghost use Rattle.std.specs.Io.KnownBytes.{Consumes, IsAtEnd};
 
-use std::io::{ErrorKind, Read, Write};
+use std::io::{ErrorKind, Read};
 use std::rt::Files;
 use std::{fs, io};
 
@@ -15,7 +15,7 @@ struct Input {
     failure: Option<io::Error>,
 }
 
-// Reads until the buffer is full, the input ends or a read fails.
+// Reads until the buffer is full, the input ends or a read fails. What stands in front is what was read, and all that there was, unless the buffer is full or a read failed.
 fn read_input<R: Read>(from: &mut R, buffer: &mut [u8]) -> Input
     ensures count { result.count ≤ length buffer.new }
     ensures front { Consumes (R.remaining from.old) (R.remaining from.new) (take result.count buffer.new) }
