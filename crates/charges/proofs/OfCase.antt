@@ -1,10 +1,9 @@
 -- The columns of a grid: what steps 8 to 10 ask of them is what they ask of the grid, so the figures are the same.
-use mathlib.Core.Path.{◌≡◌, refl, sym, ◌∙◌, ap, ap₂}
-use mathlib.Core.Bool.{Bool, true}
+use mathlib.Core.Path.{◌≡◌, refl, ◌∙◌, ap, ap₂}
+use mathlib.Core.Bool.{true}
 use mathlib.Core.List.{List}
 use mathlib.Core.Option.{Option}
 use Prim.Native.Nat.{ℕ, suc, ◌≤◌, ◌<◌}
-use native.Mathlib.Nat.{le_trans}
 use native.Mathlib.Omega.{arith}
 use borrow.Author.Tests.{le-leb}
 use lib.ListN.{length}
@@ -28,21 +27,20 @@ use Rattle.meaning.specs.Columns.{kw_at, price, column, no_line, no_local}
 use Rattle.meaning.specs.Proposal.{potential}
 use Rattle.meaning.specs.Charging.{Basis, Priced, Zones, local_figures, zone_figures, residual, remainder}
 use Rattle.meaning.specs.Sharing.{Sharing}
-use Rattle.meaning.specs.Figures.{zones, weight, paying, paying_in, total_paying, total_paying_in, sharing, local_metres, basis}
+use Rattle.meaning.specs.Figures.{zones, weight, paying, paying_in, total_paying, sharing, local_metres, basis}
 use Rattle.meaning.proofs.Bases.{Alike, AlikePriced, C-same, priced_same, line_same, residual_alike, remainder_alike, zone_alike}
 use Rattle.meaning.proofs.Sides.{of_peak}
 use Rattle.meaning.proofs.Columns.{column_same}
 use Rattle.meaning.proofs.Says.{says_le, says_all, ◌also◌}
 use Rattle.totals.specs.Totals.{total_of}
 use Rattle.totals.proofs.TotalLaws.{added_up}
-use Rattle.zones.specs.declared.ZoneSums.{ZoneSums}
 use Rattle.zones.proofs.Laws.{reached_all}
 use Rattle.boundaries.specs.declared.Shares.{Shares}
 use Rattle.boundaries.specs.Boundaries.{sharing_in}
 use Rattle.tariffs.specs.declared.zonal.Backgrounds.{Backgrounds}
 use Rattle.tariffs.specs.Sides.{pays_in, over_from, shared_zones, shares_fit, form_in, side_figures}
 use Rattle.tariffs.specs.Case.{local_from, by_side, by_background, zonal_in, basis_in, figures_of, settings_fit, totals_fit, figures_in, backgrounds_over, at_peak, figures_over}
-use Rattle.charges.proofs.OfSide.{SideOf, GridFits, sums, zones_are}
+use Rattle.charges.proofs.OfSide.{SideOf, GridFits, zones_are}
 
 -- ---- bases that are alike
 side_same : {S S' : Priced} → AlikePriced S S' → side_figures S ≡ side_figures S'

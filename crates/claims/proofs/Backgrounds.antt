@@ -2,12 +2,11 @@
 use mathlib.Core.Path.{◌≡◌, refl, sym, ◌∙◌, ap}
 use mathlib.Core.Logic.{inl}
 use mathlib.Core.Bool.{cond}
-use mathlib.Core.List.{List}
 use Prim.Native.Nat.{ℕ, ◌≤◌}
 use native.Mathlib.Omega.{arith}
 use lib.Dec.{leb}
 use Rattle.meaning.specs.declared.Edition.{Edition}
-use Rattle.meaning.specs.declared.Edition.TheVariants.{First, Second}
+use Rattle.meaning.specs.declared.Edition.TheVariants.{First}
 use Rattle.meaning.specs.declared.Background.TheVariants.{Peak}
 use Rattle.meaning.specs.declared.System.{System}
 use Rattle.meaning.specs.declared.System.TheVariants.{Base, Wider}
@@ -17,7 +16,7 @@ use Rattle.meaning.specs.declared.Values.{Values}
 use Rattle.meaning.specs.Answers.{refusal}
 use Rattle.meaning.specs.Editions.{system_number}
 use Rattle.meaning.specs.Study.{runs_of, three_runs}
-use Rattle.meaning.specs.File.{edition_at, solutions, solution_count, run_length}
+use Rattle.meaning.specs.File.{solutions, solution_count, run_length}
 use Rattle.meaning.specs.Demands.{SystemListed, Listed}
 use Rattle.meaning.specs.Backgrounds.{EditionOneAnswers, RunsOfTheEdition}
 use Rattle.meaning.proofs.Systems.{first≢second}

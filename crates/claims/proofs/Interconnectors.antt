@@ -14,7 +14,7 @@ use Rattle.meaning.specs.declared.Edition.TheVariants.{First}
 use Rattle.meaning.specs.declared.Background.TheVariants.{YearRound}
 use Rattle.meaning.specs.Grid.{Grid, grid_of, pays_in, node_tec, paying_tec, total_tec, total_demand}
 use Rattle.meaning.specs.declared.Side.TheVariants.{Generation, Demand}
-use Rattle.meaning.specs.Figures.{zones, zone_of, weight, paying, paying_in, zone_weight, zone_paying_in, total_paying, total_paying_in, over_zones, target, C, zone_tariff, local_tariff, local_income, rest, residual, remainder, basis}
+use Rattle.meaning.specs.Figures.{zones, zone_of, weight, paying, paying_in, zone_weight, zone_paying_in, total_paying, total_paying_in, over_zones, target, zone_tariff, local_tariff, local_income, basis}
 use Rattle.meaning.specs.Charging as charging
 use Rattle.meaning.specs.Conditions.{SoundTables, SoundStudy}
 use Rattle.meaning.specs.Demands.{AllButInterconnectorsPay, AllTecPays, NoInterconnectorNoChange}

@@ -18,7 +18,7 @@ use Rattle.meaning.specs.Grid.{Grid}
 use Rattle.meaning.specs.declared.Side.{Side}
 use Rattle.meaning.specs.declared.Side.TheVariants.{Generation, Demand}
 use Rattle.meaning.specs.Charging.{remainder_of, wider_income}
-use Rattle.meaning.specs.Figures.{zones, zone_paying, zone_paying_in, total_paying, target, zone_tariff, local_income, priced, rest, residual, remainder, basis}
+use Rattle.meaning.specs.Figures.{zones, zone_paying, zone_paying_in, total_paying, target, zone_tariff, local_income, priced, residual, remainder, basis}
 use Rattle.meaning.specs.Charging as charging
 use Rattle.sizes.specs.Bounds.{KilowattsFit}
 use Rattle.claims.proofs.ReadBack.{zone_worth}

@@ -14,7 +14,7 @@ use Rattle.meaning.specs.Editions.{Of}
 use Rattle.meaning.specs.declared.Side.{Side}
 use Rattle.meaning.specs.Study.{Study, Runs}
 use Rattle.meaning.specs.Grid.{Grid, grid_of, place}
-use Rattle.meaning.specs.Figures.{zone_weight, form_of, zonal_metres, priced, own_metres, distance, local_metres, local_figures, basis}
+use Rattle.meaning.specs.Figures.{zone_weight, form_of, zonal_metres, priced, own_metres, distance, local_metres, basis}
 use Rattle.meaning.specs.Charging as charging
 use Rattle.meaning.specs.Text.{text, decimals}
 use Rattle.meaning.specs.Sheet.{letter, node_fields, sheet}

@@ -1,5 +1,5 @@
 -- What one turn of a loop over circuits does, and what it asks.
-use Rattle.std.specs.Prelude.{◌≡◌, cond, List, ℕ, ◌+◌, ◌-◌, ◌≤◌, ◌<◌, ℤ, pos, nat_abs, ◌+ℤ◌, ◌-ℤ◌, ◌*ℤ◌, length, set}
+use Rattle.std.specs.Prelude.{◌≡◌, cond, List, ℕ, ◌-◌, ◌≤◌, ◌<◌, ℤ, pos, nat_abs, ◌+ℤ◌, ◌-ℤ◌, ◌*ℤ◌, length, set}
 use Rattle.meaning.specs.Network.{Network}
 use Rattle.meaning.specs.Proposal.{potential, flow}
 use Rattle.flows.specs.Flows.{number, circuits_in, in_ranges}

@@ -1,12 +1,10 @@
 -- 02, request 5: what is promised of the backgrounds of an accepted case, of a circuit's length, and of who pays at peak.
 use mathlib.Core.Path.{◌≡◌, refl, sym, subst}
 use mathlib.Core.Bool.{Bool, true, false, cond}
-use Prim.Native.Nat.{ℕ}
 use native.Mathlib.Omega.{arith}
 use lib.Dec.{eqb}
 use lib.IntN.{ℤ, pos, ◌+ℤ◌}
 use Rattle.integers.proofs.Core.{Z}
-use Rattle.meaning.specs.declared.Edition.TheVariants.{Second}
 use Rattle.meaning.specs.declared.Background.{Background}
 use Rattle.meaning.specs.declared.Background.TheVariants.{YearRound, Peak}
 use Rattle.meaning.specs.Editions.{Of, same_background}

@@ -1,17 +1,17 @@
 -- 02, request 6, chains: what `after` and `passes` compute is what `Passes` says. A chain that ends has ended when each zone has been passed:
 -- with one number more a further zone ends, or else with no number more.
 use mathlib.Core.Path.{◌≡◌, refl, sym, ◌∙◌, ap}
-use mathlib.Core.Logic.{◌⊎◌, inl, inr, ◌↔◌, ◌≢◌}
+use mathlib.Core.Logic.{◌⊎◌, inl, inr, ◌≢◌}
 use mathlib.Core.Bool.{Bool, true, false, cond, true≢false}
 use mathlib.Core.List.{List}
-use Prim.Native.Nat.{ℕ, zero, suc, ◌+◌, ◌*◌, ◌-◌, ◌≤◌, ◌<◌}
+use Prim.Native.Nat.{ℕ, zero, suc, ◌*◌, ◌-◌, ◌≤◌, ◌<◌}
 use native.Mathlib.Omega.{arith}
-use native.Mathlib.Decide.{dec_le, dec_lt, ℕ_discrete}
+use native.Mathlib.Decide.{dec_le, dec_lt}
 use lib.Dec.{eqb}
 use Rattle.integers.specs.Numbers.{sum}
 use Rattle.meaning.specs.File.{u32}
-use Rattle.meaning.specs.Rows.{any, ◌between◌and◌}
-use Rattle.meaning.proofs.Rows.{below_suc, any_elim, any_intro}
+use Rattle.meaning.specs.Rows.{◌between◌and◌}
+use Rattle.meaning.proofs.Rows.{below_suc}
 use Rattle.meaning.proofs.Says.{Says, says_eq, says_between, says_any, says_as}
 use Rattle.meaning.specs.Conditions.{InRange}
 use Rattle.meaning.specs.Sharing.{next_inward, after, Passes, here, inward, passes}

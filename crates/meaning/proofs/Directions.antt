@@ -1,6 +1,5 @@
 -- What says a network, a length and an offset: circuits, names in order, the reference, the six factors and directions, and nothing else of a case.
 use mathlib.Core.Path.{◌≡◌, refl, sym, ◌∙◌, ap, ap₂, fun_ext}
-use mathlib.Core.Logic.{◌≢◌}
 use mathlib.Core.Bool.{Bool, true, false, cond, true≢false}
 use mathlib.Core.List.{List, []}
 use mathlib.Core.Option

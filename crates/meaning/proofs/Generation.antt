@@ -1,25 +1,23 @@
 -- What runs in a background adds up to the demand, and no node runs above its TEC. In edition 1 it is 01's scaled generation.
 use mathlib.Core.Path.{◌≡◌, refl, sym, ◌∙◌, ap, ap₂}
-use mathlib.Core.Bool.{Bool, true, false, cond, true≢false}
-use Prim.Native.Nat.{ℕ, zero, suc, ◌+◌, ◌*◌, ◌-◌, ◌/◌, ◌%◌, ◌≤◌, ◌<◌}
+use mathlib.Core.Bool.{Bool, true, false, cond}
+use Prim.Native.Nat.{ℕ, ◌+◌, ◌≤◌}
 use native.Mathlib.Nat.{zero-div, zero-mod, mul-zero}
 use native.Mathlib.Decide.{dec_le}
 use native.Mathlib.Omega.{arith}
-use lib.Dec.{eqb, ltb}
+use lib.Dec.{ltb}
 use lib.ListN.{length}
 use Rattle.integers.specs.Numbers.{sum}
-use Rattle.integers.proofs.Sum.{sum-add, sum-le, sum_none, sum_item}
+use Rattle.integers.proofs.Sum.{sum-add, sum-le, sum_none}
 use Rattle.meaning.specs.declared.Edition.{Edition}
 use Rattle.meaning.specs.declared.Edition.TheVariants.{First, Second}
 use Rattle.meaning.specs.declared.Background.{Background}
 use Rattle.meaning.specs.declared.Background.TheVariants.{YearRound, Peak}
 use Rattle.meaning.specs.declared.Plant.{Plant}
 use Rattle.meaning.specs.declared.Plant.TheVariants.{Intermittent, NuclearAndCcs, Interconnector, Hydro, PumpedStorage, Peaking, Other}
-use Rattle.meaning.specs.declared.Running.{Running}
-use Rattle.meaning.specs.declared.Running.TheVariants.{Fixed, Variable}
-use Rattle.meaning.specs.Grid.{Grid, grid_of, plant_of, pays, pays_in, over_types, tec_of, node_tec, paying_tec_in, total_demand}
+use Rattle.meaning.specs.Grid.{Grid, grid_of, pays, pays_in, over_types, tec_of, node_tec, paying_tec_in, total_demand}
 use Rattle.meaning.specs.Scaled.{whole_share, left_over, missing, scaled}
-use Rattle.meaning.specs.Generation.{runs_as, fixed_part, is_variable, fixed_kw, variable_tec, total_fixed, total_variable, remaining, generation}
+use Rattle.meaning.specs.Generation.{runs_as, fixed_part, is_variable, fixed_kw, variable_tec, total_variable, remaining, generation}
 use Rattle.meaning.specs.Editions.{Of}
 use Rattle.meaning.specs.Study.{Study}
 use Rattle.meaning.specs.Conditions.{Scalable, SoundStudy}

@@ -21,7 +21,7 @@ use Rattle.meaning.specs.declared.Side.TheVariants.{Generation, Demand}
 use Rattle.meaning.specs.Study.{Metres, Runs}
 use Rattle.meaning.specs.Grid.{Grid}
 use Rattle.meaning.specs.Charging.{metres, tariff}
-use Rattle.meaning.specs.Figures.{wider_metres, local_metres, distance, total_paying_in, over_zones, target, zonal_metres, C, after_c, zone_tariff, local_tariff, local_income, priced, basis}
+use Rattle.meaning.specs.Figures.{wider_metres, local_metres, distance, total_paying_in, over_zones, target, zonal_metres, C, after_c, zone_tariff, local_income, priced, basis}
 use Rattle.meaning.specs.Charging as charging
 use Rattle.meaning.specs.Distances.{weight_in}
 use Rattle.meaning.specs.Mirror.{NearestMirrors, half_up, NegativeHalf, OnlyNegativeHalvesMove, nodal, zonal, centre, zone_tariffs, shared_tariffs, local_tariffs, FiguresMove, average, AveragesMirror, WeighAlike, Whole, ZonesMirror, other, Exchanged, MirrorImage, SidesMirror, MoneyMirrors}

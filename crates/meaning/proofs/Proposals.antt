@@ -26,7 +26,7 @@ use Rattle.meaning.specs.declared.Refusal.TheVariants.{BadNumber, Unbalanced, Mi
 use Rattle.meaning.specs.Grid.{Grid}
 use Rattle.meaning.specs.Network.{Network, network_of}
 use Rattle.meaning.specs.Direction.{in_doubt, counts_for, is_doubtful, has_length}
-use Rattle.meaning.specs.Proposal.{flow, same, number_in_range, balanced, Proposed, range_stage, balance_stage, miss_stage, system_stage}
+use Rattle.meaning.specs.Proposal.{same, number_in_range, balanced, Proposed, range_stage, balance_stage, miss_stage, system_stage}
 use Rattle.meaning.specs.Systems.{base_flow, counting, background_of, heading, proposed, solution_stage, counting_clear, counting_stage, direction_clear, direction_stage, in_order, ordered, proposals_stage}
 use Rattle.meaning.specs.Conditions.{SolvesSystem, Decided, NoDoubt}
 use Rattle.meaning.specs.Refusals.{SoundNumber, Balanced, MissesLow, Condition, whole, each_row, AllMet, only_second, system_order, systems_order, counting_order, direction_order, proposals_order}

@@ -2,15 +2,13 @@
 use mathlib.Core.Path.{◌≡◌, refl, sym, ◌∙◌, ap}
 use mathlib.Core.Logic.{◌⊎◌, inl, inr, ◌↔◌, ◌≢◌}
 use mathlib.Core.Bool.{Bool, true, false, cond, true≢false}
-use mathlib.Core.List.{List, [], ◌∷◌, ◌++◌}
-use mathlib.Core.Option.{Option, none, some}
+use mathlib.Core.List.{List, [], ◌∷◌}
+use mathlib.Core.Option.{none}
 use Prim.Native.Nat.{ℕ, zero, suc, ◌+◌, ◌*◌, ◌-◌, ◌≤◌, ◌<◌}
 use native.Mathlib.Omega.{arith}
 use native.Mathlib.Decide.{ℕ_discrete}
-use lib.Dec.{eqb}
-use lib.IntN.{ℤ, pos, ◌+ℤ◌, ◌*ℤ◌}
+use lib.IntN.{pos}
 use lib.ListN.{length}
-use Rattle.integers.specs.Numbers.{nearest}
 use Rattle.integers.proofs.Core.{Z}
 use Rattle.integers.proofs.Sum.{Σ-none}
 use Rattle.meaning.specs.declared.Edition.{Edition}
@@ -22,23 +20,21 @@ use Rattle.meaning.specs.declared.Side.TheVariants.{Generation, Demand}
 use Rattle.meaning.specs.declared.Form.{Form}
 use Rattle.meaning.specs.declared.Form.TheVariants.{OneBackground, TwoBackgrounds}
 use Rattle.meaning.specs.declared.Form.TheVariants as form
-use Rattle.meaning.specs.declared.Judgement.{Judgement}
 use Rattle.meaning.specs.declared.Judgement.TheVariants.{Passes as PassesStage}
 use Rattle.meaning.specs.declared.Refusal.TheVariants.{BadShare}
-use Rattle.meaning.specs.Rows.{any, all}
 use Rattle.meaning.specs.Answers.{when}
 use Rattle.meaning.specs.Editions.{by_edition}
 use Rattle.meaning.specs.Study.{Kw, Runs}
 use Rattle.meaning.specs.Grid.{Grid}
-use Rattle.meaning.specs.Sharing.{Sharing, in_force, next_inward, load_factor, Passes, names_one_with_tec, names_with_tec, is_centre, second_centre, ended, sound_zone, sound_frame, share_file_stage, not_shared_metres, shared_metres, shared_kw, sharing_on}
+use Rattle.meaning.specs.Sharing.{in_force, next_inward, load_factor, Passes, names_one_with_tec, names_with_tec, is_centre, second_centre, ended, sound_zone, sound_frame, share_file_stage, not_shared_metres, shared_metres, shared_kw, sharing_on}
 use Rattle.meaning.specs.Charging.{Priced, own_metres, shared_income}
-use Rattle.meaning.specs.Figures.{zones, zone_weight, share_stage, sharing, form_of, priced, basis}
+use Rattle.meaning.specs.Figures.{zones, zone_weight, share_stage, sharing, form_of, priced}
 use Rattle.meaning.specs.Charging as charging
 use Rattle.meaning.specs.Conditions.{SoundShareFrame, Centre, SoundZone, SoundShare}
 use Rattle.meaning.specs.Refusals.{AllMet, whole, each_row, only_second, only_of, share_order}
 use Rattle.meaning.proofs.Says.{Says, says_as, ◌also◌, ◌either◌, says_not, says_le, says_eq, says_any, says_all}
 use Rattle.meaning.proofs.Systems.{first≢second}
-use Rattle.meaning.proofs.Order.{Judges, ◌before◌, judges_none, judges_second, judges_whole, judges_rows}
+use Rattle.meaning.proofs.Order.{Judges, ◌before◌, judges_none, judges_whole, judges_rows}
 use Rattle.meaning.proofs.Chains.{Inward, next_inward_lem, says_ends}
 
 -- ---- 16

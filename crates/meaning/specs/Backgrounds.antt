@@ -1,11 +1,9 @@
 -- 02, request 5: "Peak and year round." The demands are stated once over both editions; what is promised of the editions and backgrounds besides, as statements over the definitions.
 use Rattle.std.specs.Prelude.{◌≡◌, ◌≢◌, cond, List, [], ◌∷◌, map, ℕ, ◌+◌, ◌≤◌, ◌<◌, eqb, ℤ, pos, ◌+ℤ◌, ◌*ℤ◌, length}
 use Rattle.integers.specs.Numbers.{sum}
-use Rattle.meaning.specs.declared.Edition.{Edition}
 use Rattle.meaning.specs.declared.Edition.TheVariants.{First, Second}
 use Rattle.meaning.specs.declared.Background.{Background}
 use Rattle.meaning.specs.declared.Background.TheVariants.{YearRound, Peak}
-use Rattle.meaning.specs.declared.System.{System}
 use Rattle.meaning.specs.declared.System.TheVariants.{Base, Wider, Local}
 use Rattle.meaning.specs.declared.Side.{Side}
 use Rattle.meaning.specs.declared.Side.TheVariants.{Generation}

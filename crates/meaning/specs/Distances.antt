@@ -1,7 +1,6 @@
 -- 01, step 6: the nodal distances of two cases side by side, of each node and on the bytes of two sheets. Demand 3 and request 12 of 02 promise that they are close.
 use Rattle.std.specs.Prelude.{◌≡◌, ◌≢◌, true, cond, List, ℕ, ◌≤◌, ◌<◌, eqb, nat_abs, ◌+ℤ◌, ◌-ℤ◌, length}
 use Rattle.meaning.specs.declared.Form.{Form}
-use Rattle.meaning.specs.declared.Form.TheVariants.{OneBackground, TwoBackgrounds, Sharing}
 use Rattle.meaning.specs.declared.Background.{Background}
 use Rattle.meaning.specs.declared.Background.TheVariants.{YearRound, Peak}
 use Rattle.meaning.specs.declared.Side.{Side}

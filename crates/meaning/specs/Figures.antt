@@ -20,7 +20,7 @@ use Rattle.meaning.specs.Answers.{when}
 use Rattle.meaning.specs.Study.{Kw, Metres, MicroPerKw, Runs, node}
 use Rattle.meaning.specs.Grid.{Grid, plant_of, pays, tec_of, node_tec, paying_tec, paying_tec_in, node_demand}
 use Rattle.meaning.specs.Proposal.{potential}
-use Rattle.meaning.specs.Sharing.{Sharing, in_force, next_inward, load_factor, share_file_stage, sharing_on}
+use Rattle.meaning.specs.Sharing.{Sharing, in_force, next_inward, load_factor, share_file_stage}
 use Rattle.meaning.specs.Charging.{metres, turned, in_zone, weighed_in, average_of, target_of, Basis, Priced}
 use Rattle.meaning.specs.Charging as charging
 

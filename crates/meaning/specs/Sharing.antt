@@ -1,6 +1,6 @@
 -- 02, request 6 (CUSC 14.15.48 to 57): "Sharing across boundaries", over numbers. Zones count from 1, and a quantity of zones is a function of the zone's number.
 -- A boundary is known by its outer zone.
-use Rattle.std.specs.Prelude.{Bool, true, false, not, cond, ◌&&◌, ◌||◌, List, [], ◌∷◌, ℕ, zero, suc, ◌+◌, ◌*◌, ◌-◌, eqb, leb, ℤ, pos, ◌+ℤ◌, ◌-ℤ◌, ◌*ℤ◌, length}
+use Rattle.std.specs.Prelude.{Bool, true, false, not, cond, ◌&&◌, ◌||◌, List, [], ◌∷◌, ℕ, zero, suc, ◌+◌, ◌*◌, ◌-◌, eqb, leb, pos, ◌+ℤ◌, ◌-ℤ◌, ◌*ℤ◌, length}
 use Rattle.std.proofs.Math.Option.{Option, none, some}
 use Rattle.integers.specs.Numbers.{sum, floor_div}
 use Rattle.meaning.specs.declared.Edition.{Edition}

@@ -1,18 +1,17 @@
 -- The arithmetic of a rest: it stands for its value, a tariff taken off in two steps is taken off exactly, and nothing passes 64 bits.
-use mathlib.Core.Path.{◌≡◌, refl, sym, ◌∙◌, ap, ap₂}
-use mathlib.Core.Bool.{Bool, true, false, cond, true≢false, ◌&&◌}
-use Prim.Native.Nat.{ℕ, zero, suc, ◌+◌, ◌*◌, ◌≤◌, ◌<◌, min}
+use mathlib.Core.Path.{◌≡◌, refl, sym, ◌∙◌, ap}
+use mathlib.Core.Bool.{true, false, ◌&&◌}
+use Prim.Native.Nat.{ℕ, ◌+◌, ◌*◌, ◌≤◌, ◌<◌}
 use native.Mathlib.Nat.{mul-le-mul}
 use native.Mathlib.Omega.{arith}
-use native.Mathlib.Decide.{dec_lt}
-use lib.Dec.{leb, ltb}
+use lib.Dec.{leb}
 use lib.IntN.{ℤ, pos, nat_abs, ◌+ℤ◌, ◌-ℤ◌, ◌*ℤ◌}
-use lib.Signed.{◌≤ℤ◌, ◌<ℤ◌}
+use lib.Signed.{◌≤ℤ◌}
 use mir.Syntax.{w64}
 use mir.Val.{SFits}
 use Rattle.integers.specs.Numbers.{floor_div}
-use Rattle.integers.proofs.Core.{Z, abs_parts}
-use Rattle.integers.proofs.Laws.{abs_of_nonneg, abs-mul-le, abs-add, abs-sub, sfits_abs}
+use Rattle.integers.proofs.Core.{Z}
+use Rattle.integers.proofs.Laws.{abs_of_nonneg, abs-mul-le}
 use Rattle.integers.proofs.Div.{floor_is, floor_add, floor_within, floor_abs}
 use Rattle.meaning.proofs.Says.{Says, says_as, ◌also◌, says_le, says_lt}
 use Rattle.rests.specs.declared.Rest.{Rest}

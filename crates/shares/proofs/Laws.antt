@@ -1,13 +1,10 @@
 -- 02, request 6: over columns that hold a grid's numbers, refusal 16 and what a share file says are the grid's.
 use mathlib.Core.Path.{◌≡◌, refl, sym, ◌∙◌, ap, ap₂, fun_ext}
-use mathlib.Core.Bool.{Bool, true, false, not, cond}
+use mathlib.Core.Bool.{Bool, true, false, not}
 use mathlib.Core.List.{List}
-use mathlib.Core.Option.{Option, none, some}
 use Prim.Native.Nat.{ℕ, suc, ◌≤◌, ◌<◌, min}
-use native.Mathlib.Nat.{le_trans}
 use native.Mathlib.Omega.{arith}
 use borrow.Author.Tests.{le-leb}
-use lib.ListN.{length}
 use Rattle.meaning.specs.declared.Edition.{Edition}
 use Rattle.meaning.specs.declared.Judgement.{Judgement}
 use Rattle.meaning.specs.declared.Judgement.TheVariants.{Passes as PassesStage}
@@ -15,9 +12,8 @@ use Rattle.meaning.specs.declared.Kw.{Kw}
 use Rattle.meaning.specs.declared.Plant.{Plant}
 use Rattle.meaning.specs.declared.Side.TheVariants.{Generation}
 use Rattle.meaning.specs.Answers.{when}
-use Rattle.meaning.specs.Columns.{kw_at, number_at}
-use Rattle.meaning.specs.Rows.{◌between◌and◌}
-use Rattle.meaning.specs.Sharing.{Sharing, in_force, next_inward, load_factor, share_file_stage}
+use Rattle.meaning.specs.Columns.{kw_at}
+use Rattle.meaning.specs.Sharing.{in_force, next_inward, load_factor, share_file_stage}
 use Rattle.meaning.specs.Grid.{Grid, plant_of, tec_of, node_tec}
 use Rattle.meaning.specs.Figures.{low_carbon, zones, zone_weight, zone_tec_of, loaded_kw, share_stage, sharing}
 use Rattle.meaning.proofs.Plants.{capacity_at}
@@ -25,8 +21,8 @@ use Rattle.plants.specs.declared.Counted.TheVariants.{All, LowCarbon, Carbon, Of
 use Rattle.station_table.specs.Tec.{by_node}
 use Rattle.zone_kw.specs.ByZone.{by_zone}
 use Rattle.zone_kw.specs.Load.{shared_kw}
-use Rattle.zone_kw.proofs.OfGrid.{ZonesOf, at_zone, zone_row, all_by_zone, some_by_zone, shared_kw_is}
-use Rattle.chains.specs.Columns.{of_zone, next_in, zone_kw, inward_of, factors_of, stage_in}
+use Rattle.zone_kw.proofs.OfGrid.{ZonesOf, at_zone, all_by_zone, some_by_zone, shared_kw_is}
+use Rattle.chains.specs.Columns.{of_zone, zone_kw, inward_of, factors_of, stage_in}
 use Rattle.chains.proofs.Laws.{OnlyZones, zone_none, zone_past, zone_is, same_next, same_factor, stage_is}
 use Rattle.boundaries.specs.declared.Shares.{Shares}
 use Rattle.boundaries.specs.Boundaries.{up_to, kept, sharing_in}

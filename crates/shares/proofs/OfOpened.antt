@@ -1,15 +1,15 @@
 -- 02, request 6: a case that was opened and that nothing stops before 16. Its columns are its grid's, so refusal 16 and what its share file says are the grid's.
-use mathlib.Core.Path.{◌≡◌, sym, ◌∙◌, ap}
+use mathlib.Core.Path.{◌≡◌, ap}
 use mathlib.Core.Bool.{true}
 use mathlib.Core.List.{List}
-use Prim.Native.Nat.{ℕ, suc, ◌≤◌, ◌<◌}
+use Prim.Native.Nat.{ℕ, suc, ◌≤◌}
 use native.Mathlib.Omega.{arith}
 use lib.ListN.{length}
 use Rattle.meaning.specs.declared.Settings.{Settings}
 use Rattle.meaning.specs.declared.Side.TheVariants.{Generation}
 use Rattle.meaning.specs.Study.{Study}
 use Rattle.meaning.specs.Grid.{grid_of}
-use Rattle.meaning.specs.Sharing.{in_force, load_factor}
+use Rattle.meaning.specs.Sharing.{in_force}
 use Rattle.meaning.specs.Figures.{zones, zone_of, weight, share_stage, sharing}
 use Rattle.meaning.specs.Conditions.{SoundStudy, SoundShare}
 use Rattle.sizes.proofs.Ranges.{ranged}

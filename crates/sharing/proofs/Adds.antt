@@ -1,13 +1,12 @@
 -- 02, request 6: "Parts along a chain, plus the centre's metres as not shared, add up to the zone's metres", of a case; and what else is promised of its parts.
-use mathlib.Core.Path.{◌≡◌, refl}
+use mathlib.Core.Path.{◌≡◌}
 use mathlib.Core.Option.{Option, none, some}
 use Prim.Native.Nat.{ℕ}
 use native.Mathlib.Omega.{arith}
-use lib.IntN.{ℤ, pos, ◌+ℤ◌}
+use lib.IntN.{◌+ℤ◌}
 use Rattle.integers.proofs.Core.{Z}
 use Rattle.meaning.specs.Study.{Metres}
-use Rattle.meaning.specs.declared.Background.TheVariants.{YearRound}
-use Rattle.meaning.specs.Sharing.{Sharing, boundary, behind, shared_part, shared_along, not_shared_along, not_shared_metres, shared_metres}
+use Rattle.meaning.specs.Sharing.{Sharing, boundary, behind, shared_part, not_shared_metres, shared_metres}
 use Rattle.meaning.specs.Charging as charging
 use Rattle.meaning.specs.Figures.{basis}
 use Rattle.meaning.specs.Shares.{PartsAddUp, PartsBetween}

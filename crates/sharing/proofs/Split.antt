@@ -1,25 +1,23 @@
 -- The split: the parts add up, a part lies between 0 and its distance, sums go along the chain; and what the split is in plain cases.
 use mathlib.Core.Path.{◌≡◌, refl, sym, ◌∙◌, ap}
-use mathlib.Core.Logic.{◌≢◌, ◌⊎◌, inl, inr}
+use mathlib.Core.Logic.{◌≢◌}
 use mathlib.Core.Bool.{Bool, true, false, cond, true≢false}
 use Prim.Native.Nat.{ℕ, zero, suc, ◌+◌, ◌*◌, ◌-◌, ◌≤◌, ◌<◌}
 use native.Mathlib.Nat.{mul-le-mul_left}
 use native.Mathlib.Omega.{arith}
 use native.Mathlib.Decide.{dec_le}
 use lib.Dec.{eqb, leb}
-use lib.IntN.{ℤ, pos, negsuc, nat_abs, ◌+ℤ◌, ◌-ℤ◌, ◌*ℤ◌}
-use lib.Signed.{◌≤ℤ◌}
-use borrow.Author.Tests.{le-leb, lt-leb}
-use Rattle.integers.specs.Numbers.{sum, floor_div}
+use lib.IntN.{ℤ, pos, negsuc, ◌+ℤ◌, ◌-ℤ◌, ◌*ℤ◌}
+use Rattle.integers.specs.Numbers.{floor_div}
 use Rattle.integers.proofs.Core.{Z}
 use Rattle.integers.proofs.Div.{floor_le, floor_ge, floor_exact}
 use Rattle.meaning.specs.Study.{Kw, Metres}
 use Rattle.meaning.proofs.Says.{says_eq, says_le}
-use Rattle.meaning.specs.Sharing.{after, Passes}
+use Rattle.meaning.specs.Sharing.{after}
 use Rattle.meaning.proofs.Chains.{Inward}
 use Rattle.meaning.specs.Sharing.{factor_over, factor_under, shared_distance, behind, along, centre_of, boundary, shared_part, not_shared_part, shared_along, not_shared_along}
 use Rattle.meaning.specs.Shares.{Between}
-use Rattle.meaning.proofs.Chains.{after_zero, after_suc, after_more, ended_later}
+use Rattle.meaning.proofs.Chains.{after_zero, after_suc}
 
 -- ---- the factor
 pub factor_half : (low carbon : ℕ) → low ≤ carbon → (factor_over low carbon ≡ 1) × (factor_under low carbon ≡ 1)

@@ -7,9 +7,9 @@ use Prim.Native.Nat.{ℕ, zero, suc, ◌≤◌, ◌<◌}
 use native.Mathlib.Omega.{arith}
 use native.Mathlib.Decide.{dec_le, dec_lt, ℕ_discrete}
 use lib.Dec.{eqb}
-use lib.IntN.{ℤ, nat_abs}
+use lib.IntN.{nat_abs}
 use Rattle.meaning.specs.Study.{Kw, Metres}
-use Rattle.meaning.specs.Sharing.{next_inward, after, Passes, centre_of, shared_along, not_shared_along}
+use Rattle.meaning.specs.Sharing.{next_inward, after, centre_of, shared_along, not_shared_along}
 use Rattle.meaning.specs.Conditions.{Centre, SoundZone}
 use Rattle.meaning.proofs.Says.{says_eq}
 use Rattle.meaning.proofs.Chains.{next_inward_lem, passes_by, ends_by, after_zero, after_suc}

@@ -26,7 +26,7 @@ use Rattle.meaning.specs.Demands.{longest_sheet}
 use Rattle.meaning.specs.Sharing.{in_force}
 use Rattle.meaning.specs.declared.Side.{Side}
 use Rattle.meaning.specs.declared.Side.TheVariants.{Generation, Demand}
-use Rattle.meaning.specs.Figures.{zones, form_of, C, residual, zone_total, local_metres, local_tariff, remainder, total_paying, zone_figures, local_figures, priced, basis}
+use Rattle.meaning.specs.Figures.{zones, form_of, C, residual, zone_total, local_metres, local_tariff, remainder, total_paying, zone_figures, priced, basis}
 use Rattle.meaning.specs.Charging as charging
 use Rattle.meaning.specs.Text.{text, decimal, decimals, line}
 use Rattle.meaning.specs.Sheet.{constant_numbers, constant_fields, letter, wider_then, zone_numbers, zone_fields, node_fields, node_line, remainder_fields, Shown, zone_row, side_of, shown_of, zone_lines, node_lines, sheet_text, sheet}

@@ -4,20 +4,18 @@
 use mathlib.Core.Path.{◌≡◌, refl}
 use mathlib.Core.List.{List, [], ◌∷◌, ◌++◌}
 use mathlib.Core.Bool.{true}
-use Prim.Native.Nat.{ℕ, suc, ◌≤◌}
-use native.Mathlib.Omega.{arith}
-use lib.IntN.{ℤ, pos, neg_ℤ, ◌+ℤ◌}
+use Prim.Native.Nat.{ℕ, suc}
+use lib.IntN.{pos, neg_ℤ}
 use Rattle.meaning.specs.Text.{text}
 use Rattle.meaning.specs.Rows.{rows}
 use Rattle.meaning.specs.declared.Judgement.TheVariants.{Stops}
 use Rattle.meaning.specs.declared.Refusal.TheVariants.{BadShare}
-use Rattle.meaning.specs.declared.Side.TheVariants.{Generation, Demand}
+use Rattle.meaning.specs.declared.Side.TheVariants.{Generation}
 use Rattle.meaning.specs.declared.Background.TheVariants.{YearRound}
 use Rattle.meaning.specs.Sharing.{shared_kw, in_force}
-use Rattle.meaning.specs.Figures.{sharing, own_metres, shared_of, zonal_metres}
+use Rattle.meaning.specs.Figures.{sharing, own_metres, shared_of}
 use Rattle.meaning.specs.File.{study_of}
 use Rattle.meaning.specs.Outcome.{judged, sheet_of, prints}
-use Rattle.meaning.specs.Read.{side_income, printed_remainder}
 use Rattle.meaning.specs.Conditions.{Acceptable}
 use Rattle.meaning.specs.Demands.{Recovered}
 use Rattle.meaning.specs.Shares.{OneCentre}

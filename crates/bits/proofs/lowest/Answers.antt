@@ -1,5 +1,4 @@
 use mathlib.Core.Path.{◌≡◌, sym}
-use Prim.Native.Nat.{◌-◌}
 use native.Mathlib.Omega.{arith}
 use Rattle.bits.proofs.Sets.{none_more, lowest_here, lowest_none}
 use Rattle.bits.proofs.lowest.Goals as goal

@@ -1,5 +1,5 @@
 use mathlib.Core.Path.{sym, ◌∙◌}
-use Prim.Native.Nat.{◌+◌, ◌-◌, ◌≤◌}
+use Prim.Native.Nat.{◌+◌, ◌≤◌}
 use native.Mathlib.Omega.{arith}
 use Rattle.meaning.proofs.Columns.{column_none, column_turn}
 use Rattle.chains.proofs.Laws.{factors_on, factor_read, factors_filled}

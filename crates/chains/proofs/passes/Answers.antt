@@ -1,5 +1,5 @@
 use mathlib.Core.Path.{sym}
-use Prim.Native.Nat.{◌-◌, ◌≤◌}
+use Prim.Native.Nat.{◌≤◌}
 use native.Mathlib.Omega.{arith}
 use Rattle.meaning.proofs.Chains.{after_zero}
 use Rattle.meaning.proofs.Rows.{passed_zero, passed_more}

@@ -1,4 +1,3 @@
-use Prim.Native.Nat.{◌-◌}
 use native.Mathlib.Omega.{arith}
 use Rattle.meaning.proofs.Columns.{filling_none, filling_on, filling_more, filling_done}
 use Rattle.fields.proofs.column.Goals as goal

@@ -1,5 +1,4 @@
 use mathlib.Core.Path.{◌≡◌, sym, ◌∙◌}
-use Prim.Native.Nat.{◌-◌}
 use native.Mathlib.Omega.{arith}
 use Rattle.numbers.proofs.Found.{pass_none, pass_more, row_here, row_none}
 use Rattle.numbers.proofs.first_in_doubt.Goals as goal

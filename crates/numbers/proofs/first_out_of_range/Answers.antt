@@ -1,8 +1,6 @@
 use mathlib.Core.Path.{◌≡◌, sym, ◌∙◌}
-use Prim.Native.Nat.{◌-◌}
 use native.Mathlib.Omega.{arith}
 use lib.ListN.{length}
-use Rattle.meaning.specs.Proposal.{number_in_range}
 use Rattle.numbers.proofs.Found.{pass_none, pass_more, row_here, row_none}
 use Rattle.numbers.proofs.first_out_of_range.Goals as goal
 

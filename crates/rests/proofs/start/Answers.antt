@@ -1,5 +1,4 @@
 use mathlib.Core.Path.{◌≡◌, sym, ◌∙◌}
-use mathlib.Core.Bool.{true, false}
 use lib.IntN.{nat_abs}
 use Rattle.integers.proofs.Machine.{fit_back}
 use Rattle.rests.proofs.Laws.{says_divides, start_in, start_out}

@@ -19,14 +19,14 @@ pub by_type-by_type-requires : goal.by_type-by_type-requires
 by_type-by_type-requires c =
     -- a station's TEC is a u32
     let below : (k : ℕ) → kw_at c.columns-columns.result.tec k < 2 ^ 32 =
-        tec_below c.args.file.now (λ i. omega (arith, c.shared_slice_known-1.given i)) c.columns-columns.ensures in
+    tec_below c.args.file.now (λ i. omega (arith, c.shared_slice_known-1.given i)) c.columns-columns.ensures in
     (nodes_few _ c.section-nodes.ensures, stations_few _ c.section-rows.ensures, below)
 
 pub returns : goal.returns
 returns c =
     -- a station's TEC is a u32
     let below : (k : ℕ) → kw_at c.columns-columns.result.tec k < 2 ^ 32 =
-        tec_below c.args.file.now (λ i. omega (arith, c.shared_slice_known-1.given i)) c.columns-columns.ensures in
+    tec_below c.args.file.now (λ i. omega (arith, c.shared_slice_known-1.given i)) c.columns-columns.ensures in
     let nodes = nodes_from _ c.section-nodes.ensures in
     let stations = stations_from _ c.section-rows.ensures in
     let few = stations_few _ c.section-rows.ensures in

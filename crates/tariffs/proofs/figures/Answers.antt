@@ -1,8 +1,6 @@
-use mathlib.Core.Path.{◌≡◌, sym, ◌∙◌}
-use mathlib.Core.Bool.{true}
+use mathlib.Core.Path.{sym, ◌∙◌}
 use lib.ListN.{length}
 use Rattle.zones.proofs.Laws.{reached_most}
-use Rattle.tariffs.specs.Case.{settings_fit}
 use Rattle.tariffs.proofs.CaseLaws.{settings_say, sides_fit, over_made, over_none}
 use Rattle.tariffs.proofs.figures.Goals as goal
 

@@ -1,13 +1,11 @@
 -- `text::write_figures` meets its contract: no text, a short buffer, or the text copied to the front of the buffer.
 use mathlib.Core.Path.{◌≡◌, sym, ◌∙◌}
-use mathlib.Core.Bool.{true}
-use mathlib.Core.List.{List}
 use Prim.Native.Nat.{ℕ, ◌-◌, ◌≤◌}
 use native.Mathlib.Omega.{arith}
 use lib.ListN.{length, take, replicate, length-replicate}
 use Rattle.meaning.specs.Sheet.{sheet_text}
 use Rattle.text.specs.Room.{room}
-use Rattle.text.specs.SheetText.{shown_in, text_of, sized}
+use Rattle.text.specs.SheetText.{shown_in, text_of}
 use Rattle.lines.proofs.Making.{front}
 use Rattle.text.proofs.Sizing.{written, says_sized, text_sized, text_none, fitted_written, fitted_short, fitted_none}
 use Rattle.text.proofs.write_figures.Goals as goal

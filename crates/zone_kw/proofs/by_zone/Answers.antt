@@ -1,4 +1,4 @@
-use Prim.Native.Nat.{◌-◌, ◌<◌}
+use Prim.Native.Nat.{◌<◌}
 use native.Mathlib.Omega.{arith}
 use Rattle.meaning.proofs.Says.{says_lt, ◌also◌}
 use Rattle.zone_kw.proofs.ZoneLaws.{sums_none, sums_more, sums_past, sums_fit, sums_done}

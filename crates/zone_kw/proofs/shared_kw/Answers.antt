@@ -1,5 +1,5 @@
 use mathlib.Core.Path.{refl, sym}
-use Prim.Native.Nat.{◌-◌, ◌/◌}
+use Prim.Native.Nat.{◌/◌}
 use native.Mathlib.Omega.{arith}
 use Rattle.meaning.specs.Columns.{kilowatts, number_at}
 use Rattle.meaning.proofs.Columns.{column_none, column_turn}

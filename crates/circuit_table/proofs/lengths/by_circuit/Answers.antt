@@ -1,7 +1,5 @@
-use Prim.Native.Nat.{◌-◌}
 use native.Mathlib.Omega.{arith}
 use Rattle.meaning.proofs.Columns.{filling_none, filling_on, filling_more, filling_done}
-use Rattle.meaning.specs.File.{row_at}
 use Rattle.meaning.proofs.Frame.{row_low}
 use Rattle.circuit_table.proofs.lengths.by_circuit.Goals as goal
 

@@ -1,4 +1,3 @@
-use Prim.Native.Nat.{◌-◌}
 use native.Mathlib.Omega.{arith}
 use Rattle.layout.proofs.FileLaws.{size_low, chained_none, chained_on, chained_is}
 use Rattle.layout.proofs.trailer.chained.Goals as goal

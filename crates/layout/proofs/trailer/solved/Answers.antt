@@ -1,4 +1,3 @@
-use Prim.Native.Nat.{◌-◌}
 use native.Mathlib.Omega.{arith}
 use Rattle.layout.proofs.FileLaws.{solved_none, solved_on, solved_is}
 use Rattle.layout.proofs.trailer.solved.Goals as goal

@@ -26,16 +26,16 @@ pub put_natural-requires : goal.put_natural-requires
 put_natural-requires c =
     let bz : Back c.args.z = fit_back c.ranges.z in
     let text_below : decimal c.args.z ≡ text "-" ++ natural c.magnitude-n.result =
-        decimal_below c.args.z (lt_true (simp bz at c.if-z-lt0.true))
-        ∙ ap (λ (n : ℕ). text "-" ++ natural n) (sym (simp bz at c.magnitude-n.ensures)) in
+    decimal_below c.args.z (lt_true (simp bz at c.if-z-lt0.true))
+    ∙ ap (λ (n : ℕ). text "-" ++ natural n) (sym (simp bz at c.magnitude-n.ensures)) in
     omega (arith, c.requires, ap length text_below, decimal_i64 c.args.z c.ranges.z)
 
 pub returns-then-z-lt0 : goal.returns-then-z-lt0
 returns-then-z-lt0 c =
     let bz : Back c.args.z = fit_back c.ranges.z in
     let text_below : decimal c.args.z ≡ text "-" ++ natural c.magnitude-n.result =
-        decimal_below c.args.z (lt_true (simp bz at c.if-z-lt0.true))
-        ∙ ap (λ (n : ℕ). text "-" ++ natural n) (sym (simp bz at c.magnitude-n.ensures)) in
+    decimal_below c.args.z (lt_true (simp bz at c.if-z-lt0.true))
+    ∙ ap (λ (n : ℕ). text "-" ++ natural n) (sym (simp bz at c.magnitude-n.ensures)) in
     let e : c.args.at + 2 ≡ c.args.at + 1 + 1 = omega arith in
     rw text_below
     (within (both (put_one _ c.args.at 32) (both (put_one _ (c.args.at + 1) 45) (rw e at c.put_natural.ensures)))
@@ -48,16 +48,16 @@ pub put_natural-requires-2 : goal.put_natural-requires-2
 put_natural-requires-2 c =
     let bz : Back c.args.z = fit_back c.ranges.z in
     let text_above : decimal c.args.z ≡ natural c.magnitude-n.result =
-        decimal_above c.args.z (lt_false (simp bz at c.if-z-lt0.false))
-        ∙ ap natural (sym (simp bz at c.magnitude-n.ensures)) in
+    decimal_above c.args.z (lt_false (simp bz at c.if-z-lt0.false))
+    ∙ ap natural (sym (simp bz at c.magnitude-n.ensures)) in
     omega (arith, c.requires, ap length text_above, decimal_i64 c.args.z c.ranges.z)
 
 pub returns : goal.returns
 returns c =
     let bz : Back c.args.z = fit_back c.ranges.z in
     let text_above : decimal c.args.z ≡ natural c.magnitude-n.result =
-        decimal_above c.args.z (lt_false (simp bz at c.if-z-lt0.false))
-        ∙ ap natural (sym (simp bz at c.magnitude-n.ensures)) in
+    decimal_above c.args.z (lt_false (simp bz at c.if-z-lt0.false))
+    ∙ ap natural (sym (simp bz at c.magnitude-n.ensures)) in
     rw text_above
     (within (both (put_one _ c.args.at 32) c.put_natural-2.ensures)
     (omega (arith, decimal_i64 c.args.z c.ranges.z, ap length text_above)))

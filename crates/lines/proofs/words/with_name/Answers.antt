@@ -1,4 +1,4 @@
-use Prim.Native.Nat.{◌<◌, ◌-◌}
+use Prim.Native.Nat.{◌<◌}
 use lib.ListN.{length}
 use Rattle.lines.proofs.Making.{copy_none, copy_more, longer}
 use Rattle.lines.proofs.Names.{passed_none, passed_more, passed_space, passed_end, says_more}

@@ -1,5 +1,4 @@
 use mathlib.Core.Path.{refl, sym, ◌∙◌}
-use Prim.Native.Nat.{◌-◌}
 use native.Mathlib.Omega.{arith}
 use Rattle.names.proofs.NameLaws.{left_on, left_done}
 use Rattle.names.proofs.padding.padded_tail.Goals as goal

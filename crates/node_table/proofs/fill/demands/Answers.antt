@@ -1,5 +1,4 @@
 use mathlib.Core.Path.{ap}
-use Prim.Native.Nat.{◌-◌}
 use native.Mathlib.Omega.{arith}
 use Rattle.meaning.proofs.Columns.{filling_none, filling_on, filling_more, filling_done}
 use Rattle.meaning.specs.Columns.{kilowatts}

@@ -1,9 +1,7 @@
 use mathlib.Core.Path.{◌∙◌}
-use Prim.Native.Nat.{◌-◌}
 use native.Mathlib.Omega.{arith}
 use Rattle.meaning.proofs.Columns.{filling_none, filling_on, filling_more, filling_done}
 use Rattle.integers.proofs.Machine.{back}
-use Rattle.meaning.specs.File.{row_at}
 use Rattle.output.proofs.runs.run_at.Goals as goal
 
 pub loop-i-init : goal.loop-i-init

@@ -8,7 +8,7 @@ use mir.Val.{SFits, to_z, of_z}
 use Rattle.integers.specs.Numbers.{floor_div}
 use Rattle.integers.proofs.Core.{Z}
 use Rattle.integers.proofs.Laws.{sfits_abs}
-use Rattle.integers.proofs.Machine.{Back, fit_back, back, of_nat}
+use Rattle.integers.proofs.Machine.{Back, fit_back, of_nat}
 use Rattle.meaning.specs.Charging.{residual_of, remainder_of}
 use Rattle.rests.specs.declared.Rest.{Rest}
 use Rattle.rests.specs.Rests.{rest_over}

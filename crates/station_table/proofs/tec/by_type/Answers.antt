@@ -1,4 +1,3 @@
-use Prim.Native.Nat.{◌-◌}
 use native.Mathlib.Omega.{arith}
 use Rattle.station_table.proofs.TecLaws.{cells_none, cells_more, cells_past, cells_fit, cells_done}
 use Rattle.station_table.proofs.tec.by_type.Goals as goal

@@ -1,10 +1,8 @@
 use mathlib.Core.Path.{◌≡◌, sym, ◌∙◌}
-use Prim.Native.Nat.{◌-◌}
 use native.Mathlib.Omega.{arith}
 use lib.IntN.{pos}
 use Rattle.integers.proofs.Machine.{back}
 use Rattle.meaning.proofs.Columns.{column_none, column_turn}
-use Rattle.supply.specs.Supply.{net_supply}
 use Rattle.supply.proofs.nodes.supplies.Goals as goal
 
 pub loop-v-init : goal.loop-v-init

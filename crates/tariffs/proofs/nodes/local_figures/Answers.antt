@@ -1,11 +1,9 @@
 use mathlib.Core.Path.{◌≡◌, refl, sym, ◌∙◌, ap}
-use Prim.Native.Nat.{ℕ, ◌-◌}
 use native.Mathlib.Omega.{arith}
 use lib.ListN.{replicate}
 use Rattle.integers.proofs.Machine.{back}
 use Rattle.meaning.specs.declared.LocalFigures.{LocalFigures}
 use Rattle.meaning.specs.Columns.{no_local}
-use Rattle.meaning.specs.Charging.{tariff}
 use Rattle.meaning.specs.Proposal.{potential}
 use Rattle.meaning.proofs.Columns.{column_none, column_turn}
 use Rattle.rests.proofs.Laws.{less_none, less_turn}
@@ -61,8 +59,7 @@ loop-v-preserved c =
     let a = c.args in
     let v = c.loop-v.v in
     let made : c.node_line-line.result ≡ line a.tec a.local.now a.constant a.factor v = simp (back (potential a.local.now v) c.node_line-arg-in-loop-v-1.given) at c.node_line-line.ensures in
-    let priced : c.node_line-line.result.tariff.0 ≡ charge a.local.now a.constant a.factor v = ap (λ (l : LocalFigures). l.tariff.0) made in
-    (
+    let priced : c.node_line-line.result.tariff.0 ≡ charge a.local.now a.constant a.factor v = ap (λ (l : LocalFigures). l.tariff.0) made in (
       omega arith,
       column_turn no_local 256 _ v (omega (arith, c.requires.few)) c.loop-v.invariant.1 made,
       less_turn _ _ _ _ v c.loop-v.invariant.2 priced c.less-left.ensures,

@@ -1,5 +1,4 @@
 use mathlib.Core.Path.{◌≡◌, sym, ◌∙◌, ap}
-use Prim.Native.Nat.{◌-◌}
 use native.Mathlib.Omega.{arith}
 use Rattle.tariffs.specs.declared.over.Over.{Over}
 use Rattle.tariffs.specs.Sides.{sums_in, with_zone}

@@ -1,5 +1,4 @@
 use mathlib.Core.Path.{◌≡◌, refl, sym, ◌∙◌, ap}
-use Prim.Native.Nat.{◌-◌}
 use native.Mathlib.Omega.{arith}
 use lib.ListN.{replicate}
 use Rattle.meaning.specs.declared.SharedFigures.{SharedFigures}
@@ -52,8 +51,7 @@ pub loop-k-preserved : goal.loop-k-preserved
 unfolding shared_from
 loop-k-preserved c =
     -- a turn's tariff
-    let priced : (let a = c.args in c.shared_line-line.result.tariff.0 ≡ price a.terms a.parts c.loop-k.k) = ap (λ (w : SharedFigures). w.tariff.0) c.shared_line-line.ensures in
-    (
+    let priced : (let a = c.args in c.shared_line-line.result.tariff.0 ≡ price a.terms a.parts c.loop-k.k) = ap (λ (w : SharedFigures). w.tariff.0) c.shared_line-line.ensures in (
       omega arith,
       column_turn no_shared 32 _ c.loop-k.k (omega arith) c.loop-k.invariant.1 c.shared_line-line.ensures,
       less_turn _ _ _ _ c.loop-k.k c.loop-k.invariant.2 priced c.less-left.ensures,

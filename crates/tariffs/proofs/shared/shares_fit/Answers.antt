@@ -1,5 +1,5 @@
 use mathlib.Core.Path.{sym}
-use Prim.Native.Nat.{◌≤◌, ◌-◌}
+use Prim.Native.Nat.{◌≤◌}
 use native.Mathlib.Omega.{arith}
 use Rattle.tariffs.proofs.Laws.{shared_few, more_fit, shares_say, shares_fail}
 use Rattle.tariffs.proofs.shared.shares_fit.Goals as goal

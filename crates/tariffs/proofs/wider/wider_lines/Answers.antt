@@ -1,5 +1,4 @@
 use mathlib.Core.Path.{◌≡◌, refl, sym, ◌∙◌, ap}
-use Prim.Native.Nat.{◌-◌}
 use native.Mathlib.Omega.{arith}
 use lib.ListN.{replicate}
 use Rattle.meaning.specs.declared.WiderFigures.{WiderFigures}
@@ -53,8 +52,7 @@ unfolding wider_from
 loop-k-preserved c =
     -- a turn's tariff
     let priced : (let a = c.args in c.wider_line-line.result.tariff.0 ≡ price a.terms a.metres c.loop-k.k) = ap (λ (w : WiderFigures). w.tariff.0) c.wider_line-line.ensures
- in
-    (
+    in (
       omega arith,
       column_turn no_wider 32 _ c.loop-k.k (omega arith) c.loop-k.invariant.1 c.wider_line-line.ensures,
       less_turn _ _ _ _ c.loop-k.k c.loop-k.invariant.2 priced c.less-left.ensures,

@@ -1,5 +1,4 @@
 use mathlib.Core.Path.{◌≡◌}
-use Prim.Native.Nat.{◌-◌}
 use native.Mathlib.Omega.{arith}
 use Rattle.lines.proofs.Making.{kept, copy_none, copy_more}
 use Rattle.text.proofs.put.put_line.Goals as goal

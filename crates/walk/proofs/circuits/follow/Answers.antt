@@ -1,5 +1,4 @@
 use mathlib.Core.List.{[]}
-use Prim.Native.Nat.{◌-◌}
 use native.Mathlib.Omega.{arith}
 use Rattle.meaning.specs.Columns.{network_in}
 use Rattle.walk.proofs.Following.{following_begins, following_on, following_ends}

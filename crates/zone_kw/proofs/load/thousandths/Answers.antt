@@ -1,5 +1,4 @@
 use mathlib.Core.Path.{◌≡◌}
-use Prim.Native.Nat.{◌-◌}
 use native.Mathlib.Omega.{arith}
 use Rattle.zone_kw.proofs.ZoneLaws.{zone_low}
 use Rattle.zone_kw.proofs.LoadLaws.{loaded_none, loaded_fit, loaded_more}
