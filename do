@@ -8,17 +8,18 @@ repository=$PWD
 # The lines below that carry a comment, as a list.
 words() { sed -n -e 's/^\([a-z]*\)).*# \([A-Z][][A-Z ]*: .*\)$/.\/do \1 \2/p;t' -e 's/^\([a-z]*\)).*# \(.*\)$/.\/do \1: \2/p' ./do; }
 
-# Proves and builds the program; what that says is shown only where it fails.
+# Proves and builds the program, and runs it once on no input; what that says is shown only where it fails.
+program=$repository/crates/tariff/out/tariff
 build_program() {
-    [ -e target/bin/tariff ] || echo "proving and building the program; the first time takes some minutes" >&2
+    [ -e "$program" ] || echo "proving and building the program; the first time takes some minutes" >&2
     mkdir -p target
-    rt check tariff >target/tariff.log 2>&1 || { cat target/tariff.log >&2 && exit 2; }
+    (cd crates/tariff && rt run) </dev/null >target/tariff.log 2>&1 || { cat target/tariff.log >&2 && exit 2; }
 }
 
-# The program has no exit status. This has: 0 for a sheet, 1 for a refusal, 2 where something was not read or written. It runs in a folder, whose share.bin counts.
+# The program always ends with status 0. This has: 0 for a sheet, 1 for a refusal, 2 where something was not read or written. It runs in a folder, whose share.bin counts.
 print_sheet() { # FILE FOLDER
     said=$made/said faults=$made/faults
-    (cd "$2" && "$repository/clients/x86" run "$repository/target/bin/tariff") <"$1" >"$said" 2>"$faults" || echo "do: the program ended with status $?" >>"$faults"
+    (cd "$2" && "$repository/clients/x86" run "$program") <"$1" >"$said" 2>"$faults" || echo "do: the program ended with status $?" >>"$faults"
     cat "$faults" >&2
     cat "$said" || exit 2
     [ ! -s "$faults" ] || exit 2
