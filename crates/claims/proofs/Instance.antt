@@ -1,4 +1,4 @@
--- The demands are not empty: KILN, KILN with its stations divided and listed differently and with another proposal, with an interconnector, with other plant types, and as a file of version 2.
+-- Cases that show that the demands are not empty, and that InstanceHolds has theorems of.
 use mathlib.Core.Path.{◌≡◌, refl, sym, ◌∙◌, ap, fun_ext}
 use mathlib.Core.Logic.{inl}
 use mathlib.Core.List.{List, [], ◌∷◌}
@@ -33,216 +33,45 @@ use Rattle.meaning.proofs.Rows.{rows_at}
 use Rattle.meaning.proofs.Whole.{judge_file}
 use Rattle.meaning.proofs.Tables.{judge_rows}
 use Rattle.meaning.proofs.Judged.{judged_pass}
-use Rattle.claims.proofs.Stations.{rearranged}
-use Rattle.claims.proofs.Theorems.{accepted_exactly_when, refused_exactly_when, one_answer, revenue_recovered, centre_balances, solvers_agree, stations_hidden, no_interconnector_no_change, types_hidden, one_sheet_in_either_version, new_voltages_in_version_two}
-
--- ---- KILN is acceptable, and settled in either way
-kiln_acceptable : Acceptable kiln kiln_runs []
-kiln_acceptable = (judged_pass kiln kiln_runs []).0 kiln_judged
-
-kiln_sheet_lem : sheet_of kiln kiln_runs [] ≡ kiln_sheet
-unfolding opened
-kiln_sheet_lem = refl
-
-kiln_written : IsWritten kiln kiln_runs [] (replicate 117 7)
-kiln_written = (accepted_exactly_when kiln kiln_runs [] (replicate 117 7)).accepted.1 (kiln_acceptable, rw kiln_sheet_lem (omega arith))
-
-kiln_short : IsRefused kiln kiln_runs [] (replicate 116 7)
-kiln_short = (accepted_exactly_when kiln kiln_runs [] (replicate 116 7)).otherwise (λ t. too_long (rw kiln_sheet_lem at t.1))
-  where
-    too_long : 117 ≤ 116 → ⊥
-    too_long h = omega arith
-
-kiln_recovered : Recovered (grid_of (study_of kiln)) [] kiln_sheet
-kiln_recovered = rw kiln_sheet_lem at (revenue_recovered kiln kiln_runs [] kiln_acceptable)
 
 -- ---- five stations, listed differently, with the capacity of KILN's two; NODA 10 mm of base and 4 cm of wider potential higher
-abbrev divided : List Station
+abbrev pub divided : List Station
 divided =
     station_of "B_1" "NODB" 60000 ∷ station_of "A_1" "NODA" 150000 ∷ station_of "A_2" "NODA" 50000 ∷ station_of "B_2" "NODB" 40000
     ∷ station_of "A_3" "NODA" 0
     ∷ []
 
-abbrev other_runs : Runs
+abbrev pub other_runs : Runs
 other_runs = three_runs (set kiln_base 0 (pos 11000010000000)) (set kiln_wider 0 (pos 32000040000000)) kiln_local
 
-abbrev divided_with : Runs → List ℕ
+abbrev pub divided_with : Runs → List ℕ
 divided_with runs = file_of (record { settings = kiln_settings; nodes = kiln_nodes; circuits = kiln_circuits; stations = divided }) runs
 
-abbrev other : List ℕ
+abbrev pub other : List ℕ
 other = divided_with other_runs
 
-other_judged : judged other other_runs [] ≡ Passes
-unfolding opened
-other_judged = refl
-
-other_acceptable : Acceptable other other_runs []
-other_acceptable = (judged_pass other other_runs []).0 other_judged
-
--- equal tables of capacity say equal capacities
-pub capacity_at_lem : (S S' : Study) (n : ℕ)
-    → rows n (λ v. rows 7 (λ t. capacity_of S v (suc t))) ≡ rows n (λ v. rows 7 (λ t. capacity_of S' v (suc t)))
-    → (v plant_type : ℕ) → v < n → InRange plant_type 1 7 → capacity_of S v plant_type ≡ capacity_of S' v plant_type
-capacity_at_lem S S' n e v zero h r = absurd (omega (arith, r.least))
-capacity_at_lem S S' n e v (suc t) h r = sym (cell S) ∙ ap (λ (l : List (List ℕ)). get_or (get_or l v []) t 0) e ∙ cell S'
-  where
-    cell : (X : Study) → get_or (get_or (rows n (λ v. rows 7 (λ t. capacity_of X v (suc t)))) v []) t 0 ≡ capacity_of X v (suc t)
-    cell X = ap (λ (l : List ℕ). get_or l t 0) (rows_at [] n _ v h) ∙ rows_at 0 7 _ t (omega (arith, r.most))
-
-same : SameButStations (study_of kiln) (study_of other)
-unfolding opened
-same = record { settings = refl; nodes = refl; circuits = refl; capacity = capacity_at_lem (study_of kiln) (study_of other) 3 refl }
-
-kilns_agree : Agree (study_of kiln) kiln_runs other_runs [] (sheet_of kiln kiln_runs []) (sheet_of other other_runs [])
-kilns_agree = solvers_agree kiln other kiln_runs other_runs [] kiln_acceptable other_acceptable same
-
 -- ---- KILN's proposals with the five stations, divided and listed differently step by step: one sheet
-abbrev twin : List ℕ
+abbrev pub twin : List ℕ
 twin = divided_with kiln_runs
 
-twin_acceptable : Acceptable twin kiln_runs []
-unfolding opened
-twin_acceptable = (judged_pass twin kiln_runs []).0 refl
-
-of_parts : (i j k n : String) (a b c : ℕ) → a ≡ b + c → Parts (station_of i n a) (station_of j n b) (station_of k n c)
-of_parts i j k n a b c e = record { first_node = refl; second_node = refl; first_type = refl; second_type = refl; tec = e }
-
--- GEN_2 is divided, and its first part goes to the front; GEN_1 is divided, its second part again, and the empty part goes to the end
-divided_so : Rearranged kiln_stations divided
-divided_so =
-    then (below (Demands.divided (of_parts "GEN_2" "B_1" "B_2" "NODB" 100000 60000 40000 refl)))
-    (then exchanged
-    (then (below (Demands.divided (of_parts "GEN_1" "A_1" "A_2" "NODA" 200000 150000 50000 refl)))
-    (then (below (below (Demands.divided (of_parts "A_2" "A_2" "A_3" "NODA" 50000 50000 0 refl)))) (below (below (below exchanged))))))
-
-twin_rearranged : StationsRearranged (study_of kiln) (study_of twin)
-unfolding opened
-twin_rearranged = record { settings = refl; nodes = refl; circuits = refl; stations = divided_so }
-
-one_sheet : sheet_of kiln kiln_runs [] ≡ sheet_of twin kiln_runs []
-one_sheet = (solvers_agree kiln twin kiln_runs kiln_runs [] kiln_acceptable twin_acceptable (rearranged twin_rearranged)).sheets refl
-
 -- ---- one milliwatt more on A-B, with KILN's stations and with the divided ones: one answer, in two buffers
-abbrev leaking : Runs
+abbrev pub leaking : Runs
 leaking = three_runs (set kiln_base 3 (pos 45000000001)) kiln_wider kiln_local
 
-passes_five : PassesToFive kiln leaking
-unfolding opened
-passes_five = (((judge_file kiln leaking).passes.0 refl).0, (judge_rows (study_of kiln)).passes.0 refl)
-
-divided_passes : PassesToFive other leaking
-unfolding opened
-divided_passes = (((judge_file other leaking).passes.0 refl).0, (judge_rows (study_of other)).passes.0 refl)
-
-kiln_leaks : (settle kiln leaking [] (replicate 5 7)).answer ≡ Refused (Unbalanced (Base YearRound) 1)
-unfolding opened
-kiln_leaks = refl
-
-hidden : (settle other leaking [] (replicate 5 1)).answer ≡ Refused (Unbalanced (Base YearRound) 1)
-hidden = sym (stations_hidden kiln other leaking [] (replicate 5 7) (replicate 5 1) passes_five divided_passes same refl) ∙ kiln_leaks
-
--- so 01's order stops it there, at balance and not at a number, a miss or a direction; and a short buffer at 12
-leak_stopped : Stopped kiln leaking [] (replicate 5 7) (Unbalanced (Base YearRound) 1)
-leak_stopped = (refused_exactly_when kiln leaking [] (replicate 5 7) (Unbalanced (Base YearRound) 1)).exactly.0 kiln_leaks
-
-not_missed : Stopped kiln leaking [] (replicate 5 7) (MissesTooHigh (Base YearRound)) → ⊥
-unfolding values refusal
-not_missed f = unbalanced≢missed ((one_answer kiln leaking [] (replicate 5 7)).only_one (Unbalanced (Base YearRound) 1) (MissesTooHigh (Base YearRound)) leak_stopped f)
-  where
-    unbalanced≢missed : Unbalanced (Base YearRound) 1 ≡ MissesTooHigh (Base YearRound) → ⊥
-    unbalanced≢missed e = numbers (ap {B = ℕ} (λ (r : Refusal). (values (Refused r)).number) e)
-      where
-        numbers : ◌≡◌ {A = ℕ} (values (Refused (Unbalanced (Base YearRound) 1))).number (values (Refused (MissesTooHigh (Base YearRound)))).number → ⊥
-        numbers h = omega arith
-
--- ---- 02, request 1: KILN has no interconnector, and is charged as 01 says; with one, the revenue is recovered from those that pay
-kiln_without : (v : ℕ) → v < 3 → capacity_of (study_of kiln) v 3 ≡ 0
-unfolding opened
-kiln_without zero h = refl
-kiln_without (suc zero) h = refl
-kiln_without (suc (suc zero)) h = refl
-kiln_without (suc (suc (suc v))) h = absurd (omega arith)
-
-kiln_as_in_01 : AsIn01 (study_of kiln) kiln_runs
-unfolding opened
-kiln_as_in_01 = no_interconnector_no_change (study_of kiln) kiln_runs refl kiln_without
-
-half_acceptable : Acceptable half kiln_runs []
-unfolding opened
-half_acceptable = (judged_pass half kiln_runs []).0 refl
-
-half_recovered : Recovered (grid_of (study_of half)) [] (sheet_of half kiln_runs [])
-half_recovered = revenue_recovered half kiln_runs [] half_acceptable
-
-half_balances : Balances (grid_of (study_of half)) kiln_runs YearRound
-half_balances = centre_balances half kiln_runs [] half_acceptable YearRound tt
-
 -- and KILN with a nuclear and a hydro station in place of two others: one sheet
-abbrev typed : String → String → (plant_type tec : ℕ) → Station
+abbrev pub typed : String → String → (plant_type tec : ℕ) → Station
 typed i n t kw = record { identifier = name i; node = name n; plant_type = t; tec = kw }
 
-abbrev retyped : List ℕ
+abbrev pub retyped : List ℕ
 retyped =
     file_of (record { settings = kiln_settings; nodes = kiln_nodes; circuits = kiln_circuits; stations = typed "GEN_1" "NODA" 2 200000 ∷ typed "GEN_2" "NODB" 4 100000 ∷ [] })
     kiln_runs
 
-retyped_totals : SameTotals (study_of kiln) (study_of retyped)
-unfolding opened
-retyped_totals = record { edition = refl; settings = refl; nodes = refl; circuits = refl; tec = tec; interconnectors = none }
-  where
-    tec : (v : ℕ) → v < 3 → node_tec (grid_of (study_of kiln)) v ≡ node_tec (grid_of (study_of retyped)) v
-    tec zero h = refl
-    tec (suc zero) h = refl
-    tec (suc (suc zero)) h = refl
-    tec (suc (suc (suc v))) h = absurd (omega arith)
-
-    none : (v : ℕ) → v < 3 → capacity_of (study_of kiln) v 3 ≡ capacity_of (study_of retyped) v 3
-    none zero h = refl
-    none (suc zero) h = refl
-    none (suc (suc zero)) h = refl
-    none (suc (suc (suc v))) h = absurd (omega arith)
-
-retyped_sheet : sheet_of kiln kiln_runs [] ≡ sheet_of retyped kiln_runs []
-retyped_sheet = (types_hidden kiln retyped kiln_runs retyped_totals).sheets []
-
 -- ---- KILN as a version 2 file says what KILN says, and is settled as KILN is; a case with a link at 320 is accepted, in version 2
-abbrev kiln_two : List ℕ
+abbrev pub kiln_two : List ℕ
 kiln_two = file_in 2 kiln_study kiln_runs
 
-two_judged : judged kiln_two kiln_runs [] ≡ Passes
-unfolding opened
-two_judged = refl
-
--- of each system
-by_each : (P : System → Type 0) → P (Base YearRound) → P (Wider YearRound) → P Local → P (Base Peak) → P (Wider Peak) → (s : System) → P s
-by_each P b w l pb pw (Base YearRound) = b
-by_each P b w l pb pw (Wider YearRound) = w
-by_each P b w l pb pw Local = l
-by_each P b w l pb pw (Base Peak) = pb
-by_each P b w l pb pw (Wider Peak) = pw
-
-own_runs : (runs_in kiln ≡ kiln_runs) × (runs_in kiln_two ≡ kiln_runs)
-unfolding opened
-own_runs = (fun_ext (by_each _ refl refl refl refl refl), fun_ext (by_each _ refl refl refl refl refl))
-
-say_the_same : SayTheSame kiln kiln_two
-unfolding opened
-say_the_same = record {
-  whole = rw own_runs.0 kiln_acceptable.whole;
-  other_whole = rw own_runs.1 ((judged_pass kiln_two kiln_runs []).0 two_judged).whole;
-  settings = refl;
-  nodes = refl;
-  circuits = refl;
-  stations = refl;
-}
-
-two_versions : (version_of kiln ≡ 1) × (version_of kiln_two ≡ 2) × (settle kiln kiln_runs [] (replicate 200 7) ≡ settle kiln_two kiln_runs [] (replicate 200 7)) × (prints kiln [] ≡ prints kiln_two [])
-unfolding version_of u32
-two_versions =
-    let one = one_sheet_in_either_version kiln kiln_two say_the_same in
-    (refl, refl, one.settled kiln_runs [] (replicate 200 7), one.printed (own_runs.0 ∙ sym own_runs.1) [])
-
-abbrev subsea : List ℕ
+abbrev pub subsea : List ℕ
 subsea =
     file_in 2
     (record {
@@ -254,11 +83,3 @@ subsea =
       stations = kiln_stations;
     })
     kiln_runs
-
-subsea_judged : judged subsea kiln_runs [] ≡ Passes
-unfolding opened
-subsea_judged = refl
-
-subsea_version : version_of subsea ≡ 2
-unfolding opened
-subsea_version = new_voltages_in_version_two subsea kiln_runs [] ((judged_pass subsea kiln_runs []).0 subsea_judged) 2 (omega arith) (inl refl)

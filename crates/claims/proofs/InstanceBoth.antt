@@ -1,4 +1,4 @@
--- Nothing of it is vacuous in edition 2: its case is acceptable, brings in its revenue, and agrees with another solver's proposals for stations divided and listed differently.
+-- A second case of edition 2, that InstanceBothHolds has theorems of.
 use mathlib.Core.Path.{◌≡◌, refl}
 use mathlib.Core.List.{List, [], ◌∷◌}
 use Prim.Native.Nat.{ℕ, zero, suc, ◌≤◌, ◌<◌}
@@ -22,74 +22,19 @@ use Rattle.meaning.proofs.Write.{file_in}
 use Rattle.meaning.proofs.Both.{both, both_runs, both_base, both_wider, both_local, both_peak_base, both_peak_wider, both_settings, both_nodes, both_circuits, both_sheet, plant}
 use Rattle.meaning.proofs.Opened.{opened}
 use Rattle.meaning.proofs.Judged.{judged_pass}
-use Rattle.claims.proofs.Instance.{capacity_at_lem}
-use Rattle.claims.proofs.Theorems.{accepted_exactly_when, revenue_recovered, centre_balances, solvers_agree}
-
-both_acceptable : Acceptable both both_runs []
-unfolding opened
-both_acceptable = (judged_pass both both_runs []).0 refl
-
-both_sheet_lem : sheet_of both both_runs [] ≡ both_sheet
-unfolding opened
-both_sheet_lem = refl
-
-both_written : IsWritten both both_runs [] (replicate 300 7)
-both_written = (accepted_exactly_when both both_runs [] (replicate 300 7)).accepted.1 (both_acceptable, rw both_sheet_lem (omega arith))
-
-both_recovered : Recovered (grid_of (study_of both)) [] both_sheet
-both_recovered = rw both_sheet_lem at (revenue_recovered both both_runs [] both_acceptable)
-
--- the edition has both backgrounds
-has_both : (b : Background) → Of b (study_of both).settings.edition
-unfolding opened
-has_both YearRound = tt
-has_both Peak = tt
-
-both_balances : (b : Background) → Balances (grid_of (study_of both)) both_runs b
-both_balances b = centre_balances both both_runs [] both_acceptable b (has_both b)
 
 -- ---- wind in two parts, neither of them 70 % of whole kilowatts, and all listed differently; NODA's potentials 1 cm higher in each base, 3 cm in each wider system
-abbrev divided : List Station
+abbrev pub divided : List Station
 divided =
     plant "OIL" "NODC" 6 15000 ∷ plant "WIND_1" "NODA" 1 33333 ∷ plant "GAS" "NODA" 7 150000 ∷ plant "LINK" "NODB" 3 10000 ∷ plant "WIND_2" "NODA" 1 66667
     ∷ plant "PUMPED" "NODB" 5 20000
     ∷ plant "NUCLEAR" "NODB" 2 60000
     ∷ []
 
-abbrev other_runs : Runs
+abbrev pub other_runs : Runs
 other_runs =
     runs_of (set both_base 0 (pos 5970010000000)) (set both_wider 0 (pos 6000030000000)) both_local (set both_peak_base 0 (pos 6079630000000))
     (set both_peak_wider 0 (pos 13200030000000))
 
-abbrev other : List ℕ
+abbrev pub other : List ℕ
 other = file_in 2 (record { settings = both_settings; nodes = both_nodes; circuits = both_circuits; stations = divided }) other_runs
-
-other_acceptable : Acceptable other other_runs []
-unfolding opened
-other_acceptable = (judged_pass other other_runs []).0 refl
-
-same : SameButStations (study_of both) (study_of other)
-unfolding opened
-same = record { settings = refl; nodes = refl; circuits = refl; capacity = capacity_at_lem (study_of both) (study_of other) 3 refl }
-
-both_agree : Agree (study_of both) both_runs other_runs [] (sheet_of both both_runs []) (sheet_of other other_runs [])
-both_agree = solvers_agree both other both_runs other_runs [] both_acceptable other_acceptable same
-
--- line 2 of both, `G 2`, is of a zone whose TEC is all at NODB: it shows that node's distance in each background
-three : (P : ℕ → Type 0) → P 0 → P 1 → P 2 → (v : ℕ) → v < 3 → P v
-three P p q r zero h = p
-three P p q r (suc zero) h = q
-three P p q r (suc (suc zero)) h = r
-three P p q r (suc (suc (suc v))) h = absurd (omega arith)
-
-at_b : OfNode (grid_of (study_of both)) Generation 1 (line_at 2 (sheet_of both both_runs []))
-unfolding opened
-at_b = record { zonal = refl; some = omega arith; others = three _ (λ d. refl) (λ d. absurd (d refl)) (λ d. refl) }
-
-at_b_other : OfNode (grid_of (study_of both)) Generation 1 (line_at 2 (sheet_of other other_runs []))
-unfolding opened
-at_b_other = record { zonal = refl; some = omega arith; others = three _ (λ d. refl) (λ d. absurd (d refl)) (λ d. refl) }
-
-zone_lines_near : (b : Background) → apart (shown_in TwoBackgrounds b (line_at 2 (sheet_of both both_runs []))) (shown_in TwoBackgrounds b (line_at 2 (sheet_of other other_runs []))) ≤ 1
-unfolding opened
-zone_lines_near b = both_agree.distances.zone_lines b (has_both b) Generation 1 2 2 (omega arith) at_b at_b_other

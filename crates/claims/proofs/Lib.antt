@@ -35,6 +35,8 @@ pub mod Shares
 pub mod Told
 -- nothing of it is vacuous
 pub mod Instance
+pub mod InstanceHolds
 pub mod InstanceBoth
+pub mod InstanceBothHolds
 pub mod Tarn
 pub mod Halves

@@ -11,3 +11,5 @@ pub mod Subsea
 -- edition 2: damaged forms of its case, and a case with every fault mended one after the other
 pub mod Backgrounds
 pub mod MendedBoth
+-- definitions that are hard to see, each computed at an example
+pub mod HardToSee

@@ -207,7 +207,7 @@ module _ (s : Settings) (z : Backgrounds) (payers load : Kw) (n : ℕ) (tec payi
     generation_left = rw (el, eg) (all_hold n 96 (holds_fewer (n + 96) (omega (arith, f.few)) (start Generation 352 (omega arith))) local_charges)
 
     pub lines_are : nodal.lines ≡ column no_local 256 n (λ v. node_from (kw_at tec v) (potential local v) s.constant s.local_factor)
-    unfolding local_of
+    unfolding local_of node_from
     lines_are = rw el refl
 
   less_nothing : (x : ℤ) → x ≡ x -ℤ pos 0

@@ -58,7 +58,13 @@ node_from tec u constant factor = record { tec = kilowatts tec; metres = distanc
 unfoldable pub local_of : (n : ℕ) → (tec paying : List Kw) → (local : List ℤ) → (constant factor : ℕ) → Rest → (payers : ℕ) → Local
 local_of n tec paying local constant factor rest payers =
     record {
-      lines = column no_local 256 n (λ v. node_from (kw_at tec v) (potential local v) constant factor);
+      lines =
+          column no_local 256 n
+          (λ v. record {
+            tec = kilowatts (kw_at tec v);
+            metres = distance (local_from (potential local v));
+            tariff = price (tariff (local_from (potential local v)) constant factor);
+          });
       rest = less_to rest payers (λ v. tariff (local_from (potential local v)) constant factor) (kw_at paying) n;
     }
 

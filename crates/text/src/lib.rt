@@ -27,11 +27,14 @@ pub fn write_figures(figures: Figures, file: &[u8], rows: Section, out: &mut [u8
     0
 }
 
+// A buffer of so many bytes holds the line of any refusal.
+const REFUSAL_ROOM: usize = 96;
+
 // Writes the line of a refusal at the front of a buffer of at least 96 bytes, which holds any; a shorter one is left as it is, and the length is then 0.
 pub fn refuse(cause: Refusal, out: &mut [u8]) -> usize
     ensures { Refuses cause out.old out.new result }
 {
-    if out.len() < 96 {
+    if out.len() < REFUSAL_ROOM {
         return 0;
     }
     let carried = answers::of_refusal(cause);

@@ -6,8 +6,8 @@ use Rattle.lines.proofs.Making.{ready, copied}
 use Rattle.text.proofs.Sizing.{written}
 use Rattle.text.proofs.refuse.Goals as goal
 
-pub returns-then-out-lt96 : goal.returns-then-out-lt96
-returns-then-out-lt96 c = record { long = λ h. absurd (omega (arith, h, c.if-out-lt96.true)); short = λ h. (refl, refl) }
+pub returns-then-out-lt-REFUSAL_ROOM : goal.returns-then-out-lt-REFUSAL_ROOM
+returns-then-out-lt-REFUSAL_ROOM c = record { long = λ h. absurd (omega (arith, h, c.if-out-lt-REFUSAL_ROOM.true)); short = λ h. (refl, refl) }
 
 pub put_line-requires : goal.put_line-requires
 put_line-requires c = ready c.refused_line.result c.refused_line.ensures (omega arith) 0 (omega arith)
@@ -16,4 +16,4 @@ pub returns : goal.returns
 unfolding refused_line
 returns c =
     let line = copied c.refused_line.result (rw c.of_refusal-carried.ensures at c.refused_line.ensures) (omega arith) c.put_line.ensures in
-    record { long = λ h. written line (omega (arith, h)); short = λ h. absurd (omega (arith, h, c.if-out-lt96.false)) }
+    record { long = λ h. written line (omega (arith, h)); short = λ h. absurd (omega (arith, h, c.if-out-lt-REFUSAL_ROOM.false)) }

@@ -66,7 +66,7 @@ loop-v-preserved c =
     )
 
 pub returns : goal.returns
-unfolding local_of
+unfolding local_of node_from
 returns c =
     let e : c.loop-v.v ≡ c.args.nodes = omega arith in
     rw (c.loop-v.invariant.1, c.loop-v.invariant.2, e) refl
