@@ -39,6 +39,12 @@ readable() { # FILE
     echo "$whole"
 }
 
+# A command in a crate's folder, where most of rt's commands work.
+in_crate() { # NAME COMMAND..
+    [ -d "crates/$1" ] || { echo "do: no such crate: $1" >&2 && exit 2; }
+    (cd "crates/$1" && "${@:2}")
+}
+
 # Words that take nothing behind them.
 alone() { [ $# -eq 0 ] || { echo "do: nothing goes behind $word: $*" >&2 && exit 2; }; }
 
@@ -69,14 +75,23 @@ case)                                                   # make, show, solve and 
     exec cargo run --offline --quiet --release --manifest-path "$repository/reference/Cargo.toml" --bin case -- "$@"
     ;;
 gate) alone "$@" && exec .ci/run ;;                     # the verdict, from nothing
-check) exec rt check "$@" ;;                            # prove these crates and what they depend on
-dev) exec rt dev "$@" ;;                                # the edit loop on one crate, in seconds
+check)                                                  # NAMES: prove these crates and what they depend on; all of them where none is named
+    [ $# -gt 0 ] || exec rt all check
+    for crate; do in_crate "$crate" rt check; done
+    ;;
+dev)                                                    # NAME FLAGS: the edit loop on one crate, in seconds, with flags of `rt check`, as --only F or --allow-holes
+    [ $# -gt 0 ] || { echo "usage: ./do dev NAME [a flag of rt check ..]" >&2 && exit 2; }
+    in_crate "$1" rt check "${@:2}"
+    ;;
 edits) exec rt must-fail "$@" ;;                        # try the must-fail edits of these crates
 library) alone "$@" && exec clients/run ;;              # the static library; build and run the C and Rust clients
 fuzz) alone "$@" && exec outside/fuzz/run ;;            # coverage-guided fuzzing of the library, FUZZ_SECONDS long
 compare) exec outside/run "$@" ;;                       # library and program against the reference: short, or `compare long`; `--seed N`
 bench) exec bench/run "$@" ;;                           # time the library beside a Rust twin and a textbook Rust
-fmt) alone "$@" && exec rt fmt ;;                       # lay every file out
+fmt)                                                    # lay every file out
+    alone "$@"
+    for crate in crates/*/; do in_crate "$(basename "$crate")" rt fmt; done
+    ;;
 help) alone "$@" && words ;;                            # this list
 *)
     echo "do: no such word: $word" >&2

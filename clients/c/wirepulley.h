@@ -1,6 +1,7 @@
 /* Wirepulley: one study case for GB transmission charges in, a tariff sheet or a refusal out.
  *
- * Link with target/staticlib/libwirepulley.a, which `./do library` makes (x86-64 Linux). It needs memcpy and memset and nothing else:
+ * Link with target/staticlib/libwirepulley.a, which `./do library` makes (x86-64 Linux, on a processor of x86-64-v2 or later: a library
+ * does not look at where it runs). It needs memcpy and memset and nothing else:
  * no heap, no files, no locks, no state, so any number of threads may call it. A call takes at most WIREPULLEY_STACK bytes of stack;
  * a stack that is too small ends the program by a signal, since frames are taken page by page.
  *
@@ -105,8 +106,9 @@ extern "C" {
 #define WIREPULLEY_LONGEST_SHEET 17258
 
 /* No call takes more bytes of stack than this, whatever it is given: leave a thread that calls the library so much beside its own. Before
- * edition 2 it was 160,000: a client that is linked anew has to be compiled anew, if it goes by this number. */
-#define WIREPULLEY_STACK 256000
+ * edition 2 it was 160,000, and 256,000 with the older kit: a client that is linked anew has to be compiled anew, if it goes by this
+ * number. */
+#define WIREPULLEY_STACK 400000
 
 /* How many numbers an answer has. */
 #define WIREPULLEY_ANSWER 4

@@ -10,7 +10,7 @@ fn main() {
     let here = PathBuf::from(env::var_os("CARGO_MANIFEST_DIR").expect("cargo names the crate's folder"));
     let named = env::var_os("WIREPULLEY_LIB_DIR").map(PathBuf::from);
     let target = env::var("TARGET").unwrap_or_default();
-    // What `rt staticlib` writes is for x86-64; a folder that is named may hold another build.
+    // What `tools/build library` writes is for x86-64; a folder that is named may hold another build.
     if named.is_none() && !(target.starts_with("x86_64-") && target.contains("linux")) {
         fail(&format!("the library is for x86-64 Linux, and this build is for {target}: give cargo --target x86_64-unknown-linux-gnu, or set WIREPULLEY_LIB_DIR to a folder with a build for this one"));
     }
@@ -19,7 +19,7 @@ fn main() {
     println!("cargo:rerun-if-changed={}", library.display());
     if !library.is_file() {
         fail(&format!(
-            "{} is not there: make it by `rt staticlib wirepulley`, or set WIREPULLEY_LIB_DIR",
+            "{} is not there: make it by `tools/build library`, or set WIREPULLEY_LIB_DIR",
             library.display()
         ));
     }
