@@ -1,38 +1,12 @@
 -- Cases that show that the demands are not empty, and that InstanceHolds has theorems of.
-use mathlib.Core.Path.{◌≡◌, refl, sym, ◌∙◌, ap, fun_ext}
-use mathlib.Core.Logic.{inl}
 use mathlib.Core.List.{List, [], ◌∷◌}
-use Prim.Native.Nat.{ℕ, zero, suc, ◌+◌, ◌≤◌, ◌<◌}
+use Prim.Native.Nat.{ℕ}
 use Prim.Native.String.{String}
-use native.Mathlib.Omega.{arith}
 use lib.IntN.{pos}
-use lib.ListN.{get_or, replicate, set}
-use Rattle.meaning.specs.Study.{Station, Study, Runs, three_runs}
-use Rattle.meaning.specs.File.{u32, version_of, study_of, runs_in}
-use Rattle.meaning.specs.Rows.{rows}
-use Rattle.meaning.specs.declared.Background.TheVariants.{YearRound, Peak}
-use Rattle.meaning.specs.declared.System.{System}
-use Rattle.meaning.specs.declared.System.TheVariants.{Base, Wider, Local}
-use Rattle.meaning.specs.declared.Refusal.TheVariants.{Unbalanced, MissesTooHigh}
-use Rattle.meaning.specs.declared.Refusal.{Refusal}
-use Rattle.meaning.specs.Answers.{refusal, values}
-use Rattle.meaning.specs.Refusals.{Stopped}
-use Rattle.meaning.specs.declared.Judgement.TheVariants.{Passes}
-use Rattle.meaning.specs.declared.Answer.TheVariants.{Refused}
-use Rattle.meaning.specs.Grid.{grid_of, capacity_of, node_tec}
-use Rattle.meaning.specs.Outcome.{judged, sheet_of, settle, prints}
-use Rattle.meaning.specs.Conditions.{InRange, Acceptable}
-use Rattle.meaning.specs.Demands
-use Rattle.meaning.specs.Demands.{IsWritten, IsRefused, Recovered, SameButStations, Parts, Rearranged, exchanged, below, then, StationsRearranged, Agree, PassesToFive, AsIn01, Balances, SameTotals}
-use Rattle.meaning.specs.Versions.{SayTheSame}
+use lib.ListN.{set}
+use Rattle.meaning.specs.Study.{Station, Runs, three_runs}
 use Rattle.meaning.proofs.Write.{name, file_of, file_in}
-use Rattle.meaning.proofs.Kiln.{kiln, kiln_runs, kiln_base, kiln_wider, kiln_local, kiln_settings, kiln_nodes, kiln_circuits, kiln_stations, kiln_study, kiln_sheet, kiln_judged, circuit_of, station_of}
-use Rattle.meaning.proofs.Links.{half}
-use Rattle.meaning.proofs.Opened.{opened}
-use Rattle.meaning.proofs.Rows.{rows_at}
-use Rattle.meaning.proofs.Whole.{judge_file}
-use Rattle.meaning.proofs.Tables.{judge_rows}
-use Rattle.meaning.proofs.Judged.{judged_pass}
+use Rattle.meaning.proofs.Kiln.{kiln_runs, kiln_base, kiln_wider, kiln_local, kiln_settings, kiln_nodes, kiln_circuits, kiln_stations, kiln_study, circuit_of, station_of}
 
 -- ---- five stations, listed differently, with the capacity of KILN's two; NODA 10 mm of base and 4 cm of wider potential higher
 abbrev pub divided : List Station

@@ -1,27 +1,11 @@
 -- A second case of edition 2, that InstanceBothHolds has theorems of.
-use mathlib.Core.Path.{◌≡◌, refl}
 use mathlib.Core.List.{List, [], ◌∷◌}
-use Prim.Native.Nat.{ℕ, zero, suc, ◌≤◌, ◌<◌}
-use native.Mathlib.Omega.{arith}
+use Prim.Native.Nat.{ℕ}
 use lib.IntN.{pos}
-use lib.ListN.{replicate, set}
+use lib.ListN.{set}
 use Rattle.meaning.specs.Study.{Station, Runs, runs_of}
-use Rattle.meaning.specs.File.{study_of}
-use Rattle.meaning.specs.declared.Form.TheVariants.{TwoBackgrounds}
-use Rattle.meaning.specs.declared.Background.{Background}
-use Rattle.meaning.specs.declared.Background.TheVariants.{YearRound, Peak}
-use Rattle.meaning.specs.declared.Side.TheVariants.{Generation}
-use Rattle.meaning.specs.Editions.{Of}
-use Rattle.meaning.specs.Grid.{grid_of}
-use Rattle.meaning.specs.Outcome.{sheet_of}
-use Rattle.meaning.specs.Read.{line_at}
-use Rattle.meaning.specs.Conditions.{Acceptable}
-use Rattle.meaning.specs.Distances.{apart, shown_in, OfNode}
-use Rattle.meaning.specs.Demands.{Recovered, SameButStations, Agree, IsWritten, Balances}
 use Rattle.meaning.proofs.Write.{file_in}
-use Rattle.meaning.proofs.Both.{both, both_runs, both_base, both_wider, both_local, both_peak_base, both_peak_wider, both_settings, both_nodes, both_circuits, both_sheet, plant}
-use Rattle.meaning.proofs.Opened.{opened}
-use Rattle.meaning.proofs.Judged.{judged_pass}
+use Rattle.meaning.proofs.Both.{both_base, both_wider, both_local, both_peak_base, both_peak_wider, both_settings, both_nodes, both_circuits, plant}
 
 -- ---- wind in two parts, neither of them 70 % of whole kilowatts, and all listed differently; NODA's potentials 1 cm higher in each base, 3 cm in each wider system
 abbrev pub divided : List Station

@@ -1,11 +1,9 @@
 -- Nothing of it is vacuous in edition 2: its case is acceptable, brings in its revenue, and agrees with another solver's proposals for stations divided and listed differently.
 use mathlib.Core.Path.{◌≡◌, refl}
-use mathlib.Core.List.{List, [], ◌∷◌}
+use mathlib.Core.List.{[]}
 use Prim.Native.Nat.{ℕ, zero, suc, ◌≤◌, ◌<◌}
 use native.Mathlib.Omega.{arith}
-use lib.IntN.{pos}
-use lib.ListN.{replicate, set}
-use Rattle.meaning.specs.Study.{Station, Runs, runs_of}
+use lib.ListN.{replicate}
 use Rattle.meaning.specs.File.{study_of}
 use Rattle.meaning.specs.declared.Form.TheVariants.{TwoBackgrounds}
 use Rattle.meaning.specs.declared.Background.{Background}
@@ -18,13 +16,12 @@ use Rattle.meaning.specs.Read.{line_at}
 use Rattle.meaning.specs.Conditions.{Acceptable}
 use Rattle.meaning.specs.Distances.{apart, shown_in, OfNode}
 use Rattle.meaning.specs.Demands.{Recovered, SameButStations, Agree, IsWritten, Balances}
-use Rattle.meaning.proofs.Write.{file_in}
-use Rattle.meaning.proofs.Both.{both, both_runs, both_base, both_wider, both_local, both_peak_base, both_peak_wider, both_settings, both_nodes, both_circuits, both_sheet, plant}
+use Rattle.meaning.proofs.Both.{both, both_runs, both_sheet}
 use Rattle.meaning.proofs.Opened.{opened}
 use Rattle.meaning.proofs.Judged.{judged_pass}
 use Rattle.claims.proofs.InstanceHolds.{capacity_at_lem}
 use Rattle.claims.proofs.Theorems.{accepted_exactly_when, revenue_recovered, centre_balances, solvers_agree}
-use Rattle.claims.proofs.InstanceBoth.{divided, other_runs, other}
+use Rattle.claims.proofs.InstanceBoth.{other_runs, other}
 
 both_acceptable : Acceptable both both_runs []
 unfolding opened

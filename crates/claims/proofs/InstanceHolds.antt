@@ -1,13 +1,12 @@
 -- The demands are not empty: KILN, KILN with its stations divided and listed differently and with another proposal, with an interconnector, with other plant types, and as a file of version 2.
 use mathlib.Core.Path.{◌≡◌, refl, sym, ◌∙◌, ap, fun_ext}
 use mathlib.Core.Logic.{inl}
-use mathlib.Core.List.{List, [], ◌∷◌}
+use mathlib.Core.List.{List, []}
 use Prim.Native.Nat.{ℕ, zero, suc, ◌+◌, ◌≤◌, ◌<◌}
 use Prim.Native.String.{String}
 use native.Mathlib.Omega.{arith}
-use lib.IntN.{pos}
-use lib.ListN.{get_or, replicate, set}
-use Rattle.meaning.specs.Study.{Station, Study, Runs, three_runs}
+use lib.ListN.{get_or, replicate}
+use Rattle.meaning.specs.Study.{Study}
 use Rattle.meaning.specs.File.{u32, version_of, study_of, runs_in}
 use Rattle.meaning.specs.Rows.{rows}
 use Rattle.meaning.specs.declared.Background.TheVariants.{YearRound, Peak}
@@ -25,8 +24,7 @@ use Rattle.meaning.specs.Conditions.{InRange, Acceptable}
 use Rattle.meaning.specs.Demands
 use Rattle.meaning.specs.Demands.{IsWritten, IsRefused, Recovered, SameButStations, Parts, Rearranged, exchanged, below, then, StationsRearranged, Agree, PassesToFive, AsIn01, Balances, SameTotals}
 use Rattle.meaning.specs.Versions.{SayTheSame}
-use Rattle.meaning.proofs.Write.{name, file_of, file_in}
-use Rattle.meaning.proofs.Kiln.{kiln, kiln_runs, kiln_base, kiln_wider, kiln_local, kiln_settings, kiln_nodes, kiln_circuits, kiln_stations, kiln_study, kiln_sheet, kiln_judged, circuit_of, station_of}
+use Rattle.meaning.proofs.Kiln.{kiln, kiln_runs, kiln_stations, kiln_sheet, kiln_judged, station_of}
 use Rattle.meaning.proofs.Links.{half}
 use Rattle.meaning.proofs.Opened.{opened}
 use Rattle.meaning.proofs.Rows.{rows_at}
@@ -35,7 +33,7 @@ use Rattle.meaning.proofs.Tables.{judge_rows}
 use Rattle.meaning.proofs.Judged.{judged_pass}
 use Rattle.claims.proofs.Stations.{rearranged}
 use Rattle.claims.proofs.Theorems.{accepted_exactly_when, refused_exactly_when, one_answer, revenue_recovered, centre_balances, solvers_agree, stations_hidden, no_interconnector_no_change, types_hidden, one_sheet_in_either_version, new_voltages_in_version_two}
-use Rattle.claims.proofs.Instance.{divided, other_runs, divided_with, other, twin, leaking, typed, retyped, kiln_two, subsea}
+use Rattle.claims.proofs.Instance.{divided, other_runs, other, twin, leaking, retyped, kiln_two, subsea}
 
 -- ---- KILN is acceptable, and settled in either way
 kiln_acceptable : Acceptable kiln kiln_runs []

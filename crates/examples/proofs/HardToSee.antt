@@ -1,5 +1,5 @@
 -- Definitions that are hard to see, each computed at an example.
-use Rattle.std.proofs.Common.{◌≡◌, ℕ, ◌+◌, ◌^◌, suc, true, false, refl, List, [], ◌∷◌, ◌++◌, get_or, ℤ, pos, neg_ℤ}
+use Rattle.std.proofs.Common.{◌≡◌, ℕ, ◌^◌, suc, true, false, refl, [], ◌∷◌, ◌++◌, get_or, ℤ, pos, neg_ℤ}
 use lib.ListN.{replicate}
 use mathlib.Core.Option.{some}
 use Rattle.meaning.specs.declared.Counting.TheVariants.{Doubtful}
