@@ -43,11 +43,10 @@ loop-t-smaller c =
 
 pub loop-t-preserved : goal.loop-t-preserved
 loop-t-preserved c =
-    let on : let l = c in (l.args.zones ≤ 32) × (l.loop-t.t + 1 ≤ 7) = let t = factors_on c.args.zones c.loop-t.t c.loop-t-test.true in (t.0, omega (arith, t.1)) in
-    let l = c in
-    let a = l.args in
+    let on : (c.args.zones ≤ 32) × (c.loop-t.t + 1 ≤ 7) = let t = factors_on c.args.zones c.loop-t.t c.loop-t-test.true in (t.0, omega (arith, t.1)) in
+    let a = c.args in
     let t = on in
-    (t.1, column_turn 0 7 _ l.loop-t.t (omega (arith, t.1)) l.loop-t.invariant.1 (c.u32_at.ensures.value ∙ factor_read a.share.now a.zones l.loop-t.t t.0))
+    (t.1, column_turn 0 7 _ c.loop-t.t (omega (arith, t.1)) c.loop-t.invariant.1 (c.u32_at.ensures.value ∙ factor_read a.share.now a.zones c.loop-t.t t.0))
 
 pub returns : goal.returns
 returns c =

@@ -20,10 +20,10 @@ pub returns-then-i-zones : goal.returns-then-i-zones
 returns-then-i-zones c =
     let sound : sound_frame c.args.share.now c.args.zones ≡ true = sym c.sound.ensures ∙ c.if-not-sound.false in
     let found : IsFirst (λ i. not (sound_zone c.args.zones (zone_kw c.args.tec) (next_in (inward_of c.args.share.now c.args.zones)) (suc i))) c.args.zones c.first_unsound-i.result = rw c.inward-next.ensures at c.first_unsound-i.ensures in
-    let a = c.args in stage_zone a.share.now a.zones a.tec (omega arith) (sound) (found) (omega arith)
+    let a = c.args in stage_zone a.share.now a.zones a.tec (omega arith) sound found (omega arith)
 
 pub returns : goal.returns
 returns c =
     let sound : sound_frame c.args.share.now c.args.zones ≡ true = sym c.sound.ensures ∙ c.if-not-sound.false in
     let found : IsFirst (λ i. not (sound_zone c.args.zones (zone_kw c.args.tec) (next_in (inward_of c.args.share.now c.args.zones)) (suc i))) c.args.zones c.first_unsound-i.result = rw c.inward-next.ensures at c.first_unsound-i.ensures in
-    let a = c.args in stage_passes a.share.now a.zones a.tec (omega arith) (sound) (found) (omega arith)
+    let a = c.args in stage_passes a.share.now a.zones a.tec (omega arith) sound found (omega arith)

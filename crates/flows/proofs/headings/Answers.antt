@@ -53,10 +53,9 @@ loop-c-smaller c = omega arith
 
 pub loop-c-preserved : goal.loop-c-preserved
 loop-c-preserved c =
-    let bf : Back (let l = c in let s = l in number s.args.base.now (s.args.n + l.loop-c.c)) = back _ c.heading_of-arg-in-loop-c-1.given in
-    let answered : to_z w64 (of_z w64 c.number_at-peak.result) ≡ let l = c in let s = l in number s.args.peak_base.now (s.args.n + l.loop-c.c) = back _ c.number_at-peak.type_inv ∙ c.number_at-peak.ensures in
-    let l = c in
-    (omega arith, column_turn no_heading 512 _ l.loop-c.c (omega arith) l.loop-c.invariant.1 (simp (bf, answered) at c.heading_of.ensures))
+    let bf : Back (number c.args.base.now (c.args.n + c.loop-c.c)) = back _ c.heading_of-arg-in-loop-c-1.given in
+    let answered : to_z w64 (of_z w64 c.number_at-peak.result) ≡ number c.args.peak_base.now (c.args.n + c.loop-c.c) = back _ c.number_at-peak.type_inv ∙ c.number_at-peak.ensures in
+    (omega arith, column_turn no_heading 512 _ c.loop-c.c (omega arith) c.loop-c.invariant.1 (simp (bf, answered) at c.heading_of.ensures))
 
 pub returns : goal.returns
 unfolding headings_of

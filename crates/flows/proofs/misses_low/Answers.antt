@@ -21,7 +21,7 @@ loop-c-init c = (omega arith, omega arith, sym (sum-zero _))
 pub offset_bounds-first-c : goal.offset_bounds-first-c
 offset_bounds-first-c c =
     let few : c.loop-c.c < 512 = omega arith in
-    place_fits _ (few)
+    place_fits _ few
 
 pub bounds-first-c : goal.bounds-first-c
 bounds-first-c c =
@@ -34,7 +34,7 @@ number_at-p-requires c = tt
 pub offset_bounds-second-c : goal.offset_bounds-second-c
 offset_bounds-second-c c =
     let few : c.loop-c.c < 512 = omega arith in
-    place_fits _ (few)
+    place_fits _ few
 
 pub bounds-second-c : goal.bounds-second-c
 bounds-second-c c =
@@ -47,7 +47,7 @@ number_at-q-requires c = tt
 pub offset_bounds-x-c : goal.offset_bounds-x-c
 offset_bounds-x-c c =
     let few : c.loop-c.c < 512 = omega arith in
-    place_fits _ (few)
+    place_fits _ few
 
 pub bounds-x-c : goal.bounds-x-c
 bounds-x-c c =
@@ -66,7 +66,7 @@ bounds-run-n c = omega arith
 pub offset_bounds-offset-c : goal.offset_bounds-offset-c
 offset_bounds-offset-c c =
     let few : c.loop-c.c < 512 = omega arith in
-    place_fits _ (few)
+    place_fits _ few
 
 pub bounds-offset-c : goal.bounds-offset-c
 bounds-offset-c c =
@@ -97,7 +97,7 @@ returns-then-total-gt100000000 c =
     ∙ ap₂ (λ (a b : ℤ). miss_size a b (number_at c.args.x.now c.loop-c.c) (number c.args.run.now (c.args.n + c.loop-c.c)) (number c.args.offset.now c.loop-c.c)) c.number_at-p.ensures c.number_at-q.ensures in
     let next : c.loop-c.total + c.miss_size-total.result ≡ sum (c.loop-c.c + 1) (size_at (net_of c.args.n 0 c.args.first.now c.args.second.now c.args.x.now c.args.run.now) c.args.offset.now c.args.run.now) = omega (arith, sum_more c.loop-c.c (size_at (net_of c.args.n 0 c.args.first.now c.args.second.now c.args.x.now c.args.run.now) c.args.offset.now c.args.run.now), sized) in
     let a = c.args in
-    too_high a.n a.first.now a.second.now a.x.now a.offset.now a.run.now (c.loop-c.c + 1) _ (omega arith) (next) (omega arith)
+    too_high a.n a.first.now a.second.now a.x.now a.offset.now a.run.now (c.loop-c.c + 1) _ (omega arith) next (omega arith)
 
 pub overflow_add-c : goal.overflow_add-c
 overflow_add-c c = omega arith
@@ -117,6 +117,5 @@ loop-c-preserved c =
     (omega arith, omega arith, next)
 
 pub returns : goal.returns
-returns c = let c = c in
-    let a = c.args in
+returns c = let a = c.args in
     all_low a.n a.first.now a.second.now a.x.now a.offset.now a.run.now _ _ (omega arith) c.loop-c.invariant.2 c.loop-c.invariant.1

@@ -29,7 +29,7 @@ carried-flow-requires c = tt
 pub offset_bounds-first-c : goal.offset_bounds-first-c
 offset_bounds-first-c c =
     let few : c.loop-c.c < 512 = omega arith in
-    place_fits _ (few)
+    place_fits _ few
 
 pub bounds-first-c : goal.bounds-first-c
 bounds-first-c c =
@@ -46,7 +46,7 @@ add_at-requires c =
 pub offset_bounds-second-c : goal.offset_bounds-second-c
 offset_bounds-second-c c =
     let few : c.loop-c.c < 512 = omega arith in
-    place_fits _ (few)
+    place_fits _ few
 
 pub bounds-second-c : goal.bounds-second-c
 bounds-second-c c =
@@ -83,6 +83,5 @@ loop-c-preserved c =
     (omega arith, rw (simp (flow-is, bf, bt) at c.add_at-in-loop-c.ensures, simp (flow-is, bf) at c.add_at.ensures) (netted_more _ _ ((carried_in c.args.n c.args.first.now c.args.second.now c.args.run.now)) (λ i. carried_small _) c.loop-c.c (omega arith) _ c.loop-c.invariant.1))
 
 pub returns : goal.returns
-returns c = let c = c in
-    let a = c.args in
+returns c = let a = c.args in
     netted_all a.n a.first.now a.second.now a.run.now c.loop-c.c _ (omega arith) c.loop-c.invariant.1

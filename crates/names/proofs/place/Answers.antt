@@ -20,12 +20,12 @@ row_is-requires c =
 pub returns-then-row_is : goal.returns-then-row_is
 returns-then-row_is c =
     let told : let a = c.args in c.row_is.result ≡ same_name (name_row a.file.now a.rows c.loop-row.row) (name_at a.file.now a.at) = rw c.row_at-in-loop-row.ensures at c.row_is.ensures in
-    search_stops _ _ c.loop-row.invariant.1 (omega arith) (sym (told) ∙ c.if-row_is.true)
+    search_stops _ _ c.loop-row.invariant.1 (omega arith) (sym told ∙ c.if-row_is.true)
 
 pub loop-row-preserved : goal.loop-row-preserved
 loop-row-preserved c =
     let told : let a = c.args in c.row_is.result ≡ same_name (name_row a.file.now a.rows c.loop-row.row) (name_at a.file.now a.at) = rw c.row_at-in-loop-row.ensures at c.row_is.ensures in
-    (omega arith, passed_more c.loop-row.invariant.1 (sym (told) ∙ c.if-row_is.false))
+    (omega arith, passed_more c.loop-row.invariant.1 (sym told ∙ c.if-row_is.false))
 
 pub returns : goal.returns
 returns c = search_ends _ _ c.loop-row.invariant.1 (omega arith) (omega arith)

@@ -22,7 +22,7 @@ row_is-requires c =
 pub loop-early-preserved : goal.loop-early-preserved
 loop-early-preserved c =
     let told : let a = c.args in c.row_is.result ≡ same_name (name_row a.file.now a.rows c.loop-early.early) (name_row a.file.now a.rows c.rows.row) = rw c.row_at-later.ensures at (rw c.row_at.ensures at c.row_is.ensures) in
-    (omega arith, passed_more c.loop-early.invariant.1 (sym (told) ∙ c.if-row_is.false))
+    (omega arith, passed_more c.loop-early.invariant.1 (sym told ∙ c.if-row_is.false))
 
 pub rows-preserved : goal.rows-preserved
 rows-preserved c =
@@ -36,4 +36,4 @@ pub returns-then-row_is : goal.returns-then-row_is
 returns-then-row_is c =
     let told : let a = c.args in c.row_is.result ≡ same_name (name_row a.file.now a.rows c.loop-early.early) (name_row a.file.now a.rows c.rows.row) = rw c.row_at-later.ensures at (rw c.row_at.ensures at c.row_is.ensures) in
     let l = c.loop-early in
-    search_stops _ _ c.rows.invariant.1 (omega arith) (seen _ _ l.early (omega arith) (sym (told) ∙ c.if-row_is.true))
+    search_stops _ _ c.rows.invariant.1 (omega arith) (seen _ _ l.early (omega arith) (sym told ∙ c.if-row_is.true))

@@ -11,9 +11,9 @@ returns-then-length-lt1 c = clear_short _ _ c.if-length-lt1.true
 pub returns-then-doubtful : goal.returns-then-doubtful
 returns-then-doubtful c =
     let doubt : c.doubtful.result ≡ in_doubt (direction c.args.heading.flow) = simp (back c.args.heading.flow (omega (arith, c.struct_told-1.given))) at c.doubtful.ensures in
-    not_clear _ _ (omega arith) (sym (doubt) ∙ c.if-doubtful.true)
+    not_clear _ _ (omega arith) (sym doubt ∙ c.if-doubtful.true)
 
 pub returns : goal.returns
 returns c =
     let doubt : c.doubtful.result ≡ in_doubt (direction c.args.heading.flow) = simp (back c.args.heading.flow (omega (arith, c.struct_told-1.given))) at c.doubtful.ensures in
-    no_doubt _ _ (omega arith) (sym (doubt) ∙ c.if-doubtful.false)
+    no_doubt _ _ (omega arith) (sym doubt ∙ c.if-doubtful.false)

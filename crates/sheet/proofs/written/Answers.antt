@@ -9,9 +9,9 @@ use Rattle.sheet.proofs.written.Goals as goal
 pub returns-then-out-length : goal.returns-then-out-length
 returns-then-out-length c =
     let fitted : let a = c.args in Fitted (text_of a.figures a.file.now (section_in a.file.now 1)) a.out.now c.write_figures-length.new.out c.write_figures-length.result = rw c.section-nodes.ensures at c.write_figures-length.ensures in
-    short_settled _ _ _ _ (fitted) (omega (arith, c.if-out-length.true, c.write_figures-length.auto))
+    short_settled _ _ _ _ fitted (omega (arith, c.if-out-length.true, c.write_figures-length.auto))
 
 pub returns : goal.returns
 returns c =
     let fitted : let a = c.args in Fitted (text_of a.figures a.file.now (section_in a.file.now 1)) a.out.now c.write_figures-length.new.out c.write_figures-length.result = rw c.section-nodes.ensures at c.write_figures-length.ensures in
-    text_settled _ _ _ _ (fitted) (omega (arith, c.if-out-length.false, c.write_figures-length.auto))
+    text_settled _ _ _ _ fitted (omega (arith, c.if-out-length.false, c.write_figures-length.auto))

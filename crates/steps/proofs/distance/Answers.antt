@@ -16,7 +16,7 @@ overflow_sub-result c =
     let near : nat_abs (metres c.args.potential) ≤ 10000000000 = nearest_within c.args.potential 10000000000 1000000000 (simp Z (omega (arith, simp Z at c.ranges.potential))) in
     let bm : Back (metres c.args.potential) = fit_back (simp Z (omega (arith, simp Z at near))) in
     let rounded : c.metres-rounded.result.0 ≡ (metres c.args.potential) = simp (fit_back c.ranges.potential) at c.metres-rounded.ensures in
-    simp (rounded, bm, Z) (omega (arith, simp Z at (near)))
+    simp (rounded, bm, Z) (omega (arith, simp Z at near))
 
 pub returns-in-Generation : goal.returns-in-Generation
 unfolding metres

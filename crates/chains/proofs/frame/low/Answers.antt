@@ -20,7 +20,7 @@ at_most-requires c = tt
 
 pub returns-then-not-at_most : goal.returns-then-not-at_most
 returns-then-not-at_most c =
-    let told : let l = c in let a = l.args in leb (load_factor a.share.now a.zones (suc l.loop-t.t)) 1000 ≡ c.at_most.result = let l = c in let a = l.args in sym (c.at_most.ensures ∙ factor_at a.share.now a.zones l.loop-t.t) in
+    let told : let a = c.args in leb (load_factor a.share.now a.zones (suc c.loop-t.t)) 1000 ≡ c.at_most.result = let a = c.args in sym (c.at_most.ensures ∙ factor_at a.share.now a.zones c.loop-t.t) in
     all_fails _ 7 c.loop-t.t (omega arith) (told ∙ c.if-not-at_most.true)
 
 pub overflow_add-t : goal.overflow_add-t
@@ -31,8 +31,8 @@ loop-t-smaller c = omega arith
 
 pub loop-t-preserved : goal.loop-t-preserved
 loop-t-preserved c =
-    let told : let l = c in let a = l.args in leb (load_factor a.share.now a.zones (suc l.loop-t.t)) 1000 ≡ c.at_most.result = let l = c in let a = l.args in sym (c.at_most.ensures ∙ factor_at a.share.now a.zones l.loop-t.t) in
-    let l = c in (omega arith, all_more _ l.loop-t.t l.loop-t.invariant.1 (told ∙ c.if-not-at_most.false))
+    let told : let a = c.args in leb (load_factor a.share.now a.zones (suc c.loop-t.t)) 1000 ≡ c.at_most.result = let a = c.args in sym (c.at_most.ensures ∙ factor_at a.share.now a.zones c.loop-t.t) in
+    (omega arith, all_more _ c.loop-t.t c.loop-t.invariant.1 (told ∙ c.if-not-at_most.false))
 
 pub returns : goal.returns
 returns c = all_pass _ 7 (λ i h. c.loop-t.invariant.1 i (omega arith))

@@ -15,9 +15,8 @@ bounds-name-i c =
 
 pub returns-then-byte-eq32 : goal.returns-then-byte-eq32
 returns-then-byte-eq32 c =
-    let more : let l = c in (l.loop-i.i < 12) × (l.loop-i.i < length l.args.name.now) = (says_more _ _).0 c.loop-i-test.true in
-    let l = c in
-    rw (passed_space l.args.name.now l.loop-i.i l.loop-i.invariant.1 more.0 more.1 c.if-byte-eq32.true) (longer l.loop-i.invariant.2 l.loop-i.invariant.0)
+    let more : (c.loop-i.i < 12) × (c.loop-i.i < length c.args.name.now) = (says_more _ _).0 c.loop-i-test.true in
+    rw (passed_space c.args.name.now c.loop-i.i c.loop-i.invariant.1 more.0 more.1 c.if-byte-eq32.true) (longer c.loop-i.invariant.2 c.loop-i.invariant.0)
 
 pub bounds-bytes-at : goal.bounds-bytes-at
 bounds-bytes-at c =
@@ -31,11 +30,10 @@ loop-i-smaller c =
 
 pub loop-i-preserved : goal.loop-i-preserved
 loop-i-preserved c =
-    let more : let l = c in (l.loop-i.i < 12) × (l.loop-i.i < length l.args.name.now) = (says_more _ _).0 c.loop-i-test.true in
-    let l = c in
+    let more : (c.loop-i.i < 12) × (c.loop-i.i < length c.args.name.now) = (says_more _ _).0 c.loop-i-test.true in
     let m = more in
-    let n = l.args.name.now in
-    (omega (arith, m), passed_more n l.loop-i.i l.loop-i.invariant.1 m.0 m.1 c.if-byte-eq32.false, copy_more n l.loop-i.i m.1 l.loop-i.invariant.2)
+    let n = c.args.name.now in
+    (omega (arith, m), passed_more n c.loop-i.i c.loop-i.invariant.1 m.0 m.1 c.if-byte-eq32.false, copy_more n c.loop-i.i m.1 c.loop-i.invariant.2)
 
 pub returns : goal.returns
 returns c =

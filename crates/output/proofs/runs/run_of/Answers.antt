@@ -16,7 +16,7 @@ returns c =
     solution_few c.args.file.now (c.args.section - 4) (c.section-rows.ensures ∙ ap (section_in c.args.file.now) e) in
     let file = c.args.file.now in
     record {
-      numbers = cut_table file c.section-rows.result (few) c.run_at.ensures ∙ ap (table (i64 file)) c.section-rows.ensures;
+      numbers = cut_table file c.section-rows.result few c.run_at.ensures ∙ ap (table (i64 file)) c.section-rows.ensures;
       room = rw c.run_at.ensures (column_length (pos 0) 768 _ _);
       inside = few;
     }

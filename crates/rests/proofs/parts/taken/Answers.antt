@@ -179,7 +179,7 @@ pub overflow_cast-part : goal.overflow_cast-part
 overflow_cast-part c = let d = c.before.before in rw (ep d) (simp Z (omega (arith, hp (s2 d), (s2 d).requires.most)))
 
 pub overflow_mul-part : goal.overflow_mul-part
-overflow_mul-part c = simp (bpart) (fp (s2 c.before.before))
+overflow_mul-part c = simp bpart (fp (s2 c.before.before))
 
 pub overflow_sub-over : goal.overflow_sub-over
 overflow_sub-over c = simp (bpart, bo, bp) (fq (s2 c.before.before))

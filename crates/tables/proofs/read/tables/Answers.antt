@@ -7,21 +7,16 @@ use Rattle.tables.proofs.read.tables.Goals as goal
 
 pub returns : goal.returns
 returns c =
-    let after-nodes : let a = c.args in c.or_else-after_nodes.result ≡ then_nodes a.frame a.file.now = let j = c in
-    judged_after nodes_stage _ _ (rw (c.or_else-after_nodes.ensures, j.judge.ensures, j.shown.ensures) refl) in
-    let after-circuits : let a = c.args in c.or_else-after_circuits.result ≡ then_circuits a.frame a.file.now = let j = c in
-    let s = j in
-    judged_after circuits_stage _ _ (rw (c.or_else-after_circuits.ensures, j.judge-judged.ensures.0, s.shown-network.ensures, after-nodes) refl) in
-    let j = c in
-    let s = j in
+    let after-nodes : let a = c.args in c.or_else-after_nodes.result ≡ then_nodes a.frame a.file.now = judged_after nodes_stage _ _ (rw (c.or_else-after_nodes.ensures, c.judge.ensures, c.shown.ensures) refl) in
+    let after-circuits : let a = c.args in c.or_else-after_circuits.result ≡ then_circuits a.frame a.file.now = judged_after circuits_stage _ _ (rw (c.or_else-after_circuits.ensures, c.judge-judged.ensures.0, c.shown-network.ensures, after-nodes) refl) in
     record {
-      rows = judged_after stations_stage _ _ (rw (c.or_else.ensures, j.judge-summed.ensures.0, s.shown-2.ensures, after-circuits) refl);
+      rows = judged_after stations_stage _ _ (rw (c.or_else.ensures, c.judge-summed.ensures.0, c.shown-2.ensures, after-circuits) refl);
       columns = record {
-        counts = s.counts-counts.ensures;
-        settings = s.settings-settings.ensures;
-        nodes = rw (s.columns-nodes.ensures, s.shown-network.ensures, after-nodes) refl;
-        circuits = rw (s.judge-judged.ensures.1, s.shown-network.ensures, after-nodes) refl;
-        by_type = rw (j.judge-summed.ensures.1, s.shown-2.ensures, after-circuits) refl;
-        possible = j.judge-summed.ensures.2;
+        counts = c.counts-counts.ensures;
+        settings = c.settings-settings.ensures;
+        nodes = rw (c.columns-nodes.ensures, c.shown-network.ensures, after-nodes) refl;
+        circuits = rw (c.judge-judged.ensures.1, c.shown-network.ensures, after-nodes) refl;
+        by_type = rw (c.judge-summed.ensures.1, c.shown-2.ensures, after-circuits) refl;
+        possible = c.judge-summed.ensures.2;
       };
     }

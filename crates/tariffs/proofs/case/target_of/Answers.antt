@@ -45,10 +45,10 @@ pub returns-in-Generation : goal.returns-in-Generation
 returns-in-Generation c =
     let for-generation : c.args.settings.revenue * (1000 - c.args.settings.p) ≤ 10000000000000 = generation_share c.requires in
     let bg : (let k = c.args.settings in to_z w64 (target_of Generation k.p k.revenue) ≡ pos (target_of Generation k.p k.revenue)) = of_nat _ (omega (arith, for-generation)) in
-    simp (bg) at c.start.ensures ∙ rw c.in-Generation.is refl
+    simp bg at c.start.ensures ∙ rw c.in-Generation.is refl
 
 pub returns-in-Demand : goal.returns-in-Demand
 returns-in-Demand c =
     let for-demand : c.args.settings.revenue * c.args.settings.p ≤ 10000000000000 = demand_share c.requires in
     let bd : (let k = c.args.settings in to_z w64 (target_of Demand k.p k.revenue) ≡ pos (target_of Demand k.p k.revenue)) = of_nat _ (omega (arith, for-demand)) in
-    simp (bd) at c.start-in-Demand.ensures ∙ rw c.in-Demand.is refl
+    simp bd at c.start-in-Demand.ensures ∙ rw c.in-Demand.is refl

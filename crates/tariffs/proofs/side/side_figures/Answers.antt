@@ -43,13 +43,13 @@ overflow_cast-result c =
     let parts_are : c.split_metres-parts.result ≡ parts_of c.args.shares c.args.year_round = c.split_metres-parts.ensures ∙ ap (splits c.args.shares c.args.year_round.count) c.zone_metres.ensures in
     let first_is : (let a = c.args in c.wider_lines-zones.result ≡ year_round_lem a.shares a.year_round a.peak a.terms a.peak_terms a.rest a.payers.0) = let a = c.args in
     c.wider_lines-zones.ensures
-    ∙ ap (λ (x : List Metres). wider_over x a.year_round.sums a.year_round.count a.terms a.rest a.payers.0) (c.not_shared.ensures ∙ ap not_shared_over (parts_are)) in
+    ∙ ap (λ (x : List Metres). wider_over x a.year_round.sums a.year_round.count a.terms a.rest a.payers.0) (c.not_shared.ensures ∙ ap not_shared_over parts_are) in
     let second_is : (let a = c.args in c.wider_lines-at_peak.result ≡ at_peak_lem a.shares a.year_round a.peak a.terms a.peak_terms a.rest a.payers.0) = let a = c.args in
     c.wider_lines-at_peak.ensures
     ∙ ap₂ (λ (x : List Metres) (w : Wider). wider_over x a.peak.sums a.peak.count a.peak_terms w.rest a.payers.0) c.zone_metres-metres.ensures first_is in
     let third-is : (let a = c.args in c.shared_lines-shared.result ≡ shared a.shares a.year_round a.peak a.terms a.peak_terms a.rest a.payers.0) = let a = c.args in
     c.shared_lines-shared.ensures
-    ∙ ap₂ (λ (x : List Split) (n : ℕ). shared_over x a.shares.kw n a.terms c.wider_lines-at_peak.result.rest a.payers.0) (parts_are) c.shared_zones-with_shared.ensures
+    ∙ ap₂ (λ (x : List Split) (n : ℕ). shared_over x a.shares.kw n a.terms c.wider_lines-at_peak.result.rest a.payers.0) parts_are c.shared_zones-with_shared.ensures
     ∙ ap (λ (w : Wider). shared_over (parts_of a.shares a.year_round) a.shares.kw (shared_zones a.shares.in_force a.year_round.count) a.terms w.rest a.payers.0) second_is in
     let over_near : c.shared_lines-shared.result.rest.over < 100000000 = subst (λ (x : Shared). x.rest.over < 100000000) (sym third-is) (remainder_near (left_holds _ _ _ _ _ _ _ c.requires)) in
     simp Z (omega (arith, over_near))
@@ -62,21 +62,21 @@ zone_lines-requires c =
     let peak-fits : MetresFit c.zone_metres-metres.result = rw c.zone_metres-metres.ensures (own_fit c.args.peak.sums c.requires.peak.all) in
     let first_is : (let a = c.args in c.wider_lines-zones.result ≡ year_round_lem a.shares a.year_round a.peak a.terms a.peak_terms a.rest a.payers.0) = let a = c.args in
     c.wider_lines-zones.ensures
-    ∙ ap (λ (x : List Metres). wider_over x a.year_round.sums a.year_round.count a.terms a.rest a.payers.0) (c.not_shared.ensures ∙ ap not_shared_over (parts_are)) in
+    ∙ ap (λ (x : List Metres). wider_over x a.year_round.sums a.year_round.count a.terms a.rest a.payers.0) (c.not_shared.ensures ∙ ap not_shared_over parts_are) in
     let second_is : (let a = c.args in c.wider_lines-at_peak.result ≡ at_peak_lem a.shares a.year_round a.peak a.terms a.peak_terms a.rest a.payers.0) = let a = c.args in
     c.wider_lines-at_peak.ensures
     ∙ ap₂ (λ (x : List Metres) (w : Wider). wider_over x a.peak.sums a.peak.count a.peak_terms w.rest a.payers.0) c.zone_metres-metres.ensures first_is in
     let third-is : (let a = c.args in c.shared_lines-shared.result ≡ shared a.shares a.year_round a.peak a.terms a.peak_terms a.rest a.payers.0) = let a = c.args in
     c.shared_lines-shared.ensures
-    ∙ ap₂ (λ (x : List Split) (n : ℕ). shared_over x a.shares.kw n a.terms c.wider_lines-at_peak.result.rest a.payers.0) (parts_are) c.shared_zones-with_shared.ensures
+    ∙ ap₂ (λ (x : List Split) (n : ℕ). shared_over x a.shares.kw n a.terms c.wider_lines-at_peak.result.rest a.payers.0) parts_are c.shared_zones-with_shared.ensures
     ∙ ap (λ (w : Wider). shared_over (parts_of a.shares a.year_round) a.shares.kw (shared_zones a.shares.in_force a.year_round.count) a.terms w.rest a.payers.0) second_is in
     let each_near : nat_abs c.shared_lines-shared.result.rest.each ≤ 9000000000000000000 = subst (λ (x : Shared). nat_abs x.rest.each ≤ 9000000000000000000) (sym third-is) (residual_near (left_holds _ _ _ _ _ _ _ c.requires)) in
     let be : Back c.shared_lines-shared.result.rest.each = fit_back (sfits_abs _ (omega (arith, each_near))) in
     let p = c.requires in (
       p.year_round.few,
-      subst (λ (x : Wider). LinesFit x.lines) (sym c.wider_lines-zones.ensures) (lines_fit (own-fits) p.year_round p.terms c.args.rest),
-      subst (λ (x : Wider). LinesFit x.lines) (sym c.wider_lines-at_peak.ensures) (lines_fit (peak-fits) p.peak p.peak_terms c.wider_lines-zones.result.rest),
-      simp be (each_near),
+      subst (λ (x : Wider). LinesFit x.lines) (sym c.wider_lines-zones.ensures) (lines_fit own-fits p.year_round p.terms c.args.rest),
+      subst (λ (x : Wider). LinesFit x.lines) (sym c.wider_lines-at_peak.ensures) (lines_fit peak-fits p.peak p.peak_terms c.wider_lines-zones.result.rest),
+      simp be each_near,
     )
 
 pub returns : goal.returns
@@ -84,17 +84,17 @@ returns c =
     let parts_are : c.split_metres-parts.result ≡ parts_of c.args.shares c.args.year_round = c.split_metres-parts.ensures ∙ ap (splits c.args.shares c.args.year_round.count) c.zone_metres.ensures in
     let first_is : (let a = c.args in c.wider_lines-zones.result ≡ year_round_lem a.shares a.year_round a.peak a.terms a.peak_terms a.rest a.payers.0) = let a = c.args in
     c.wider_lines-zones.ensures
-    ∙ ap (λ (x : List Metres). wider_over x a.year_round.sums a.year_round.count a.terms a.rest a.payers.0) (c.not_shared.ensures ∙ ap not_shared_over (parts_are)) in
+    ∙ ap (λ (x : List Metres). wider_over x a.year_round.sums a.year_round.count a.terms a.rest a.payers.0) (c.not_shared.ensures ∙ ap not_shared_over parts_are) in
     let second_is : (let a = c.args in c.wider_lines-at_peak.result ≡ at_peak_lem a.shares a.year_round a.peak a.terms a.peak_terms a.rest a.payers.0) = let a = c.args in
     c.wider_lines-at_peak.ensures
     ∙ ap₂ (λ (x : List Metres) (w : Wider). wider_over x a.peak.sums a.peak.count a.peak_terms w.rest a.payers.0) c.zone_metres-metres.ensures first_is in
     let third-is : (let a = c.args in c.shared_lines-shared.result ≡ shared a.shares a.year_round a.peak a.terms a.peak_terms a.rest a.payers.0) = let a = c.args in
     c.shared_lines-shared.ensures
-    ∙ ap₂ (λ (x : List Split) (n : ℕ). shared_over x a.shares.kw n a.terms c.wider_lines-at_peak.result.rest a.payers.0) (parts_are) c.shared_zones-with_shared.ensures
+    ∙ ap₂ (λ (x : List Split) (n : ℕ). shared_over x a.shares.kw n a.terms c.wider_lines-at_peak.result.rest a.payers.0) parts_are c.shared_zones-with_shared.ensures
     ∙ ap (λ (w : Wider). shared_over (parts_of a.shares a.year_round) a.shares.kw (shared_zones a.shares.in_force a.year_round.count) a.terms w.rest a.payers.0) second_is in
     let each_near : nat_abs c.shared_lines-shared.result.rest.each ≤ 9000000000000000000 = subst (λ (x : Shared). nat_abs x.rest.each ≤ 9000000000000000000) (sym third-is) (residual_near (left_holds _ _ _ _ _ _ _ c.requires)) in
     let over_near : c.shared_lines-shared.result.rest.over < 100000000 = subst (λ (x : Shared). x.rest.over < 100000000) (sym third-is) (remainder_near (left_holds _ _ _ _ _ _ _ c.requires)) in
     let be : Back c.shared_lines-shared.result.rest.each = fit_back (sfits_abs _ (omega (arith, each_near))) in
     let bo : to_z w64 c.shared_lines-shared.result.rest.over ≡ pos c.shared_lines-shared.result.rest.over = of_nat _ (omega (arith, over_near)) in
     let a = c.args in
-    side_from_lem a.shares a.year_round a.peak a.terms a.peak_terms a.rest a.payers.0 a.edition (first_is) (second_is) (third-is) c.form_in.ensures (be) (bo) c.zone_lines.ensures
+    side_from_lem a.shares a.year_round a.peak a.terms a.peak_terms a.rest a.payers.0 a.edition first_is second_is third-is c.form_in.ensures be bo c.zone_lines.ensures

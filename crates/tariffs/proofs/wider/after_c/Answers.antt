@@ -15,7 +15,7 @@ overflow_add-result c =
     let bm : Back c.args.metres.0 = fit_back (sfits_abs c.args.metres.0 (omega (arith, m-near))) in
     let bc : Back c.args.terms.c.0 = fit_back (sfits_abs c.args.terms.c.0 (omega (arith, c.requires.1.near))) in
     let added : SFits w64 (c.args.metres.0 +ℤ c.args.terms.c.0) = sfits_abs (c.args.metres.0 +ℤ c.args.terms.c.0) (omega (arith, abs-add c.args.metres.0 c.args.terms.c.0, m-near, c.requires.1.near)) in
-    simp (bm, bc) (added)
+    simp (bm, bc) added
 
 pub overflow_sub-result : goal.overflow_sub-result
 overflow_sub-result c =
@@ -23,7 +23,7 @@ overflow_sub-result c =
     let bm : Back c.args.metres.0 = fit_back (sfits_abs c.args.metres.0 (omega (arith, m-near))) in
     let bc : Back c.args.terms.c.0 = fit_back (sfits_abs c.args.terms.c.0 (omega (arith, c.requires.1.near))) in
     let taken : SFits w64 (c.args.metres.0 -ℤ c.args.terms.c.0) = sfits_abs (c.args.metres.0 -ℤ c.args.terms.c.0) (omega (arith, abs-sub c.args.metres.0 c.args.terms.c.0, m-near, c.requires.1.near)) in
-    simp (bm, bc) (taken)
+    simp (bm, bc) taken
 
 pub returns-in-Generation : goal.returns-in-Generation
 returns-in-Generation c =

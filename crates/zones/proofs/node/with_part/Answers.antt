@@ -12,7 +12,7 @@ overflow_add-weighed c =
     let bo : Back c.args.sums.weighed = fit_back (sfits_abs c.args.sums.weighed (omega (arith, c.requires.0.weighed, c.requires.0.weight))) in
     let bm : Back c.args.part.weighed = fit_back (sfits_abs c.args.part.weighed (omega (arith, c.requires.1.weighed, c.requires.1.weight))) in
     let fits : SFits w64 (c.args.sums.weighed +ℤ c.args.part.weighed) = sfits_abs (c.args.sums.weighed +ℤ c.args.part.weighed) (omega (arith, abs-add c.args.sums.weighed c.args.part.weighed, c.requires.0.weighed, c.requires.0.weight, c.requires.1.weighed, c.requires.1.weight)) in
-    simp (bo, bm) (fits)
+    simp (bo, bm) fits
 
 pub returns : goal.returns
 unfolding with_part
