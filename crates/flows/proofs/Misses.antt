@@ -2,7 +2,7 @@
 use mathlib.Core.Path.{◌≡◌, refl, sym, ◌∙◌, ap}
 use mathlib.Core.Bool.{Bool, true, false, ◌&&◌}
 use mathlib.Core.List.{List}
-use Prim.Native.Nat.{ℕ, ◌≤◌, ◌<◌}
+use Prim.Native.Nat.{ℕ, ◌+◌, ◌≤◌, ◌<◌}
 use native.Mathlib.Omega.{arith}
 use lib.Dec.{leb}
 use lib.IntN.{ℤ, pos, nat_abs, ◌-ℤ◌, ◌*ℤ◌}
@@ -11,7 +11,7 @@ use mir.Syntax.{w64}
 use mir.Val.{SFits}
 use Rattle.integers.specs.Numbers.{sum}
 use Rattle.integers.proofs.Laws.{abs-sub, abs-mul-le, sfits_abs}
-use Rattle.integers.proofs.Sum.{sum_part, sum_item, sum_same}
+use Rattle.integers.proofs.Sum.{sum_part, sum_item, sum_more, sum_same}
 use Rattle.meaning.specs.Rows.{all}
 use Rattle.meaning.specs.Network.{Network}
 use Rattle.meaning.specs.Proposal.{potential, flow, miss, miss_sum}
@@ -118,6 +118,14 @@ module _ (n : ℕ) (first second x : List ℕ) (offset run : List ℤ) where
     where
       ranged : sizes ≤ 100000000 → AllRanged
       ranged h c l = low_size _ _ _ _ _ (omega (arith, sum_item N.circuits c (size_at N offset run) l))
+
+  -- what the code adds at a circuit, and its sum with it
+  pub size_told : (c : ℕ) {v : ℕ} {p q : ℤ} → p ≡ number run (N.first c) → q ≡ number run (N.second c)
+      → v ≡ miss_size p q (N.x c) (number run (n + c)) (number offset c) → v ≡ size_at N offset run c
+  size_told c ep eq ev = rw (ev, ep, eq) refl
+
+  pub sum_told : (c : ℕ) {total v : ℕ} → total ≡ sum c (size_at N offset run) → v ≡ size_at N offset run c → total + v ≡ sum (c + 1) (size_at N offset run)
+  sum_told c et ev = omega (arith, sum_more c (size_at N offset run), et, ev)
 
   pub too_high : (c total : ℕ) → c ≤ N.circuits → total ≡ sum c (size_at N offset run) → 100000000 < total → false ≡ misses_low n first second x offset run
   too_high c total h e l = sym (lt-leb sizes 100000000 (omega (arith, sum_part c N.circuits (size_at N offset run) h))) ∙ decided

@@ -30,7 +30,7 @@ use Rattle.meaning.proofs.Columns.{column_at, column_past}
 use Rattle.meaning.proofs.Says.{Says, says_as, says_le, says_all}
 use Rattle.rests.specs.declared.Rest.{Rest}
 use Rattle.rests.specs.Rests.{Holds, Charges}
-use Rattle.rests.proofs.Exact.{all_hold, holds_fewer}
+use Rattle.rests.proofs.Exact.{all_hold, holds_fewer, residual_near, remainder_near}
 use Rattle.zones.specs.declared.ZoneSums.{ZoneSums}
 use Rattle.zones.specs.Sums.{no_sums, zone_sums, SumsFit}
 use Rattle.zones.proofs.Laws.{zone_fits, metres_near}
@@ -259,6 +259,9 @@ module _ (shares : Shares) (y : Zonal) where
   pub own_parts_fit : PartsFit parts_of
   own_parts_fit = parts_fit shares y.count (metres_over y.sums)
 
+  pub told_parts_fit : {metres : List Metres} {ps : List Split} → metres ≡ metres_over y.sums → ps ≡ splits shares y.count metres → PartsFit ps
+  told_parts_fit em ep = rw (ep, em) own_parts_fit
+
 module _ (shares : Shares) (y p : Zonal) (t u : Terms) (rest : Rest) (payers : ℕ) where
   abbrev parts : List Split
   parts = parts_of shares y
@@ -279,6 +282,22 @@ module _ (shares : Shares) (y p : Zonal) (t u : Terms) (rest : Rest) (payers : �
   left_holds f =
       shared_taken_off (own_parts_fit shares y) f.year_round.few f.shared f.terms 0
       (taken_off (own_fit p.sums f.peak.all) f.peak f.peak_terms 32 (taken_off (not_shared_fit parts (own_parts_fit shares y)) f.year_round f.terms 64 f.holds))
+
+  -- what the code prices, one after the other, is that
+  pub priced : {own ms ps : List Metres} {split : List Split} {n : ℕ} {a b : Wider} {s : Shared}
+      → ms ≡ metres_over y.sums → split ≡ splits shares y.count ms → own ≡ not_shared_over split → a ≡ wider_over own y.sums y.count t rest payers
+      → ps ≡ metres_over p.sums → b ≡ wider_over ps p.sums p.count u a.rest payers
+      → n ≡ shared_zones shares.in_force y.count → s ≡ shared_over split shares.kw n t b.rest payers
+      → (a ≡ year_round_lem) × (b ≡ at_peak_lem) × (s ≡ shared)
+  priced {a = a} {b = b} em ex eo ea ep eb en es = let first : a ≡ year_round_lem = rw (ea, eo, ex, em) refl in
+      let second : b ≡ at_peak_lem = rw (eb, ep, first) refl in
+      (first, second, rw (es, ex, em, en, second) refl)
+
+  pub told_residual_near : {s : Shared} → s ≡ shared → SideFits shares y p t u rest payers → nat_abs s.rest.each ≤ 9000000000000000000
+  told_residual_near e f = rw e (residual_near (left_holds f))
+
+  pub told_remainder_near : {s : Shared} → s ≡ shared → SideFits shares y p t u rest payers → s.rest.over < 100000000
+  told_remainder_near e f = rw e (remainder_near (left_holds f))
 
   -- its figures, as the code puts them together
   pub side_from_lem : (e : Edition) {a b : Wider} {s : Shared} {form : Form} {r : MicroPerKw} {left : ℤ} {zone : List ZoneFigures}

@@ -1,5 +1,5 @@
 use mathlib.Core.Path.{◌≡◌}
-use Prim.Native.Nat.{◌+◌, ◌<◌}
+use Prim.Native.Nat.{◌+◌}
 use native.Mathlib.Omega.{arith}
 use lib.IntN.{pos, ◌-ℤ◌}
 use Rattle.integers.proofs.Machine.{Back, back, fit_back}
@@ -28,45 +28,39 @@ carried-flow-requires c = tt
 
 pub offset_bounds-first-c : goal.offset_bounds-first-c
 offset_bounds-first-c c =
-    let few : c.loop-c.c < 512 = omega arith in
-    place_fits _ few
+    place_fits _ (omega arith)
 
 pub bounds-first-c : goal.bounds-first-c
-bounds-first-c c =
-    let few : c.loop-c.c < 512 = omega arith in
-    few
+bounds-first-c c = omega arith
 
 pub add_at-requires : goal.add_at-requires
 add_at-requires c =
-    let flow-is : c.carried-flow.result ≡ (carried_in c.args.n c.args.first.now c.args.second.now c.args.run.now) c.loop-c.c = let b : Back (number c.args.run.now (c.args.n + c.loop-c.c)) = back _ c.carried-arg-1.given in
-    simp b at c.carried-flow.ensures in
-    let bf : Back ((carried_in c.args.n c.args.first.now c.args.second.now c.args.run.now) c.loop-c.c) = fit_back (carried_fits _) in
-    simp (flow-is, bf) (small_before _ _ ((carried_in c.args.n c.args.first.now c.args.second.now c.args.run.now)) (λ i. carried_small _) c.loop-c.c (omega arith) _ c.loop-c.invariant.1)
+    let f = carried_in c.args.n c.args.first.now c.args.second.now c.args.run.now in
+    let flow-is : c.carried-flow.result ≡ f c.loop-c.c = simp (back (number c.args.run.now (c.args.n + c.loop-c.c)) c.carried-arg-1.given) at c.carried-flow.ensures in
+    let bf : Back (f c.loop-c.c) = fit_back (carried_fits _) in
+    simp (flow-is, bf) (small_before _ _ f (λ i. carried_small _) c.loop-c.c (omega arith) _ c.loop-c.invariant.1)
 
 pub offset_bounds-second-c : goal.offset_bounds-second-c
 offset_bounds-second-c c =
-    let few : c.loop-c.c < 512 = omega arith in
-    place_fits _ few
+    place_fits _ (omega arith)
 
 pub bounds-second-c : goal.bounds-second-c
-bounds-second-c c =
-    let few : c.loop-c.c < 512 = omega arith in
-    few
+bounds-second-c c = omega arith
 
 pub overflow_sub-flow : goal.overflow_sub-flow
 overflow_sub-flow c =
-    let flow-is : c.carried-flow.result ≡ (carried_in c.args.n c.args.first.now c.args.second.now c.args.run.now) c.loop-c.c = let b : Back (number c.args.run.now (c.args.n + c.loop-c.c)) = back _ c.carried-arg-1.given in
-    simp b at c.carried-flow.ensures in
-    let bf : Back ((carried_in c.args.n c.args.first.now c.args.second.now c.args.run.now) c.loop-c.c) = fit_back (carried_fits _) in
-    simp (flow-is, bf) (turned_flow _ _ ((carried_in c.args.n c.args.first.now c.args.second.now c.args.run.now)) (λ i. carried_small _) c.loop-c.c (omega arith) _ c.loop-c.invariant.1)
+    let f = carried_in c.args.n c.args.first.now c.args.second.now c.args.run.now in
+    let flow-is : c.carried-flow.result ≡ f c.loop-c.c = simp (back (number c.args.run.now (c.args.n + c.loop-c.c)) c.carried-arg-1.given) at c.carried-flow.ensures in
+    let bf : Back (f c.loop-c.c) = fit_back (carried_fits _) in
+    simp (flow-is, bf) (turned_flow _ _ f (λ i. carried_small _) c.loop-c.c (omega arith) _ c.loop-c.invariant.1)
 
 pub add_at-requires-in-loop-c : goal.add_at-requires-in-loop-c
 add_at-requires-in-loop-c c =
-    let flow-is : c.carried-flow.result ≡ (carried_in c.args.n c.args.first.now c.args.second.now c.args.run.now) c.loop-c.c = let b : Back (number c.args.run.now (c.args.n + c.loop-c.c)) = back _ c.carried-arg-1.given in
-    simp b at c.carried-flow.ensures in
-    let bf : Back ((carried_in c.args.n c.args.first.now c.args.second.now c.args.run.now) c.loop-c.c) = fit_back (carried_fits _) in
-    let bt : Back (pos 0 -ℤ (carried_in c.args.n c.args.first.now c.args.second.now c.args.run.now) c.loop-c.c) = fit_back (turned_flow _ _ (carried_in c.args.n c.args.first.now c.args.second.now c.args.run.now) (λ i. carried_small _) c.loop-c.c (omega arith) _ c.loop-c.invariant.1) in
-    simp (flow-is, bf, bt) (rw (simp (flow-is, bf) at c.add_at.ensures) (small_between _ _ ((carried_in c.args.n c.args.first.now c.args.second.now c.args.run.now)) (λ i. carried_small _) c.loop-c.c (omega arith) _ c.loop-c.invariant.1))
+    let f = carried_in c.args.n c.args.first.now c.args.second.now c.args.run.now in
+    let flow-is : c.carried-flow.result ≡ f c.loop-c.c = simp (back (number c.args.run.now (c.args.n + c.loop-c.c)) c.carried-arg-1.given) at c.carried-flow.ensures in
+    let bf : Back (f c.loop-c.c) = fit_back (carried_fits _) in
+    let bt : Back (pos 0 -ℤ f c.loop-c.c) = fit_back (turned_flow _ _ f (λ i. carried_small _) c.loop-c.c (omega arith) _ c.loop-c.invariant.1) in
+    simp (flow-is, bf, bt) (rw (simp (flow-is, bf) at c.add_at.ensures) (small_between _ _ f (λ i. carried_small _) c.loop-c.c (omega arith) _ c.loop-c.invariant.1))
 
 pub overflow_add-c : goal.overflow_add-c
 overflow_add-c c = omega arith
@@ -76,11 +70,11 @@ loop-c-smaller c = omega arith
 
 pub loop-c-preserved : goal.loop-c-preserved
 loop-c-preserved c =
-    let flow-is : c.carried-flow.result ≡ (carried_in c.args.n c.args.first.now c.args.second.now c.args.run.now) c.loop-c.c = let b : Back (number c.args.run.now (c.args.n + c.loop-c.c)) = back _ c.carried-arg-1.given in
-    simp b at c.carried-flow.ensures in
-    let bf : Back ((carried_in c.args.n c.args.first.now c.args.second.now c.args.run.now) c.loop-c.c) = fit_back (carried_fits _) in
-    let bt : Back (pos 0 -ℤ (carried_in c.args.n c.args.first.now c.args.second.now c.args.run.now) c.loop-c.c) = fit_back (turned_flow _ _ (carried_in c.args.n c.args.first.now c.args.second.now c.args.run.now) (λ i. carried_small _) c.loop-c.c (omega arith) _ c.loop-c.invariant.1) in
-    (omega arith, rw (simp (flow-is, bf, bt) at c.add_at-in-loop-c.ensures, simp (flow-is, bf) at c.add_at.ensures) (netted_more _ _ ((carried_in c.args.n c.args.first.now c.args.second.now c.args.run.now)) (λ i. carried_small _) c.loop-c.c (omega arith) _ c.loop-c.invariant.1))
+    let f = carried_in c.args.n c.args.first.now c.args.second.now c.args.run.now in
+    let flow-is : c.carried-flow.result ≡ f c.loop-c.c = simp (back (number c.args.run.now (c.args.n + c.loop-c.c)) c.carried-arg-1.given) at c.carried-flow.ensures in
+    let bf : Back (f c.loop-c.c) = fit_back (carried_fits _) in
+    let bt : Back (pos 0 -ℤ f c.loop-c.c) = fit_back (turned_flow _ _ f (λ i. carried_small _) c.loop-c.c (omega arith) _ c.loop-c.invariant.1) in
+    (omega arith, rw (simp (flow-is, bf, bt) at c.add_at-in-loop-c.ensures, simp (flow-is, bf) at c.add_at.ensures) (netted_more _ _ f (λ i. carried_small _) c.loop-c.c (omega arith) _ c.loop-c.invariant.1))
 
 pub returns : goal.returns
 returns c = let a = c.args in
