@@ -1,34 +1,37 @@
-use Prim.Native.Nat.{◌<◌}
+use mathlib.Core.Path.{◌≡◌}
+use mathlib.Core.Bool.{true, ◌&&◌}
+use Prim.Native.Nat.{ℕ, ◌<◌}
+use lib.Dec.{ltb}
 use native.Mathlib.Omega.{arith}
 use Rattle.meaning.proofs.Says.{says_lt, ◌also◌}
 use Rattle.zone_kw.proofs.ZoneLaws.{sums_none, sums_more, sums_past, sums_fit, sums_done}
 use Rattle.zone_kw.proofs.by_zone.Goals as goal
+
+-- there is another node, and a row for it
+another : (v nodes : ℕ) → (ltb v nodes && ltb v 256) ≡ true → (v < nodes) × (v < 256)
+another v nodes e = (says_lt also says_lt).0 e
 
 pub loop-v-init : goal.loop-v-init
 loop-v-init c = (omega arith, omega arith, sums_none c.args.zone c.args.kw)
 
 pub offset_bounds-zone-v : goal.offset_bounds-zone-v
 offset_bounds-zone-v c =
-    -- there is another node, and a row for it
-    let on : (c.loop-v.v < c.args.nodes) × (c.loop-v.v < 256) = (says_lt also says_lt).0 c.loop-v-test.true in
+    let on = another c.loop-v.v c.args.nodes c.loop-v-test.true in
     omega (arith, on.1)
 
 pub bounds-zone-v : goal.bounds-zone-v
 bounds-zone-v c =
-    -- there is another node, and a row for it
-    let on : (c.loop-v.v < c.args.nodes) × (c.loop-v.v < 256) = (says_lt also says_lt).0 c.loop-v-test.true in
+    let on = another c.loop-v.v c.args.nodes c.loop-v-test.true in
     on.1
 
 pub offset_bounds-kw-v : goal.offset_bounds-kw-v
 offset_bounds-kw-v c =
-    -- there is another node, and a row for it
-    let on : (c.loop-v.v < c.args.nodes) × (c.loop-v.v < 256) = (says_lt also says_lt).0 c.loop-v-test.true in
+    let on = another c.loop-v.v c.args.nodes c.loop-v-test.true in
     omega (arith, on.1)
 
 pub bounds-kw-v : goal.bounds-kw-v
 bounds-kw-v c =
-    -- there is another node, and a row for it
-    let on : (c.loop-v.v < c.args.nodes) × (c.loop-v.v < 256) = (says_lt also says_lt).0 c.loop-v-test.true in
+    let on = another c.loop-v.v c.args.nodes c.loop-v-test.true in
     on.1
 
 pub overflow_add-v : goal.overflow_add-v
@@ -42,9 +45,7 @@ bounds-sums-slot c = omega arith
 
 pub overflow_add-sums : goal.overflow_add-sums
 overflow_add-sums c =
-    -- there is another node, and a row for it
-    let on : (c.loop-v.v < c.args.nodes) × (c.loop-v.v < 256) = (says_lt also says_lt).0 c.loop-v-test.true in
-    let t = c.before.before.before in
+    let on = another c.loop-v.v c.args.nodes c.loop-v-test.true in
     omega (arith, sums_fit c.args.zone c.args.kw c.loop-v.v c.slot_of-slot.result c.loop-v.invariant.2 c.kept-more.ensures on.1 (omega arith))
 
 pub bounds-sums-slot-then-slot-lt32 : goal.bounds-sums-slot-then-slot-lt32
@@ -52,15 +53,12 @@ bounds-sums-slot-then-slot-lt32 c = omega arith
 
 pub loop-v-smaller-then-slot-lt32 : goal.loop-v-smaller-then-slot-lt32
 loop-v-smaller-then-slot-lt32 c =
-    -- there is another node, and a row for it
-    let on : (c.loop-v.v < c.args.nodes) × (c.loop-v.v < 256) = (says_lt also says_lt).0 c.loop-v-test.true in
+    let on = another c.loop-v.v c.args.nodes c.loop-v-test.true in
     omega (arith, on.1)
 
 pub loop-v-preserved-then-slot-lt32 : goal.loop-v-preserved-then-slot-lt32
 loop-v-preserved-then-slot-lt32 c =
-    -- there is another node, and a row for it
-    let on : (c.loop-v.v < c.args.nodes) × (c.loop-v.v < 256) = (says_lt also says_lt).0 c.loop-v-test.true in
-    let t = c.before.before in
+    let on = another c.loop-v.v c.args.nodes c.loop-v-test.true in
     let a = c.args in (
       omega (arith, on.0),
       omega (arith, on.1),
@@ -69,15 +67,12 @@ loop-v-preserved-then-slot-lt32 c =
 
 pub loop-v-smaller : goal.loop-v-smaller
 loop-v-smaller c =
-    -- there is another node, and a row for it
-    let on : (c.loop-v.v < c.args.nodes) × (c.loop-v.v < 256) = (says_lt also says_lt).0 c.loop-v-test.true in
+    let on = another c.loop-v.v c.args.nodes c.loop-v-test.true in
     omega (arith, on.1)
 
 pub loop-v-preserved : goal.loop-v-preserved
 loop-v-preserved c =
-    -- there is another node, and a row for it
-    let on : (c.loop-v.v < c.args.nodes) × (c.loop-v.v < 256) = (says_lt also says_lt).0 c.loop-v-test.true in
-    let t = c.before.before in
+    let on = another c.loop-v.v c.args.nodes c.loop-v-test.true in
     let a = c.args in (
       omega (arith, on.0),
       omega (arith, on.1),
