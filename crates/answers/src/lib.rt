@@ -2,41 +2,23 @@
 #![tactic(auto)]
 
 ghost use Rattle.std.specs.Prelude.{◌≡◌};
-ghost use Rattle.meaning.specs.declared.System.TheVariants.{Base, Wider};
-ghost use Rattle.meaning.specs.declared.Answer.TheVariants.{Refused};
+ghost use Rattle.std.specs.Prelude.{Err};
 ghost use Rattle.meaning.specs.Editions.{system_number};
 ghost use Rattle.meaning.specs.Answers.{values, ◌or_else◌};
 
 use meaning::{Answer, Background, Judgement, Refusal, System, Values};
 
-// The number of a background's base system.
-fn base_number(background: Background) -> usize
-    ensures { result ≡ system_number (Base background) }
-{
-    match background {
-        Background::YearRound => 1,
-        Background::Peak => 4,
-    }
-}
-
-// The number of its wider system.
-fn wider_number(background: Background) -> usize
-    ensures { result ≡ system_number (Wider background) }
-{
-    match background {
-        Background::YearRound => 2,
-        Background::Peak => 5,
-    }
-}
-
 // The number of a system.
+#[tactic(auto, unfolding(meaning::specs::Editions::system_number))]
 fn system_number(system: System) -> usize
     ensures { result ≡ system_number system }
 {
     match system {
-        System::Base(background) => base_number(background),
-        System::Wider(background) => wider_number(background),
+        System::Base(Background::YearRound) => 1,
+        System::Wider(Background::YearRound) => 2,
         System::Local => 3,
+        System::Base(Background::Peak) => 4,
+        System::Wider(Background::Peak) => 5,
     }
 }
 
@@ -45,16 +27,16 @@ fn refusal(number: usize, system: usize, row: usize) -> Values
     ensures { result ≡ Rattle.meaning.specs.Answers.refusal number system row }
 {
     Values {
-        number: number,
-        system: system,
-        row: row,
+        number,
+        system,
+        row,
         length: 0,
     }
 }
 
 // What a refusal carries: a row of 01's table, or one of 02's numbers.
 pub fn of_refusal(cause: Refusal) -> Values
-    ensures { result ≡ values (Refused cause) }
+    ensures { result ≡ values (Err cause) }
 {
     match cause {
         Refusal::BadFile => refusal(1, 0, 0),
@@ -67,7 +49,11 @@ pub fn of_refusal(cause: Refusal) -> Values
         Refusal::BadNumber(system, row) => refusal(8, system_number(system), row),
         Refusal::Unbalanced(system, row) => refusal(9, system_number(system), row),
         Refusal::MissesTooHigh(system) => refusal(10, system_number(system), 0),
-        Refusal::DirectionInDoubt(background, row) => refusal(11, base_number(background), row),
+        Refusal::DirectionInDoubt(background, row) => refusal(
+            11,
+            system_number(System::Base(background)),
+            row,
+        ),
         Refusal::ShortBuffer => refusal(12, 0, 0),
         Refusal::NoChargeableTec => refusal(13, 0, 0),
         Refusal::Unscalable => refusal(14, 0, 0),
@@ -81,13 +67,13 @@ pub fn values(answer: Answer) -> Values
     ensures { result ≡ values answer }
 {
     match answer {
-        Answer::Accepted(length) => Values {
+        Ok(length) => Values {
             number: 0,
             system: 0,
             row: 0,
-            length: length,
+            length,
         },
-        Answer::Refused(cause) => of_refusal(cause),
+        Err(cause) => of_refusal(cause),
     }
 }
 
@@ -95,8 +81,6 @@ pub fn values(answer: Answer) -> Values
 pub fn or_else(first: Judgement, second: Judgement) -> Judgement
     ensures { result ≡ first or_else second }
 {
-    match first {
-        Judgement::Passes => second,
-        Judgement::Stops(cause) => Judgement::Stops(cause),
-    }
+    first?;
+    second
 }

@@ -1,5 +1,5 @@
 -- Sets as words: what one bit more, two sets together, the ones and the trailing zeros say of the numbers in a set.
-use Prim.Native.Nat.{ℕ, zero, suc, ◌+◌, ◌*◌, ◌-◌, ◌/◌, ◌%◌, ◌^◌, ◌<◌, ◌≤◌, max}
+use Prim.Native.Nat.{ℕ, zero, suc, ◌+◌, ◌*◌, ◌-◌, ◌/◌, ◌%◌, ◌^◌, ◌<◌, ◌≤◌, max, min}
 use mathlib.Core.Path.{◌≡◌, refl, sym, ap, ◌∙◌}
 use mathlib.Core.Logic.{◌≢◌}
 use mathlib.Core.List.{List, [], ◌∷◌}
@@ -58,26 +58,16 @@ less_says (suc zero) (suc zero) h k = refl
 less_says (suc (suc x)) y h k = absurd (omega arith)
 less_says (suc zero) (suc (suc y)) h k = absurd (omega arith)
 
-module _ (a b : List ℕ) (la : length a ≡ 4) (lb : length b ≡ 4) where
-  abbrev Less : (word i : ℕ) → Type 0
-  Less word i = (k : ℕ) → bit word k ≡ bit (get_or a i 0) k - bit (get_or b i 0) k
-
-  pub without_has : (p q r s : ℕ) → Less p 0 → Less q 1 → Less r 2 → Less s 3 → SetOf (p ∷ q ∷ r ∷ s ∷ []) (λ m. has a m && not (has b m))
-  without_has p q r s f g h j = by_words (λ x y. x - y) (λ x y. x && not y) refl less_says a b _ la lb refl each
-    where
-      each : (i k : ℕ) → i < 4 → bit (get_or (p ∷ q ∷ r ∷ s ∷ []) i 0) k ≡ bit (get_or a i 0) k - bit (get_or b i 0) k
-      each zero k l = f k
-      each (suc zero) k l = g k
-      each (suc (suc zero)) k l = h k
-      each (suc (suc (suc zero))) k l = j k
-      each (suc (suc (suc (suc i)))) k l = absurd (omega arith)
+pub without_has : (a b r : List ℕ) → length a ≡ 4 → length b ≡ 4 → length r ≡ 4
+    → ((i k : ℕ) → i < 4 → bit (get_or r i 0) k ≡ bit (get_or a i 0) k - bit (get_or b i 0) k) → SetOf r (λ m. has a m && not (has b m))
+without_has = by_words (λ x y. x - y) (λ x y. x && not y) refl less_says
 
 -- ---- the numbers of one word
 pub in_word_lem : (w word n : ℕ) → n / 64 ≡ w → eqb (bit word (n % 64)) 1 ≡ in_word w word n
 unfolding in_word
 in_word_lem w word n q = rw (eq-eqb (n / 64) w q) refl
 
-pub in_other : (w word n : ℕ) → n / 64 ≢ w → false ≡ in_word w word n
+pub in_other : (w word n : ℕ) → n / 64 ≢ w → eqb (n / 64) w ≡ in_word w word n
 unfolding in_word
 in_other w word n q = rw (ne_eqb (n / 64) w q) refl
 
@@ -256,15 +246,12 @@ module _ (words missing : List ℕ) (l : length words ≡ 4) (holds : SetOf miss
   before : {v : ℕ} → IsFirst (has missing) 256 v → (j : ℕ) → j < v → not (has words j) ≡ false
   before f j h = sym (among j (omega (arith, f.within))) ∙ f.before j h
 
-  pub missing_found : {v n : ℕ} → IsFirst (has missing) 256 v → v < n → IsFirst (λ m. not (has words m)) n v
-  missing_found {v} {n} f h = record { within = omega arith; before = before f; here = λ k. here (dec_lt v 256) }
+  pub missing_least : {v n r : ℕ} → IsFirst (has missing) 256 v → r ≡ min v n → IsFirst (λ m. not (has words m)) n r
+  missing_least {v} {n} {r} f e = record { within = omega arith; before = λ j h. before f j (omega arith); here = λ k. let q : r ≡ v = omega arith in rw q (here (dec_lt v 256)) }
     where
       here : Dec (v < 256) → not (has words v) ≡ true
       here (yes g) = sym (among v g) ∙ f.here g
       here (no g) = rw (has_past words v (omega arith)) refl
-
-  pub missing_none : {v n : ℕ} → IsFirst (has missing) 256 v → n ≤ v → IsFirst (λ m. not (has words m)) n n
-  missing_none f h = record { within = omega arith; before = λ j k. before f j (omega arith); here = λ k. absurd (omega arith) }
 
 -- ---- a set is what it holds: of four words of 64 bits no two hold the same numbers
 abbrev pub Words : List ℕ → Type 0

@@ -8,26 +8,20 @@ ghost use Rattle.bits.specs.Sets.{has, in_word, SetOf};
 
 mod words;
 
+use std::array;
+
 // Whether n is one of the numbers of word w: the word shifted, all but the last bit masked off.
 pub fn in_word(w: usize, word: u64, n: usize) -> bool
     ensures { result ≡ in_word w word n }
 {
-    if n / 64 == w {
-        let k = (n % 64) as u64;
-        return (word >> k) & 1 == 1;
-    }
-    false
+    n / 64 == w && (word >> (n % 64)) & 1 == 1
 }
 
 // Whether n is in the set.
 pub fn has(set: [u64; 4], n: usize) -> bool
     ensures { result ≡ has set n }
 {
-    if n < 256 {
-        let w = n / 64;
-        return in_word(w, set[w], n);
-    }
-    false
+    n < 256 && in_word(n / 64, set[n / 64], n)
 }
 
 // The set with the numbers of word w; past the last word there is no place for them.
@@ -36,8 +30,7 @@ pub fn with_word(set: [u64; 4], w: usize, word: u64) -> [u64; 4]
 {
     let mut more = set;
     if w < 4 {
-        more[w] = more[w] | word;
-        return more;
+        more[w] |= word;
     }
     more
 }
@@ -46,20 +39,14 @@ pub fn with_word(set: [u64; 4], w: usize, word: u64) -> [u64; 4]
 pub fn with(set: [u64; 4], n: usize) -> [u64; 4]
     ensures { SetOf result (λ m. has set m || (eqb m n && ltb m 256)) }
 {
-    let k = (n % 64) as u64;
-    with_word(set, n / 64, 1u64 << k)
+    with_word(set, n / 64, 1 << (n % 64))
 }
 
 // What is in the first set and not in the second.
 pub fn without(a: [u64; 4], b: [u64; 4]) -> [u64; 4]
     ensures { SetOf result (λ m. has a m && not (has b m)) }
 {
-    [
-        words::less(a[0], b[0]),
-        words::less(a[1], b[1]),
-        words::less(a[2], b[2]),
-        words::less(a[3], b[3]),
-    ]
+    array::from_fn(|w| words::less(a[w], b[w]))
 }
 
 // The numbers of word w that are in the first set and not in the second; past the last word there are none.
@@ -83,13 +70,10 @@ pub fn size(set: [u64; 4]) -> usize
 pub fn lowest(set: [u64; 4]) -> usize
     ensures { IsFirst (has set) 256 result }
 {
-    let mut i: usize = 0;
-    while i < 4 {
-        let word = set[i];
-        if word != 0 {
-            return 64 * i + words::trailing(word);
+    for (i, word) in set.iter().enumerate() {
+        if *word != 0 {
+            return 64 * i + words::trailing(*word);
         }
-        i += 1;
     }
     256
 }
@@ -98,9 +82,5 @@ pub fn lowest(set: [u64; 4]) -> usize
 pub fn first_missing(set: [u64; 4], n: usize) -> usize
     ensures { IsFirst (λ m. not (has set m)) n result }
 {
-    let missing = lowest(without([18446744073709551615u64; 4], set));
-    if missing < n {
-        return missing;
-    }
-    n
+    lowest(without([u64::MAX; 4], set)).min(n)
 }

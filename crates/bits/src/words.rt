@@ -8,7 +8,7 @@ ghost use Rattle.bits.specs.Words.{Lowest};
 pub fn less(word: u64, other: u64) -> u64
     ensures { (k : ℕ) → bit result k ≡ bit word k - bit other k }
 {
-    word ^ (word & other)
+    word & !other
 }
 
 // How many of a word's bits are 1.

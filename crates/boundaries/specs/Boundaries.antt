@@ -1,14 +1,25 @@
 -- What a share file says of a case and the split of its zones' metres, over arrays of 32 as code has them: row i is zone i + 1. A number out of 01's ranges counts as nothing.
-use Rattle.std.specs.Prelude.{cond, List, ℕ, suc, min, leb, ℤ, pos, nat_abs}
+use Rattle.std.specs.Prelude.{cond, false, List, ℕ, suc, min, leb, ℤ, pos, nat_abs, replicate}
 use Rattle.std.proofs.Math.Option.{Option, none, some}
 use Rattle.meaning.specs.declared.Kw.{Kw}
 use Rattle.meaning.specs.declared.Metres.{Metres}
 use Rattle.meaning.specs.Rows.{rows}
-use Rattle.meaning.specs.Columns.{kw_at, metres_at, distance}
+use Rattle.meaning.specs.Columns.{kilowatts, kw_at, metres_at, distance}
 use Rattle.meaning.specs.Sharing.{Sharing, shared_metres, not_shared_metres}
 use Rattle.chains.specs.Columns.{of_zone, next_in, zone_kw}
 use Rattle.boundaries.specs.declared.Shares.{Shares}
 use Rattle.boundaries.specs.declared.Split.{Split}
+
+-- of a file that is not in force, and of a side that shares nothing
+abbrev pub no_shares : Shares
+no_shares =
+    record {
+      in_force = false;
+      next = replicate 32 0;
+      low = replicate 32 (kilowatts 0);
+      carbon = replicate 32 (kilowatts 0);
+      kw = replicate 32 (kilowatts 0);
+    }
 
 -- kilowatts up to 10^8, metres up to 10^7
 unfoldable pub up_to : ℕ → ℕ

@@ -1,7 +1,6 @@
 // One zone's number from an array; nothing of what is no zone or out of range.
 ghost use Rattle.std.specs.Prelude.{◌≡◌};
 ghost use Rattle.boundaries.specs.Boundaries.{up_to, close, kept, near};
-ghost use Rattle.boundaries.specs.Parts.{part_in};
 
 use meaning::{Kw, Metres};
 
@@ -26,33 +25,15 @@ fn close(m: i64) -> i64
 }
 
 // A zone's kilowatts.
-pub fn kw_at(kw: [Kw; 32], z: usize) -> u64
-    ensures { result ≡ kept kw z }
+pub fn kw_at(kw: &[Kw; 32], z: usize) -> u64
+    ensures { result ≡ kept kw.now z }
 {
-    if (1 <= z) & (z <= 32) {
-        let x = kw[z - 1];
-        return up_to(x.0);
-    }
-    0
+    up_to(chains::of_zone(kw, z, Kw(0)).0)
 }
 
 // Its metres.
-pub fn metres_at(metres: [Metres; 32], z: usize) -> i64
-    ensures { result ≡ near metres z }
+pub fn metres_at(metres: &[Metres; 32], z: usize) -> i64
+    ensures { result ≡ near metres.now z }
 {
-    if (1 <= z) & (z <= 32) {
-        let m = metres[z - 1];
-        return close(m.0);
-    }
-    0
-}
-
-// The part of its boundary.
-pub fn part_at(parts: &[i64; 32], z: usize) -> i64
-    ensures { result ≡ part_in parts.now z }
-{
-    if (1 <= z) & (z <= 32) {
-        return parts[z - 1];
-    }
-    0
+    close(chains::of_zone(metres, z, Metres(0)).0)
 }

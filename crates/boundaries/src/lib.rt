@@ -6,9 +6,10 @@ mod part;
 mod sums;
 
 ghost use Rattle.std.specs.Prelude.{◌≡◌};
-ghost use Rattle.boundaries.specs.Boundaries.{splits};
+ghost use Rattle.boundaries.specs.Boundaries.{no_shares, splits};
 
 use meaning::{Kw, Metres};
+use part::Zones;
 
 // What a share file says of a case: whether it is in force; and of each zone the next one inward, low carbon and carbon TEC, and the kilowatts that pay its shared tariff.
 #[derive(Clone, Copy)]
@@ -18,6 +19,22 @@ pub struct Shares {
     pub low: [Kw; 32],
     pub carbon: [Kw; 32],
     pub kw: [Kw; 32],
+}
+
+impl Shares {
+    // Of a file that is not in force, and of a side that shares nothing.
+    pub fn none() -> Shares
+        ensures { result ≡ no_shares }
+    {
+        let nothing = [Kw(0); 32];
+        Shares {
+            in_force: false,
+            next: [0; 32],
+            low: nothing,
+            carbon: nothing,
+            kw: nothing,
+        }
+    }
 }
 
 // A zone's metres in two parts.
@@ -31,21 +48,22 @@ pub struct Split {
 pub fn split_metres(shares: Shares, zones: usize, metres: [Metres; 32]) -> [Split; 32]
     ensures { result ≡ splits shares zones metres }
 {
-    let next = shares.next;
-    let low = shares.low;
-    let carbon = shares.carbon;
-    let count = sums::zones_in(shares.in_force, zones);
-    let parts = sums::parts(&next, count, low, carbon, metres);
+    let zones = Zones {
+        count: sums::zones_in(shares.in_force, zones),
+        next: &shares.next,
+        low: &shares.low,
+        carbon: &shares.carbon,
+        metres: &metres,
+    };
+    let parts = zones.parts();
     let none = Metres(0);
     let nothing = Split {
         shared: none,
         not_shared: none,
     };
     let mut all = [nothing; 32];
-    let mut i = 0;
-    while i < 32 {
-        all[i] = sums::one(&next, count, &parts, metres, i + 1);
-        i += 1;
+    for i in 0..32 {
+        all[i] = zones.one(&parts, i + 1);
     }
     all
 }

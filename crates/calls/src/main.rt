@@ -4,24 +4,31 @@
 
 ghost use Rattle.std.specs.Prelude.{◌==◌, ◌≡◌, ◌≤◌, count_by, IfOk, length};
 
-use meaning::Refusal;
+use meaning::{Refusal, Solutions};
 use std::io;
 use std::io::Read;
 
+// A case, a run for each of its systems, and its share file.
+#[derive(Clone, Copy)]
+struct Case<'a> {
+    file: &'a [u8],
+    base: &'a [i64],
+    wider: &'a [i64],
+    local: &'a [i64],
+    peak_base: &'a [i64],
+    peak_wider: &'a [i64],
+    share: &'a [u8],
+}
+
 // Six numbers of a solution, and a seventh that is one too many.
 fn run_at(file: &[u8], at: usize) -> [i64; 7] {
-    if at > 1000 {
-        return [0; 7];
+    let mut run = [0; 7];
+    if at <= 1000 {
+        for k in 0..6 {
+            run[k] = fields::i64_at(file, at + 8 * k);
+        }
     }
-    [
-        fields::i64_at(file, at),
-        fields::i64_at(file, at + 8),
-        fields::i64_at(file, at + 16),
-        fields::i64_at(file, at + 24),
-        fields::i64_at(file, at + 32),
-        fields::i64_at(file, at + 40),
-        0,
-    ]
+    run
 }
 
 // How many bytes of a buffer are still 7.
@@ -43,18 +50,24 @@ fn print_length(rt: &impl Print, length: usize, out: &[u8]) -> io::Result<()> {
 }
 
 // One call: what it answers, and how much of the buffer is as it was.
-fn call_all(
-    rt: &impl Print,
-    file: &[u8],
-    base: &[i64],
-    wider: &[i64],
-    local: &[i64],
-    peak_base: &[i64],
-    peak_wider: &[i64],
-    share: &[u8],
-    out: &mut [u8],
-) -> io::Result<()> {
-    let answer = sheet::write(file, base, wider, local, peak_base, peak_wider, share, out);
+fn call(rt: &impl Print, case: Case, out: &mut [u8]) -> io::Result<()> {
+    let Case {
+        file,
+        base,
+        wider,
+        local,
+        peak_base,
+        peak_wider,
+        share,
+    } = case;
+    let runs = Solutions {
+        base,
+        wider,
+        local,
+        peak_base,
+        peak_wider,
+    };
+    let answer = sheet::write(file, &runs, share, out);
     let carried = answers::values(answer);
     print_number(rt, carried.number)?;
     print_number(rt, carried.system)?;
@@ -62,93 +75,125 @@ fn call_all(
     print_length(rt, carried.length, out)
 }
 
-// A call with no run for peak and no share file.
-fn call(
-    rt: &impl Print,
-    file: &[u8],
-    base: &[i64],
-    wider: &[i64],
-    local: &[i64],
-    out: &mut [u8],
-) -> io::Result<()> {
-    call_all(rt, file, base, wider, local, &[], &[], &[], out)
-}
-
 // A call with a buffer of 200 bytes.
-fn call_with_room(
-    rt: &impl Print,
-    file: &[u8],
-    base: &[i64],
-    wider: &[i64],
-    local: &[i64],
-) -> io::Result<()> {
+fn call_with_room(rt: &impl Print, case: Case) -> io::Result<()> {
     let mut out = [7u8; 200];
-    call(rt, file, base, wider, local, &mut out)
+    call(rt, case, &mut out)
 }
 
 // An exact fit, one byte too few, no byte, and more than enough.
-fn buffers(
-    rt: &impl Print,
-    file: &[u8],
-    base: &[i64],
-    wider: &[i64],
-    local: &[i64],
-) -> io::Result<()> {
+fn buffers(rt: &impl Print, case: Case) -> io::Result<()> {
     let mut exact = [7u8; 117];
-    call(rt, file, base, wider, local, &mut exact)?;
+    call(rt, case, &mut exact)?;
     rt.write_all(&exact)?;
     let mut short = [7u8; 116];
-    call(rt, file, base, wider, local, &mut short)?;
+    call(rt, case, &mut short)?;
     let mut none = [7u8; 0];
-    call(rt, file, base, wider, local, &mut none)?;
-    call_with_room(rt, file, base, wider, local)
+    call(rt, case, &mut none)?;
+    call_with_room(rt, case)
 }
 
 // A run too short, one too long, an empty one, two exchanged, and an empty file.
-fn wrong_runs(
-    rt: &impl Print,
-    file: &[u8],
-    base: &[i64],
-    wider: &[i64],
-    local: &[i64],
-    long: &[i64],
-) -> io::Result<()> {
+fn wrong_runs(rt: &impl Print, case: Case, long: &[i64]) -> io::Result<()> {
+    let Case {
+        file,
+        base,
+        wider,
+        local,
+        ..
+    } = case;
     if base.len() < 5 {
         return Ok(());
     }
-    call_with_room(rt, file, &base[..5], wider, local)?;
-    call_with_room(rt, file, base, long, local)?;
-    call_with_room(rt, file, base, wider, &local[..0])?;
-    call_with_room(rt, file, wider, base, local)?;
-    call_with_room(rt, &file[..0], base, wider, local)
+    call_with_room(
+        rt,
+        Case {
+            base: &base[..5],
+            ..case
+        },
+    )?;
+    call_with_room(
+        rt,
+        Case {
+            wider: long,
+            ..case
+        },
+    )?;
+    call_with_room(
+        rt,
+        Case {
+            local: &local[..0],
+            ..case
+        },
+    )?;
+    call_with_room(
+        rt,
+        Case {
+            base: wider,
+            wider: base,
+            ..case
+        },
+    )?;
+    call_with_room(
+        rt,
+        Case {
+            file: &file[..0],
+            ..case
+        },
+    )
 }
 
 // A share file, which edition 1 does not judge: one byte of it, and all of the case.
-fn share_files(
-    rt: &impl Print,
-    file: &[u8],
-    base: &[i64],
-    wider: &[i64],
-    local: &[i64],
-) -> io::Result<()> {
+fn share_files(rt: &impl Print, case: Case) -> io::Result<()> {
     let mut out = [7u8; 200];
-    call_all(rt, file, base, wider, local, &[], &[], b"s", &mut out)?;
-    call_all(rt, file, base, wider, local, &[], &[], file, &mut out)
+    call(
+        rt,
+        Case {
+            share: b"s",
+            ..case
+        },
+        &mut out,
+    )?;
+    call(
+        rt,
+        Case {
+            share: case.file,
+            ..case
+        },
+        &mut out,
+    )
 }
 
 // Runs for peak, which edition 1 has not: one, the other, and both; then share files.
-fn peak_runs(
-    rt: &impl Print,
-    file: &[u8],
-    base: &[i64],
-    wider: &[i64],
-    local: &[i64],
-) -> io::Result<()> {
+fn peak_runs(rt: &impl Print, case: Case) -> io::Result<()> {
     let mut out = [7u8; 200];
-    call_all(rt, file, base, wider, local, base, &[], &[], &mut out)?;
-    call_all(rt, file, base, wider, local, &[], wider, &[], &mut out)?;
-    call_all(rt, file, base, wider, local, base, wider, &[], &mut out)?;
-    share_files(rt, file, base, wider, local)
+    let Case { base, wider, .. } = case;
+    call(
+        rt,
+        Case {
+            peak_base: base,
+            ..case
+        },
+        &mut out,
+    )?;
+    call(
+        rt,
+        Case {
+            peak_wider: wider,
+            ..case
+        },
+        &mut out,
+    )?;
+    call(
+        rt,
+        Case {
+            peak_base: base,
+            peak_wider: wider,
+            ..case
+        },
+        &mut out,
+    )?;
+    share_files(rt, case)
 }
 
 // The line of a refusal: how long it is, and how much of the buffer is as it was.
@@ -218,6 +263,7 @@ fn read_full<R: Read>(from: &mut R, buffer: &mut [u8]) -> io::Result<usize>
     ensures { IfOk result (λ count. count ≤ length buffer.new) }
 {
     let mut count = 0;
+    // No `for`: how much a read gives is not known before.
     while count < buffer.len() {
         let more = from.read(&mut buffer[count..])?;
         if more == 0 {
@@ -235,10 +281,18 @@ fn main(rt: HostRuntime) -> io::Result<()> {
     let base = run_at(file, 332);
     let wider = run_at(file, 380);
     let local = run_at(file, 428);
-    buffers(&rt, file, &base[..6], &wider[..6], &local[..6])?;
-    let long = run_at(file, 380);
-    wrong_runs(&rt, file, &base[..6], &wider[..6], &local[..6], &long)?;
-    peak_runs(&rt, file, &base[..6], &wider[..6], &local[..6])?;
+    let case = Case {
+        file,
+        base: &base[..6],
+        wider: &wider[..6],
+        local: &local[..6],
+        peak_base: &[],
+        peak_wider: &[],
+        share: &[],
+    };
+    buffers(&rt, case)?;
+    wrong_runs(&rt, case, &wider)?;
+    peak_runs(&rt, case)?;
     lines(&rt)?;
     walks(&rt)
 }

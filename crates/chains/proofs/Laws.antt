@@ -1,6 +1,7 @@
 -- Arrays of 32 as the file's numbers, and loops that walk a chain.
 use mathlib.Core.Path.{◌≡◌, refl, sym, ◌∙◌, ap, fun_ext}
-use mathlib.Core.Bool.{Bool, true, false, not, cond, true≢false, ◌&&◌, ◌||◌}
+use mathlib.Core.Bool.{Bool, true, false, not, cond, ◌&&◌, ◌||◌}
+use mathlib.Core.Option.{Option}
 use mathlib.Core.List.{List, [], ◌∷◌}
 use Prim.Native.Nat.{ℕ, zero, suc, ◌+◌, ◌*◌, ◌-◌, ◌≤◌, ◌<◌, min}
 use native.Mathlib.Omega.{arith}
@@ -8,22 +9,23 @@ use native.Mathlib.Numerals.{add-one}
 use native.Mathlib.Decide.{dec_lt, dec_le}
 use borrow.Author.Tests.{lt-ltb, le-ltb}
 use lib.Dec.{eqb, leb, ltb}
-use lib.ListN.{length}
+use lib.ListN.{length, replicate}
+use Rattle.std.specs.Prelude.{Some, None}
 use Rattle.meaning.specs.declared.Edition.{Edition}
 use Rattle.meaning.specs.declared.Edition.TheVariants.{First, Second}
 use Rattle.meaning.specs.declared.Kw.{Kw}
-use Rattle.meaning.specs.declared.Judgement.TheVariants.{Passes, Stops}
+use Rattle.std.specs.Prelude.{Ok, Err}
 use Rattle.meaning.specs.declared.Refusal.TheVariants.{BadShare}
-use Rattle.meaning.specs.Rows.{◌between◌and◌, found, any, all, lowest}
+use Rattle.meaning.specs.Rows.{◌between◌and◌, rows, found, any, failing}
 use Rattle.meaning.specs.Answers.{◌or_else◌, unless, at}
-use Rattle.meaning.specs.First.{IsFirst}
 use Rattle.meaning.specs.File.{u32}
 use Rattle.meaning.specs.Columns.{column, number_at}
 use Rattle.meaning.specs.Sharing.{in_force, next_inward, load_factor, after, passes, names_one_with_tec, names_with_tec, is_centre, second_centre, ended, sound_zone, sound_frame, share_file_stage}
-use Rattle.meaning.proofs.Rows.{Passed, passed_all, any_intro, rows_at, rows_same, lowest_same}
-use Rattle.meaning.proofs.First.{at_first, at_none}
-use Rattle.meaning.proofs.Says.{Says, ◌also◌, says_le, says_lt, says_eq, says_between, says_all}
+use Rattle.meaning.proofs.Rows.{Passed, passed_all, any_intro, rows_at, rows_same, rows_none, lowest_same}
+use Rattle.meaning.proofs.Says.{says_le, says_eq, says_between}
 use Rattle.meaning.proofs.Chains.{Inward, next_inward_lem, after_more, ended_later}
+use Rattle.chains.specs.Searches.{answered}
+use Rattle.chains.proofs.Searches.{answered_some, answered_none}
 use Rattle.chains.specs.Columns.{of_zone, next_in, zone_kw, inward_of, factors_of, stage_in}
 
 never : {b : Bool} → (b ≡ true → ⊥) → b ≡ false
@@ -31,31 +33,37 @@ never {b = true} f = absurd (f refl)
 never {b = false} f = refl
 
 -- ---- a zone's row of an array
-pub in_array : (z : ℕ) → (leb 1 z && leb z 32) ≡ true → (1 ≤ z) × (z ≤ 32)
-in_array z = (says_le {m = 1} {n = z} also says_le {m = z} {n = 32}).0
-
 -- a quantity that zones 1 to 32 alone have
 pub record OnlyZones {A : Type 0} (nothing : A) (f : ℕ → A) : Type 0 where
   pub none : f 0 ≡ nothing
   pub past : (z : ℕ) → 32 < z → f z ≡ nothing
 
 module _ {A : Type 0} (nothing : A) (row : ℕ → A) where
-  pub zone_in : (z : ℕ) → (leb 1 z && leb z 32) ≡ true → row (z - 1) ≡ of_zone nothing row z
-  unfolding of_zone ◌between◌and◌
-  zone_in z e = rw e refl
+  pub zone_in : (z : ℕ) → 1 ≤ z → z ≤ 32 → row (z - 1) ≡ of_zone nothing row z
+  unfolding of_zone
+  zone_in z h l = rw ((says_between {x = z} {low = 1} {high = 32}).1 (record { least = h; most = l })) refl
 
-  pub zone_out : (z : ℕ) → (leb 1 z && leb z 32) ≡ false → nothing ≡ of_zone nothing row z
-  unfolding of_zone ◌between◌and◌
-  zone_out z e = rw e refl
+  pub zone_out : (z : ℕ) → (1 ≤ z → z ≤ 32 → ⊥) → of_zone nothing row z ≡ nothing
+  unfolding of_zone
+  zone_out z h = rw (never {b = z between 1 and 32} (λ e. let r = says_between.0 e in h r.least r.most)) refl
 
   pub zone_row : (i : ℕ) → i < 32 → of_zone nothing row (suc i) ≡ row i
-  zone_row i h = sym (zone_in (suc i) ((says_le {m = 1} {n = suc i} also says_le {m = suc i} {n = 32}).1 (omega arith, h))) ∙ ap row (omega arith)
+  zone_row i h = sym (zone_in (suc i) (omega arith) h) ∙ ap row (omega arith)
 
   pub zone_none : of_zone nothing row 0 ≡ nothing
-  zone_none = sym (zone_out 0 (never (λ e. omega (arith, in_array 0 e))))
+  zone_none = zone_out 0 (λ h l. omega arith)
 
   pub zone_past : (z : ℕ) → 32 < z → of_zone nothing row z ≡ nothing
-  zone_past z h = sym (zone_out z (never (λ e. omega (arith, in_array z e))))
+  zone_past z h = zone_out z (λ k l. omega arith)
+
+  -- what is read of a row
+  pub zone_read : {B : Type 0} (f : A → B) (z : ℕ) → f (of_zone nothing row z) ≡ of_zone (f nothing) (λ i. f (row i)) z
+  unfolding of_zone
+  zone_read f z = go (z between 1 and 32)
+    where
+      go : (b : Bool) → f (cond b (row (z - 1)) nothing) ≡ cond b (f (row (z - 1))) (f nothing)
+      go true = refl
+      go false = refl
 
   -- what holds of the rows, and of nothing, holds of each zone
   pub zone_holds : (P : A → Type 0) → ((i : ℕ) → i < 32 → P (row i)) → P nothing → (z : ℕ) → P (of_zone nothing row z)
@@ -98,10 +106,10 @@ pub not_in_first : {e : Edition} (share : List ℕ) → e ≡ First → false �
 unfolding in_force
 not_in_first share first = rw first refl
 
-pub in_second : {e : Edition} (share : List ℕ) → e ≡ Second → leb 1 (length share) ≡ in_force e share
+pub in_second : {e : Edition} (share : List ℕ) → e ≡ Second → not (eqb (length share) 0) ≡ in_force e share
 unfolding in_force
 in_second [] second = rw second refl
-in_second (b ∷ bs) second = rw second ((says_le {m = 1} {n = length (b ∷ bs)}).1 (omega arith))
+in_second (b ∷ bs) second = rw (second, never {b = eqb (length (b ∷ bs)) 0} (λ e. omega (arith, (says_eq {m = length (b ∷ bs)} {n = 0}).0 e))) refl
 
 -- ---- loops that fill an array
 pub inward_filled : (share : List ℕ) (zones : ℕ) → column 0 32 zones (λ i. u32 share (4 * i)) ≡ inward_of share zones
@@ -114,38 +122,16 @@ inward_filled share zones = rows_same 32 _ _ (λ i l. one i (dec_lt i zones))
         (ap (λ (n : ℕ). u32 share (4 * n)) (omega arith))
     one i (no l) = simp (le-ltb i zones (omega arith), never {b = suc i between 1 and zones} (λ e. l (says_between.0 e).most))
 
--- the load factors so far; the loop is over at once where the zones are too many
-pub factors_on : (zones t : ℕ) → (leb zones 32 && ltb t 7) ≡ true → (zones ≤ 32) × (t < 7)
-factors_on zones t = (says_le {m = zones} {n = 32} also says_lt {m = t} {n = 7}).0
+-- the load factors; of none where the zones are too many
+pub factors_read : (share : List ℕ) (zones : ℕ) → zones ≤ 32 → rows 7 (λ t. load_factor share zones (suc t)) ≡ factors_of share zones
+unfolding factors_of
+factors_read share zones h = rw ((says_le {m = zones} {n = 32}).1 h) refl
 
-abbrev pub factor_of : (share : List ℕ) (zones t : ℕ) → ℕ
-factor_of share zones t = cond (leb zones 32) (load_factor share zones (suc t)) 0
-
-pub factor_read : (share : List ℕ) (zones t : ℕ) → zones ≤ 32 → u32 share (4 * (zones + t)) ≡ factor_of share zones t
-unfolding load_factor
-factor_read share zones t h = rw ((says_le {m = zones} {n = 32}).1 h) (ap (λ (n : ℕ). u32 share (4 * (zones + n))) (omega arith))
-
-pub factors_filled : (share : List ℕ) (zones t : ℕ) → t ≤ 7 → (leb zones 32 && ltb t 7) ≡ false → column 0 7 t (factor_of share zones) ≡ factors_of share zones
-unfolding column factors_of
-factors_filled share zones t h e = rows_same 7 _ _ (λ i l. one i (dec_le zones 32) (dec_lt i t) l)
-  where
-    one : (i : ℕ) → Dec (zones ≤ 32) → Dec (i < t) → i < 7 → cond (ltb i t) (factor_of share zones i) 0 ≡ factor_of share zones i
-    one i d (yes k) l = simp (lt-ltb i t k)
-    one i (yes f) (no k) l = absurd (true≢false (sym ((says_le {m = zones} {n = 32} also says_lt {m = t} {n = 7}).1 (f, omega arith)) ∙ e))
-    one i (no f) (no k) l = simp (le-ltb i t (omega arith), never {b = leb zones 32} (λ q. f (says_le.0 q)))
+pub factors_none : (share : List ℕ) (zones : ℕ) → 32 < zones → replicate 7 0 ≡ factors_of share zones
+unfolding factors_of
+factors_none share zones h = rows_none 7 _ 0 (λ t l. rw (never {b = leb zones 32} (λ e. omega (arith, (says_le {m = zones} {n = 32}).0 e))) refl)
 
 -- ---- loops that walk a chain
-pub walks_on : (k n : ℕ) → (leb k n && leb k 32) ≡ true → (k ≤ n) × (k ≤ 32)
-walks_on k n = (says_le {m = k} {n = n} also says_le {m = k} {n = 32}).0
-
-pub walked : (k n : ℕ) → k ≤ suc n → k ≤ 33 → (leb k n && leb k 32) ≡ false → k ≡ suc (min n 32)
-walked k n h l e = go (dec_le k n) (dec_le k 32)
-  where
-    go : Dec (k ≤ n) → Dec (k ≤ 32) → k ≡ suc (min n 32)
-    go (yes a) (yes b) = absurd (true≢false (sym ((says_le {m = k} {n = n} also says_le {m = k} {n = 32}).1 (a, b)) ∙ e))
-    go (yes a) (no b) = omega arith
-    go (no a) c = omega arith
-
 pub after_on : (f : ℕ → ℕ) (k z : ℕ) {here more : ℕ} → here ≡ after f k z → more ≡ f here → more ≡ after f (k + 1) z
 after_on f k z e q = q ∙ ap f e ∙ sym (after_more f k z) ∙ ap (λ (n : ℕ). after f n z) (sym (add-one k))
 
@@ -163,9 +149,9 @@ abbrev pub Before : (next : List ℕ) (z b k : ℕ) → Type 0
 Before next z b k = Passed (λ j. eqb (after (next_in next) j z) b) k
 
 module _ (next : List ℕ) (n z b k : ℕ) {here : ℕ} (e : here ≡ after (next_in next) k z) where
-  pub passes_here : k ≤ n → k ≤ 32 → here ≡ b → true ≡ passes (next_in next) (min n 32) z b
+  pub passes_here : k ≤ min n 32 → here ≡ b → true ≡ passes (next_in next) (min n 32) z b
   unfolding passes
-  passes_here h l q = sym (any_intro (λ j. eqb (after (next_in next) j z) b) (suc (min n 32)) k (omega arith) (says_eq.1 (sym e ∙ q)))
+  passes_here h q = sym (any_intro (λ j. eqb (after (next_in next) j z) b) (suc (min n 32)) k (omega arith) (says_eq.1 (sym e ∙ q)))
 
   pub here_not : (here ≡ b → ⊥) → eqb (after (next_in next) k z) b ≡ false
   here_not f = never (λ t. f (e ∙ says_eq.0 t))
@@ -184,56 +170,35 @@ unfolding passes
 passes_none next n z b k e p = any_ends (rw e at p)
 
 -- ---- the frame
-pub factor_at : (share : List ℕ) (zones t : ℕ) → leb (u32 share (4 * (zones + t))) 1000 ≡ leb (load_factor share zones (suc t)) 1000
+pub factor_at : (share : List ℕ) (zones t : ℕ) → u32 share (4 * (zones + t)) ≡ load_factor share zones (suc t)
 unfolding load_factor
-factor_at share zones t = ap (λ (n : ℕ). leb (u32 share (4 * (zones + n))) 1000) (omega arith)
-
-module _ (test : ℕ → Bool) where
-  holds : (n : ℕ) → Says (all test n) ((i : ℕ) → i < n → test i ≡ true)
-  holds n = says_all {P = λ j. test j ≡ true} n (λ j. (λ x. x, λ x. x))
-
-  pub all_fails : (n i : ℕ) → i < n → test i ≡ false → false ≡ all test n
-  all_fails n i h e = sym (never (λ t. true≢false (sym ((holds n).0 t i h) ∙ e)))
-
-  pub all_pass : (n : ℕ) → ((i : ℕ) → i < n → test i ≡ true) → true ≡ all test n
-  all_pass n h = sym ((holds n).1 h)
-
-  -- one more that passes
-  pub all_more : (i : ℕ) → ((j : ℕ) → j < i → test j ≡ true) → test i ≡ true → (j : ℕ) → j < i + 1 → test j ≡ true
-  all_more i h e j l = go (dec_lt j i)
-    where
-      go : Dec (j < i) → test j ≡ true
-      go (yes k) = h j k
-      go (no k) = let q : j ≡ i = omega arith in rw q e
-
-pub not_true : {b : Bool} → not b ≡ true → b ≡ false
-not_true {b = true} e = sym e
-not_true {b = false} e = refl
-
-pub not_false : {b : Bool} → not b ≡ false → b ≡ true
-not_false {b = true} e = refl
-not_false {b = false} e = sym e
+factor_at share zones t = ap (λ (n : ℕ). u32 share (4 * (zones + n))) (omega arith)
 
 -- ---- the answer
-pub stage_out : (share : List ℕ) (zones : ℕ) (tec : List Kw) → 32 < zones → Stops (BadShare 0) ≡ stage_in share zones tec
+pub stage_out : (share : List ℕ) (zones : ℕ) (tec : List Kw) → 32 < zones → Err (BadShare 0) ≡ stage_in share zones tec
 unfolding stage_in
 stage_out share zones tec h = rw (never {b = leb zones 32} (λ e. omega (arith, (says_le {m = zones} {n = 32}).0 e))) refl
 
 module _ (share : List ℕ) (zones : ℕ) (tec : List Kw) (h : zones ≤ 32) where
-  pub stage_frame : sound_frame share zones ≡ false → Stops (BadShare 0) ≡ stage_in share zones tec
+  pub stage_frame : sound_frame share zones ≡ false → Err (BadShare 0) ≡ stage_in share zones tec
   unfolding share_file_stage unless ◌or_else◌
   stage_frame e = sym (stage_is share zones tec h ∙ rw e refl)
 
-  module _ (sound : sound_frame share zones ≡ true) {r : ℕ} (f : IsFirst (λ i. not (sound_zone zones (zone_kw tec) (next_in (inward_of share zones)) (suc i))) zones r) where
-    zone_stage : stage_in share zones tec ≡ at (lowest (λ i. not (sound_zone zones (zone_kw tec) (next_in (inward_of share zones)) (suc i))) zones) BadShare
+  module _ (sound : sound_frame share zones ≡ true) where
+    zone_stage : stage_in share zones tec ≡ at (failing (λ i. sound_zone zones (zone_kw tec) (next_in (inward_of share zones)) (suc i)) zones) BadShare
     unfolding share_file_stage unless ◌or_else◌
     zone_stage = stage_is share zones tec h ∙ rw (sound, same_next share zones h) refl
 
-    pub stage_zone : r < zones → Stops (BadShare (r + 1)) ≡ stage_in share zones tec
-    stage_zone l = at_first BadShare f l ∙ sym zone_stage
+    abbrev found_in : Option ℕ
+    found_in = failing (λ i. sound_zone zones (zone_kw tec) (next_in (inward_of share zones)) (suc i)) zones
 
-    pub stage_passes : zones ≤ r → Passes ≡ stage_in share zones tec
-    stage_passes l = at_none BadShare f l ∙ sym zone_stage
+    pub stage_zone : {i : ℕ} → answered found_in ≡ Some i → Err (BadShare (i + 1)) ≡ stage_in share zones tec
+    unfolding at
+    stage_zone {i = i} e = sym (zone_stage ∙ rw (answered_some e, add-one i) refl)
+
+    pub stage_passes : answered found_in ≡ None → Ok tt ≡ stage_in share zones tec
+    unfolding at
+    stage_passes e = sym (zone_stage ∙ rw (answered_none e) refl)
 
 -- ---- 16 asks for the TEC of zones 1 to `zones` alone
 module _ (zones : ℕ) (tec other : ℕ → ℕ) (next : ℕ → ℕ) (same : (z : ℕ) → 1 ≤ z → z ≤ zones → tec z ≡ other z) where

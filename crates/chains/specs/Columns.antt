@@ -1,8 +1,8 @@
 -- What a share file says, as code has it: arrays of 32, row i for zone i + 1.
 use Rattle.std.specs.Prelude.{cond, List, ℕ, suc, ◌-◌, leb}
 use Rattle.meaning.specs.declared.Kw.{Kw}
-use Rattle.meaning.specs.declared.Judgement.{Judgement}
-use Rattle.meaning.specs.declared.Judgement.TheVariants.{Stops}
+use Rattle.meaning.specs.Answers.{Judgement}
+use Rattle.std.specs.Prelude.{Err}
 use Rattle.meaning.specs.declared.Refusal.TheVariants.{BadShare}
 use Rattle.meaning.specs.Rows.{◌between◌and◌, rows}
 use Rattle.meaning.specs.Columns.{number_at, kw_at}
@@ -27,4 +27,4 @@ factors_of share zones = rows 7 (λ t. cond (leb zones 32) (load_factor share zo
 
 -- 16; more zones than 01 has are a wrong length
 unfoldable pub stage_in : (share : List ℕ) (zones : ℕ) (tec : List Kw) → Judgement
-stage_in share zones tec = cond (leb zones 32) (share_file_stage share zones (zone_kw tec)) (Stops (BadShare 0))
+stage_in share zones tec = cond (leb zones 32) (share_file_stage share zones (zone_kw tec)) (Err (BadShare 0))

@@ -4,11 +4,13 @@
 mod frame;
 mod zone;
 
-ghost use Rattle.std.specs.Prelude.{◌≡◌, min};
+ghost use Rattle.std.specs.Prelude.{◌≡◌, get_or, min};
 ghost use Rattle.meaning.specs.Sharing.{in_force, passes as passes_of};
-ghost use Rattle.chains.specs.Columns.{next_in, inward_of, factors_of, stage_in};
+ghost use Rattle.chains.specs.Columns.{of_zone, next_in, inward_of, factors_of, stage_in};
 
 use meaning::{Edition, Judgement, Kw, Refusal};
+use std::array;
+use zone::Zones;
 
 // Whether the file counts: in edition 2, and not an empty one.
 pub fn in_force(edition: Edition, share: &[u8]) -> bool
@@ -16,7 +18,17 @@ pub fn in_force(edition: Edition, share: &[u8]) -> bool
 {
     match edition {
         Edition::First => false,
-        Edition::Second => 1 <= share.len(),
+        Edition::Second => !share.is_empty(),
+    }
+}
+
+// The row of a zone in an array; nothing of what is no zone.
+pub fn of_zone<T: Copy>(rows: &[T; 32], z: usize, nothing: T) -> T
+    ensures { result ≡ of_zone nothing (λ i. get_or rows.now i nothing) z }
+{
+    match z {
+        1..=32 => rows[z - 1],
+        _ => nothing,
     }
 }
 
@@ -24,11 +36,9 @@ pub fn in_force(edition: Edition, share: &[u8]) -> bool
 pub fn inward(share: &[u8], zones: usize) -> [usize; 32]
     ensures { result ≡ inward_of share.now zones }
 {
-    let mut all = [0usize; 32];
-    let mut i = 0;
-    while (i < zones) & (i < 32) {
+    let mut all = [0; 32];
+    for i in 0..zones.min(32) {
         all[i] = fields::u32_at(share, 4 * i);
-        i += 1;
     }
     all
 }
@@ -37,23 +47,17 @@ pub fn inward(share: &[u8], zones: usize) -> [usize; 32]
 pub fn load_factors(share: &[u8], zones: usize) -> [u64; 7]
     ensures { result ≡ factors_of share.now zones }
 {
-    let mut all = [0u64; 7];
-    let mut t = 0;
-    while (zones <= 32) & (t < 7) {
-        all[t] = fields::u32_at(share, 4 * (zones + t)) as u64;
-        t += 1;
+    if 32 < zones {
+        return [0; 7];
     }
-    all
+    array::from_fn(|t| frame::load_factor(share, zones, t))
 }
 
 // The next zone inward; what is no zone leads nowhere.
 pub fn step(next: &[usize; 32], z: usize) -> usize
     ensures { result ≡ next_in next.now z }
 {
-    if (1 <= z) & (z <= 32) {
-        return next[z - 1];
-    }
-    0
+    of_zone(next, z, 0)
 }
 
 // Whether the chain of zone z passes zone b. Where it has ended it passes no more.
@@ -61,8 +65,7 @@ pub fn passes(next: &[usize; 32], zones: usize, z: usize, b: usize) -> bool
     ensures { result ≡ passes_of (next_in next.now) (min zones 32) z b }
 {
     let mut here = z;
-    let mut k = 0;
-    while (k <= zones) & (k <= 32) {
+    for _ in 0..=zones.min(32) {
         if here == b {
             return true;
         }
@@ -70,7 +73,6 @@ pub fn passes(next: &[usize; 32], zones: usize, z: usize, b: usize) -> bool
             return false;
         }
         here = step(next, here);
-        k += 1;
     }
     false
 }
@@ -79,16 +81,17 @@ pub fn passes(next: &[usize; 32], zones: usize, z: usize, b: usize) -> bool
 pub fn stage(share: &[u8], zones: usize, tec: [Kw; 32]) -> Judgement
     ensures { result ≡ stage_in share.now zones tec }
 {
-    if 32 < zones {
-        return Judgement::Stops(Refusal::BadShare(0));
-    }
-    if !frame::sound(share, zones) {
-        return Judgement::Stops(Refusal::BadShare(0));
+    if (32 < zones) || !frame::sound(share, zones) {
+        return Err(Refusal::BadShare(0));
     }
     let next = inward(share, zones);
-    let i = zone::first_unsound(&next, tec, zones);
-    if i < zones {
-        return Judgement::Stops(Refusal::BadShare(i + 1));
+    let all = Zones {
+        count: zones,
+        next: &next,
+        tec: &tec,
+    };
+    if let Some(i) = all.first_unsound() {
+        return Err(Refusal::BadShare(i + 1));
     }
-    Judgement::Passes
+    Ok(())
 }

@@ -25,8 +25,9 @@ use Rattle.meaning.specs.Figures.{zones, zone_of, weight, paying_in, total_payin
 use Rattle.meaning.specs.Outcome.{tables_stage, judged}
 use Rattle.meaning.specs.Conditions.{Acceptable, SoundShare}
 use Rattle.sizes.specs.Bounds.{KilowattsFit, FiguresFit}
-use Rattle.meaning.specs.declared.Judgement.TheVariants.{Passes}
-use Rattle.meaning.proofs.Answers.{passes_or_else}
+use Rattle.std.specs.Prelude.{Result, Ok}
+use Rattle.meaning.specs.declared.Refusal.{Refusal}
+use Rattle.meaning.proofs.Answers.{passes_or_else, let_through}
 use Rattle.meaning.proofs.Frame as frame
 use Rattle.sizes.proofs.Ranges.{ranged}
 use Rattle.sizes.proofs.Kilowatts.{kilowatts_fit_lem}
@@ -93,11 +94,11 @@ module _ (G : Grid) (k : KilowattsFit G) (runs : Runs) (share : List ℕ) (few :
       go true e h = rw (array_kw i e (omega (arith, h, few))) (le_trans (f.shares.kw Generation (suc i)) (k.zone_part Generation (suc i)))
 
 -- ---- the columns of a file that nothing stops
-module _ (file : List ℕ) (runs : Runs) (share : List ℕ) (p : judged file runs share ≡ Passes) where
+module _ (file : List ℕ) (runs : Runs) (share : List ℕ) (p : judged file runs share ≡ Ok tt) where
   accepted : Acceptable file runs share
   accepted = (judged_pass file runs share).0 p
 
-  tables_pass : tables_stage file (λ s. length (runs s)) ≡ Passes
+  tables_pass : tables_stage file (λ s. length (runs s)) ≡ Ok tt
   unfolding judged
   tables_pass = ((passes_or_else _ _).0 p).0
 
@@ -124,9 +125,9 @@ module _ (file : List ℕ) (runs : Runs) (share : List ℕ) (p : judged file run
       }
 
   -- opened by the judge
-  module _ (o : Opened) (j : Judges file runs share o) where
+  module _ (o : Opened) {x : Result Opened Refusal} (j : Judges file runs share x) (h : x ≡ Ok o) where
     columns : StudyColumns (study_of file) o
-    columns = study_columns file _ j.columns tables_pass
+    columns = study_columns file _ (let_through _ _ j.judged h).1 (rw h at j.possible) tables_pass
 
     abbrev shares : Shares
     shares = shares_in o share

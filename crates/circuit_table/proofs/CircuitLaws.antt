@@ -2,12 +2,12 @@
 use mathlib.Core.Path.{◌≡◌, refl}
 use mathlib.Core.List.{List}
 use mathlib.Core.Bool.{not}
-use Prim.Native.Nat.{ℕ, ◌+◌, ◌-◌, ◌^◌, ◌≤◌, ◌<◌}
+use Prim.Native.Nat.{ℕ, ◌+◌, ◌≤◌, ◌<◌}
 use native.Mathlib.Omega.{arith}
 use lib.ListN.{get_or}
 use Rattle.meaning.specs.declared.Section.{Section}
 use Rattle.meaning.specs.declared.Refusal.TheVariants.{BadCircuit}
-use Rattle.meaning.specs.declared.Judgement.TheVariants.{Passes, Stops}
+use Rattle.std.specs.Prelude.{Ok, Err}
 use Rattle.meaning.specs.Study.{circuit, no_circuit}
 use Rattle.meaning.specs.File.{row_at, circuit_at}
 use Rattle.meaning.specs.Tables.{sound_circuit, circuits_stage}
@@ -38,11 +38,10 @@ module _ (file : List ℕ) {n : ℕ} {t : Section} {c : CircuitColumns} (told : 
   second_is i h = rw told.columns (rows_at 0 512 _ i (omega (arith, few)))
 
   -- the columns are the ends of the row at its place
-  pub ends_at : (i : ℕ) → i < t.count → row_at t i ≤ 2 ^ 64 - 2 ^ 32 → ToldEnds file (row_at t i) n (get_or c.first i 0) (get_or c.second i 0)
+  pub ends_at : (i : ℕ) → i < t.count → ToldEnds file (row_at t i) n (get_or c.first i 0) (get_or c.second i 0)
   unfolding circuit_at
-  ends_at i h near =
+  ends_at i h =
       record {
-        near = near;
         nodes = told.nodes;
         first = rw (from.at i h) at (first_is i h);
         second = rw (from.at i h) at (second_is i h);
@@ -52,10 +51,10 @@ module _ (file : List ℕ) {n : ℕ} {t : Section} {c : CircuitColumns} (told : 
   unfolding sound_circuit
   circuit_test i h = rw (from.at i h) refl
 
-  pub circuit_unsound : {r : ℕ} → IsFirst (unsound_circuit file t) t.count r → r < t.count → Stops (BadCircuit (r + 1)) ≡ circuits_stage (readable file)
+  pub circuit_unsound : {r : ℕ} → IsFirst (unsound_circuit file t) t.count r → r < t.count → Err (BadCircuit (r + 1)) ≡ circuits_stage (readable file)
   unfolding circuits_stage
   circuit_unsound f h = rw from.count (at_first BadCircuit (first_as circuit_test f) h)
 
-  pub circuits_sound : {r : ℕ} → IsFirst (unsound_circuit file t) t.count r → t.count ≤ r → Passes ≡ circuits_stage (readable file)
+  pub circuits_sound : {r : ℕ} → IsFirst (unsound_circuit file t) t.count r → t.count ≤ r → Ok tt ≡ circuits_stage (readable file)
   unfolding circuits_stage
   circuits_sound f h = rw from.count (at_none BadCircuit (first_as circuit_test f) h)

@@ -1,12 +1,10 @@
 -- The expanded length of a circuit, from the numbers of its row.
 use mathlib.Core.Path.{◌≡◌, refl}
-use mathlib.Core.Logic.{◌≢◌}
 use mathlib.Core.Bool.{Bool, true, false, cond, ◌&&◌}
 use mathlib.Core.List.{List}
 use Prim.Native.Nat.{ℕ, ◌+◌, ◌*◌, ◌≤◌}
 use native.Mathlib.Nat.{mul-le-mul}
 use native.Mathlib.Omega.{arith}
-use borrow.Author.Tests.{eq-eqb, ne_eqb}
 use lib.Dec.{leb}
 use Rattle.meaning.specs.declared.Settings.{Settings}
 use Rattle.meaning.specs.Study.{no_circuit}
@@ -24,15 +22,6 @@ pub parts_low : (overhead over cable under : ℕ) → (leb overhead 500000 && le
 parts_low overhead over cable under e =
     let t = (says_le also says_le also says_le also says_le).0 e in
     (part_low t.0.0.0 t.0.1, part_low t.0.0.1 t.1)
-
--- the row's own factor, or that of its voltage
-pub own_some : (own by_voltage : ℕ) → own ≢ 0 → own ≡ own_or own by_voltage
-unfolding own_or
-own_some own by_voltage n = simp (ne_eqb own 0 n)
-
-pub own_none : (own by_voltage : ℕ) → own ≡ 0 → by_voltage ≡ own_or own by_voltage
-unfolding own_or
-own_none own by_voltage e = simp (eq-eqb own 0 e)
 
 -- the length of the circuit at a place
 pub length_read : (file : List ℕ) (size at : ℕ) (s : Settings) (voltage overhead cable own over under : ℕ)

@@ -1,22 +1,15 @@
 -- What the judge of the circuits' table is told of the file.
-use Rattle.std.specs.Prelude.{◌≡◌, Bool, not, ◌&&◌, List, ℕ, ◌+◌, ◌-◌, ◌^◌, ◌≤◌, length}
+use Rattle.std.specs.Prelude.{◌≡◌, Bool, not, List, ℕ, ◌+◌, length}
 use Rattle.meaning.specs.declared.Section.{Section}
-use Rattle.meaning.specs.Name.{Name, well_formed, same_name}
-use Rattle.meaning.specs.Study.{Node}
 use Rattle.meaning.specs.File.{name_at, row_at, circuit_at}
-use Rattle.meaning.specs.Tables.{known, sound_circuit_row}
+use Rattle.meaning.specs.Tables.{sound_circuit_row}
 use Rattle.meaning.specs.Grid.{place}
 use Rattle.layout.specs.Readable.{readable, section_in}
 use Rattle.circuit_table.specs.declared.CircuitColumns.{CircuitColumns}
 use Rattle.circuit_table.specs.Columns.{circuits_of}
 
--- 4, a circuit's ends: well formed, known and not equal
-abbrev pub sound_ends : List Node → (first second : Name) → Bool
-sound_ends nodes first second = well_formed first && well_formed second && known nodes first && known nodes second && not (same_name first second)
-
 -- the ends of a circuit's row at a place, as its names have them
 pub record ToldEnds (file : List ℕ) (at n a b : ℕ) : Type 0 where
-  pub near : at ≤ 2 ^ 64 - 2 ^ 32
   pub nodes : n ≡ length (readable file).nodes
   pub first : a ≡ place (readable file).nodes (name_at file at)
   pub second : b ≡ place (readable file).nodes (name_at file (at + 12))

@@ -6,11 +6,12 @@ mod lengths;
 mod row;
 
 ghost use Rattle.std.specs.Prelude.{◌≡◌};
+ghost use Rattle.meaning.specs.Answers.{yields};
 ghost use Rattle.meaning.specs.Tables.{circuits_stage};
 ghost use Rattle.layout.specs.Readable.{readable};
 ghost use Rattle.circuit_table.specs.Columns.{circuits_of};
 
-use meaning::Judgement;
+use meaning::Refusal;
 
 // Numbers of each circuit's end nodes, the count of nodes where there is none; reactance, expanded length in mm, local mark.
 #[derive(Clone, Copy)]
@@ -20,13 +21,6 @@ pub struct CircuitColumns {
     pub x: [u64; 512],
     pub length: [u64; 512],
     pub mark: [u64; 512],
-}
-
-// The table judged, and its columns: names are resolved once for both.
-#[derive(Clone, Copy)]
-pub struct JudgedCircuits {
-    pub judgement: Judgement,
-    pub columns: CircuitColumns,
 }
 
 // The columns of the circuits.
@@ -50,13 +44,16 @@ fn columns(file: &[u8]) -> CircuitColumns
     }
 }
 
-// 4: the lowest circuit that is not sound.
-pub fn judge(file: &[u8]) -> JudgedCircuits
-    ensures { (result.judgement ≡ circuits_stage (readable file.now)) × (result.columns ≡ circuits_of (readable file.now)) }
+// 4: the lowest circuit that is not sound; else the columns. Names are resolved once for both.
+pub fn judge(file: &[u8]) -> Result<CircuitColumns, Refusal>
+    ensures { result ≡ yields (circuits_stage (readable file.now)) (circuits_of (readable file.now)) }
 {
     let nodes = layout::section(file, layout::NODES);
     let rows = layout::section(file, layout::CIRCUITS);
     let columns = columns(file);
-    let judgement = row::stage(file, nodes.count as usize, rows, columns);
-    JudgedCircuits { judgement, columns }
+    // No `?` where columns are answered: it keeps room for them on the stack.
+    match row::stage(file, nodes.count as usize, rows, &columns) {
+        Err(cause) => Err(cause),
+        Ok(()) => Ok(columns),
+    }
 }

@@ -8,10 +8,9 @@ use lib.ListN.{length}
 use Rattle.meaning.specs.Study.{Runs}
 use Rattle.meaning.specs.declared.Refusal.{Refusal}
 use Rattle.meaning.specs.declared.Refusal.TheVariants.{BadFile, ShortBuffer}
-use Rattle.meaning.specs.declared.Judgement.{Judgement}
-use Rattle.meaning.specs.declared.Judgement.TheVariants.{Passes, Stops}
-use Rattle.meaning.specs.declared.Answer.{Answer}
-use Rattle.meaning.specs.declared.Answer.TheVariants.{Accepted, Refused}
+use Rattle.meaning.specs.Answers.{Judgement}
+use Rattle.std.specs.Prelude.{Ok, Err}
+use Rattle.meaning.specs.Answers.{Answer}
 use Rattle.meaning.specs.Answers.{◌or_else◌}
 use Rattle.meaning.specs.Outcome.{judged, sheet_of, Settled, refused, written, buffer_stage, settled_by, settle}
 use Rattle.meaning.specs.Refusals.{whole, AllMet, Stopped, case_order, order}
@@ -23,43 +22,43 @@ use Rattle.claims.proofs.Listed.{stopped_listed}
 
 -- ---- answers told apart
 accepts : Answer → Bool
-accepts (Accepted n) = true
-accepts (Refused r) = false
+accepts (Ok n) = true
+accepts (Err r) = false
 
 -- why an answer refuses
 cause : Answer → Refusal
-cause (Accepted n) = BadFile
-cause (Refused r) = r
+cause (Ok n) = BadFile
+cause (Err r) = r
 
-pub refused_same : {q r : Refusal} → Refused q ≡ Refused r → q ≡ r
+pub refused_same : {q r : Refusal} → ◌≡◌ {A = Answer} (Err q) (Err r) → q ≡ r
 unfolding cause
 refused_same e = ap cause e
 
-pub accepted≢refused : {n : ℕ} {r : Refusal} → Accepted n ≡ Refused r → ⊥
+pub accepted≢refused : {n : ℕ} {r : Refusal} → ◌≡◌ {A = Answer} (Ok n) (Err r) → ⊥
 unfolding accepts
 accepted≢refused e = true≢false (ap accepts e)
 
 -- how long an accepted sheet is
 length_of : Answer → ℕ
-length_of (Accepted n) = n
-length_of (Refused r) = 0
+length_of (Ok n) = n
+length_of (Err r) = 0
 
-pub accepted_same : {m n : ℕ} → Accepted m ≡ Accepted n → m ≡ n
+pub accepted_same : {m n : ℕ} → ◌≡◌ {A = Answer} (Ok m) (Ok n) → m ≡ n
 unfolding length_of
 accepted_same e = ap length_of e
 
 -- ---- what is settled by a judgement: the sheet exactly when it passes, a refusal exactly when it stops so
 module _ (sheet buffer : List ℕ) where
-  sheet_settled : (j : Judgement) → (settled_by j sheet buffer ≡ written sheet buffer) ↔ (j ≡ Passes)
+  sheet_settled : (j : Judgement) → (settled_by j sheet buffer ≡ written sheet buffer) ↔ (j ≡ Ok tt)
   unfolding settled_by written refused
-  sheet_settled Passes = (λ e. refl, λ e. refl)
-  sheet_settled (Stops r) =
+  sheet_settled (Ok _) = (λ e. refl, λ e. refl)
+  sheet_settled (Err r) =
       (λ e. absurd (accepted≢refused (sym (ap (λ (s : Settled). s.answer) e))), λ e. absurd (stops≢passes e))
 
-  refusal_settled : (j : Judgement) (r : Refusal) → ((settled_by j sheet buffer).answer ≡ Refused r) ↔ (j ≡ Stops r)
+  refusal_settled : (j : Judgement) (r : Refusal) → ((settled_by j sheet buffer).answer ≡ Err r) ↔ (j ≡ Err r)
   unfolding settled_by written refused
-  refusal_settled Passes r = (λ e. absurd (accepted≢refused e), λ e. absurd (stops≢passes (sym e)))
-  refusal_settled (Stops q) r = (λ e. ap Stops (refused_same e), λ e. ap Refused (stops_same e))
+  refusal_settled (Ok _) r = (λ e. absurd (accepted≢refused e), λ e. absurd (stops≢passes (sym e)))
+  refusal_settled (Err q) r = (λ e. ap Err (refused_same e), λ e. ap Err (stops_same e))
 
 module _ (file : List ℕ) (runs : Runs) (share buffer : List ℕ) where
   abbrev verdict : Judgement
@@ -72,7 +71,7 @@ module _ (file : List ℕ) (runs : Runs) (share buffer : List ℕ) where
       let c = case_met file runs share in
       (λ m. let t = b.0 m in (c.0 t.0, t.1.0), λ a. b.1 (c.1 a.0, (a.1, tt)))
 
-  passing : (verdict ≡ Passes) ↔ Accepting file runs share buffer
+  passing : (verdict ≡ Ok tt) ↔ Accepting file runs share buffer
   passing =
       let p = (judge_all file runs share buffer).passes in
       (λ e. all_met.0 (p.0 e), λ a. p.1 (all_met.1 a))
@@ -83,7 +82,7 @@ module _ (file : List ℕ) (runs : Runs) (share buffer : List ℕ) where
       let s = sheet_settled (sheet_of file runs share) buffer verdict in
       (λ e. passing.0 (s.0 e), λ a. s.1 (passing.1 a))
 
-  answered : (r : Refusal) → ((settle file runs share buffer).answer ≡ Refused r) ↔ Stopped file runs share buffer r
+  answered : (r : Refusal) → ((settle file runs share buffer).answer ≡ Err r) ↔ Stopped file runs share buffer r
   unfolding settle
   answered r =
       let s = refusal_settled (sheet_of file runs share) buffer verdict r in
@@ -98,8 +97,8 @@ module _ (file : List ℕ) (runs : Runs) (share buffer : List ℕ) where
   either = go verdict refl
     where
       go : (j : Judgement) → verdict ≡ j → Accepting file runs share buffer ⊎ ((r : Refusal) × Stopped file runs share buffer r)
-      go Passes e = inl (passing.0 e)
-      go (Stops r) e = inr (r, ((judge_all file runs share buffer).stops r).0 e)
+      go (Ok _) e = inl (passing.0 e)
+      go (Err r) e = inr (r, ((judge_all file runs share buffer).stops r).0 e)
 
 -- ---- demands 1 and 2: which refusal
 pub refused_exactly_when : RefusedExactlyWhen

@@ -7,11 +7,10 @@ use lib.Dec.{leb}
 use lib.ListN.{length}
 use Rattle.meaning.specs.Study.{Runs}
 use Rattle.meaning.specs.File.{study_of}
-use Rattle.meaning.specs.declared.Judgement.{Judgement}
-use Rattle.meaning.specs.declared.Judgement.TheVariants.{Passes, Stops}
+use Rattle.meaning.specs.Answers.{Judgement}
+use Rattle.std.specs.Prelude.{Ok, Err}
 use Rattle.meaning.specs.declared.Refusal.TheVariants.{ShortBuffer}
-use Rattle.meaning.specs.declared.Answer.{Answer}
-use Rattle.meaning.specs.declared.Answer.TheVariants.{Accepted, Refused}
+use Rattle.meaning.specs.Answers.{Answer}
 use Rattle.meaning.specs.Answers.{◌or_else◌, unless}
 use Rattle.meaning.specs.Grid.{Grid, grid_of}
 use Rattle.meaning.specs.Systems.{proposals_stage}
@@ -44,8 +43,8 @@ judged_alike file file' runs share p p' same =
     judged_after file runs share p ∙ ap (λ (G : Grid). after_five G runs share) (same_grid same) ∙ sym (judged_after file' runs share p')
 
 pub answered : Judgement → (sheet buffer : ℕ) → Answer
-answered Passes sheet buffer = cond (leb sheet buffer) (Accepted sheet) (Refused ShortBuffer)
-answered (Stops r) sheet buffer = Refused r
+answered (Ok _) sheet buffer = cond (leb sheet buffer) (Ok sheet) (Err ShortBuffer)
+answered (Err r) sheet buffer = Err r
 
 pub settled_answer : (file : List ℕ) (runs : Runs) (share buffer : List ℕ)
     → (settle file runs share buffer).answer ≡ answered (judged file runs share) (length (sheet_of file runs share)) (length buffer)
@@ -55,9 +54,9 @@ settled_answer file runs share buffer = go (judged file runs share) (leb (length
     go : (j : Judgement) (l : Bool) → leb (length (sheet_of file runs share)) (length buffer) ≡ l
         → (settled_by (j or_else unless l ShortBuffer) (sheet_of file runs share) buffer).answer
         ≡ answered j (length (sheet_of file runs share)) (length buffer)
-    go Passes true e = rw e refl
-    go Passes false e = rw e refl
-    go (Stops r) l e = refl
+    go (Ok _) true e = rw e refl
+    go (Ok _) false e = rw e refl
+    go (Err r) l e = refl
 
 -- with room enough, the sheet's length or the refusal
 pub judge_is_write : JudgeIsWrite
@@ -65,8 +64,8 @@ unfolding answer_of answered_by answered
 judge_is_write file runs share buffer h = settled_answer file runs share buffer ∙ go (judged file runs share)
   where
     go : (j : Judgement) → answered j (length (sheet_of file runs share)) (length buffer) ≡ answered_by j (sheet_of file runs share)
-    go Passes = rw (says_le.1 h) refl
-    go (Stops r) = refl
+    go (Ok _) = rw (says_le.1 h) refl
+    go (Err r) = refl
 
 pub stations_hidden : StationsHidden
 stations_hidden file file' runs share buffer buffer' p p' same long =

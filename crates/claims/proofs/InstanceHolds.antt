@@ -16,8 +16,7 @@ use Rattle.meaning.specs.declared.Refusal.TheVariants.{Unbalanced, MissesTooHigh
 use Rattle.meaning.specs.declared.Refusal.{Refusal}
 use Rattle.meaning.specs.Answers.{refusal, values}
 use Rattle.meaning.specs.Refusals.{Stopped}
-use Rattle.meaning.specs.declared.Judgement.TheVariants.{Passes}
-use Rattle.meaning.specs.declared.Answer.TheVariants.{Refused}
+use Rattle.std.specs.Prelude.{Ok, Err}
 use Rattle.meaning.specs.Grid.{grid_of, capacity_of, node_tec}
 use Rattle.meaning.specs.Outcome.{judged, sheet_of, settle, prints}
 use Rattle.meaning.specs.Conditions.{InRange, Acceptable}
@@ -55,7 +54,7 @@ kiln_short = (accepted_exactly_when kiln kiln_runs [] (replicate 116 7)).otherwi
 kiln_recovered : Recovered (grid_of (study_of kiln)) [] kiln_sheet
 kiln_recovered = rw kiln_sheet_lem at (revenue_recovered kiln kiln_runs [] kiln_acceptable)
 
-other_judged : judged other other_runs [] ≡ Passes
+other_judged : judged other other_runs [] ≡ Ok tt
 unfolding opened
 other_judged = refl
 
@@ -109,11 +108,11 @@ divided_passes : PassesToFive other leaking
 unfolding opened
 divided_passes = (((judge_file other leaking).passes.0 refl).0, (judge_rows (study_of other)).passes.0 refl)
 
-kiln_leaks : (settle kiln leaking [] (replicate 5 7)).answer ≡ Refused (Unbalanced (Base YearRound) 1)
+kiln_leaks : (settle kiln leaking [] (replicate 5 7)).answer ≡ Err (Unbalanced (Base YearRound) 1)
 unfolding opened
 kiln_leaks = refl
 
-hidden : (settle other leaking [] (replicate 5 1)).answer ≡ Refused (Unbalanced (Base YearRound) 1)
+hidden : (settle other leaking [] (replicate 5 1)).answer ≡ Err (Unbalanced (Base YearRound) 1)
 hidden = sym (stations_hidden kiln other leaking [] (replicate 5 7) (replicate 5 1) passes_five divided_passes same refl) ∙ kiln_leaks
 
 -- so 01's order stops it there, at balance and not at a number, a miss or a direction; and a short buffer at 12
@@ -125,9 +124,9 @@ unfolding values refusal
 not_missed f = unbalanced≢missed ((one_answer kiln leaking [] (replicate 5 7)).only_one (Unbalanced (Base YearRound) 1) (MissesTooHigh (Base YearRound)) leak_stopped f)
   where
     unbalanced≢missed : Unbalanced (Base YearRound) 1 ≡ MissesTooHigh (Base YearRound) → ⊥
-    unbalanced≢missed e = numbers (ap {B = ℕ} (λ (r : Refusal). (values (Refused r)).number) e)
+    unbalanced≢missed e = numbers (ap {B = ℕ} (λ (r : Refusal). (values (Err r)).number) e)
       where
-        numbers : ◌≡◌ {A = ℕ} (values (Refused (Unbalanced (Base YearRound) 1))).number (values (Refused (MissesTooHigh (Base YearRound)))).number → ⊥
+        numbers : ◌≡◌ {A = ℕ} (values (Err (Unbalanced (Base YearRound) 1))).number (values (Err (MissesTooHigh (Base YearRound)))).number → ⊥
         numbers h = omega arith
 
 -- ---- 02, request 1: KILN has no interconnector, and is charged as 01 says; with one, the revenue is recovered from those that pay
@@ -171,7 +170,7 @@ retyped_totals = record { edition = refl; settings = refl; nodes = refl; circuit
 retyped_sheet : sheet_of kiln kiln_runs [] ≡ sheet_of retyped kiln_runs []
 retyped_sheet = (types_hidden kiln retyped kiln_runs retyped_totals).sheets []
 
-two_judged : judged kiln_two kiln_runs [] ≡ Passes
+two_judged : judged kiln_two kiln_runs [] ≡ Ok tt
 unfolding opened
 two_judged = refl
 
@@ -204,7 +203,7 @@ two_versions =
     let one = one_sheet_in_either_version kiln kiln_two say_the_same in
     (refl, refl, one.settled kiln_runs [] (replicate 200 7), one.printed (own_runs.0 ∙ sym own_runs.1) [])
 
-subsea_judged : judged subsea kiln_runs [] ≡ Passes
+subsea_judged : judged subsea kiln_runs [] ≡ Ok tt
 unfolding opened
 subsea_judged = refl
 

@@ -20,7 +20,7 @@ use Rattle.meaning.specs.declared.System.TheVariants.{Base, Wider, Local}
 use Rattle.meaning.specs.declared.Refusal.{Refusal}
 use Rattle.meaning.specs.Answers.{refusal, values}
 use Rattle.meaning.specs.declared.Refusal.TheVariants.{BadNumber, Unbalanced, MissesTooHigh, DirectionInDoubt, ShortBuffer}
-use Rattle.meaning.specs.declared.Answer.TheVariants.{Refused}
+use Rattle.std.specs.Prelude.{Err}
 use Rattle.meaning.specs.Outcome.{sheet_of}
 use Rattle.meaning.proofs.Says.{says_eq}
 use Rattle.meaning.proofs.Order.{first_of_two}
@@ -96,7 +96,7 @@ module _ (P : Refusal → Type 0) where
 -- what stops a case before 12 is a row of the table, and not row 12
 module _ (file : List ℕ) (runs : Runs) (share : List ℕ) where
   abbrev Row : Refusal → Type 0
-  Row r = ListedFor (study_of file) r × (eqb (values (Refused r)).number 12 ≡ false)
+  Row r = ListedFor (study_of file) r × (eqb (values (Err r)).number 12 ≡ false)
 
   abbrev e : Edition
   e = (study_of file).settings.edition
@@ -158,7 +158,7 @@ module _ (file : List ℕ) (runs : Runs) (share : List ℕ) where
   pub case_listed : (r : Refusal) → FirstUnmet (case_order file runs share) r → ListedFor (study_of file) r
   case_listed r f = (case_row r f).0
 
-  pub case_number : (r : Refusal) → FirstUnmet (case_order file runs share) r → (values (Refused r)).number ≢ 12
+  pub case_number : (r : Refusal) → FirstUnmet (case_order file runs share) r → (values (Err r)).number ≢ 12
   case_number r f e = true≢false (sym (says_eq.1 e) ∙ (case_row r f).1)
 
   -- and 12 stands behind them

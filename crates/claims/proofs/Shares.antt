@@ -15,8 +15,8 @@ use Rattle.meaning.specs.declared.Edition.TheVariants.{First, Second}
 use Rattle.meaning.specs.declared.Side.{Side}
 use Rattle.meaning.specs.declared.Side.TheVariants.{Generation}
 use Rattle.meaning.specs.declared.Form.{Form}
-use Rattle.meaning.specs.declared.Judgement.{Judgement}
-use Rattle.meaning.specs.declared.Judgement.TheVariants.{Passes, Stops}
+use Rattle.meaning.specs.Answers.{Judgement}
+use Rattle.std.specs.Prelude.{Ok, Err}
 use Rattle.meaning.specs.declared.Refusal.TheVariants.{BadShare}
 use Rattle.meaning.specs.Answers.{◌or_else◌, unless, when}
 use Rattle.meaning.specs.Study.{Runs}
@@ -96,7 +96,7 @@ unfolding grid_of
 printed_parts file runs share a = record { parts = λ side k h some. all_read (study_of file) a.study.tables runs share YearRound tt side k h (λ e. omega (arith, some, e)) }
 
 -- ---- a file of more than 156 bytes is refused as 16, row 0, wherever it is in force: "a wrong length"
-too_long : (G : Grid) (share : List ℕ) → G.settings.edition ≡ Second → zones G Generation ≤ 32 → 157 ≤ length share → share_stage G share ≡ Stops (BadShare 0)
+too_long : (G : Grid) (share : List ℕ) → G.settings.edition ≡ Second → zones G Generation ≤ 32 → 157 ≤ length share → share_stage G share ≡ Err (BadShare 0)
 unfolding share_stage when in_force share_file_stage sound_frame unless ◌or_else◌
 too_long G [] second few long = absurd (omega arith)
 too_long G (b ∷ bs) second few long =
@@ -111,7 +111,7 @@ module _ (file share share' : List ℕ) (long : 157 ≤ length share) (long' : 1
   abbrev tables : Judgement
   tables = tables_stage file (λ s. length (runs_in file s))
 
-  few_zones : tables ≡ Passes → zones G Generation ≤ 32
+  few_zones : tables ≡ Ok tt → zones G Generation ≤ 32
   unfolding tables_stage zones grid_of
   few_zones e =
       let rows = ((passes_or_else _ _).0 ((passes_or_else _ _).0 ((passes_or_else _ _).0 e).1).1).0 in
@@ -119,10 +119,10 @@ module _ (file share share' : List ℕ) (long : 157 ≤ length share) (long' : 1
 
   -- stopped before 16, or by it
   stopped_so : (s : List ℕ) → 157 ≤ length s → G.settings.edition ≡ Second → (j : Judgement) → tables ≡ j
-      → prints file s ≡ printed_by (j or_else Stops (BadShare 0)) []
+      → prints file s ≡ printed_by (j or_else Err (BadShare 0)) []
   unfolding prints judged printed_by ◌or_else◌
-  stopped_so s l second (Stops r) e = rw e refl
-  stopped_so s l second Passes e = rw (e, too_long G s second (few_zones e) l) refl
+  stopped_so s l second (Err r) e = rw e refl
+  stopped_so s l second (Ok _) e = rw (e, too_long G s second (few_zones e) l) refl
 
   cut_alike : (e : Edition) → G.settings.edition ≡ e → prints file share ≡ prints file share'
   unfolding grid_of

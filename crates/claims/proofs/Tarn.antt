@@ -8,7 +8,7 @@ use lib.IntN.{ℤ, pos, neg_ℤ}
 use Rattle.meaning.specs.declared.Edition.TheVariants.{First}
 use Rattle.meaning.specs.declared.Settings.{Settings}
 use Rattle.meaning.specs.Study.{Node, Circuit, Station, Study, Runs, three_runs}
-use Rattle.meaning.specs.declared.Judgement.TheVariants.{Passes}
+use Rattle.std.specs.Prelude.{Ok}
 use Rattle.meaning.specs.Outcome.{judged}
 use Rattle.meaning.specs.Conditions.{Acceptable}
 use Rattle.meaning.proofs.Write.{name, file_of}
@@ -77,7 +77,7 @@ tarn_runs = runs_with (neg_ℤ (pos 2500000000)) (neg_ℤ (pos 2500000000))
 abbrev pub tarn : List ℕ
 tarn = file_of (tarn_study 1) tarn_runs
 
-tarn_judged : judged tarn tarn_runs [] ≡ Passes
+tarn_judged : judged tarn tarn_runs [] ≡ Ok tt
 unfolding opened
 tarn_judged = refl
 

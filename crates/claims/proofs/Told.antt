@@ -9,7 +9,7 @@ use Rattle.meaning.specs.Text.{text, natural, line}
 use Rattle.meaning.specs.Read.{read_natural}
 use Rattle.meaning.specs.declared.Values.{Values}
 use Rattle.meaning.specs.declared.Refusal.{Refusal}
-use Rattle.meaning.specs.declared.Answer.TheVariants.{Refused}
+use Rattle.std.specs.Prelude.{Err}
 use Rattle.meaning.specs.Answers.{values}
 use Rattle.meaning.specs.Outcome.{refused_fields, refused_line}
 use Rattle.meaning.proofs.Table.{values_tell}
@@ -34,7 +34,7 @@ in_line k v = adds_all (nth k) (adds_line (nth k) word (number _ (number _ (numb
 
 module _ (r : Refusal) where
   abbrev v : Values
-  v = values (Refused r)
+  v = values (Err r)
 
   line_number : over (nth 0) (refused_line r) ≡ pos v.number
   unfolding refused_line refused_fields nth

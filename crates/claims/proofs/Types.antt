@@ -23,7 +23,7 @@ use Rattle.meaning.specs.declared.Settings.{Settings}
 use Rattle.meaning.specs.declared.System.{System}
 use Rattle.meaning.specs.declared.System.TheVariants.{Base, Wider, Local}
 use Rattle.meaning.specs.Systems.{limit_of, supply, counting, length_of, offset, proposed, solution_stage, counting_clear, counting_stage, direction_clear, direction_stage, ordered, proposals_stage}
-use Rattle.meaning.specs.declared.Judgement.{Judgement}
+use Rattle.meaning.specs.Answers.{Judgement}
 use Rattle.meaning.specs.declared.Refusal.TheVariants.{BadTotal}
 use Rattle.meaning.specs.Answers.{◌or_else◌, unless, in_second}
 use Rattle.meaning.specs.Outcome.{grid_stage, judged, sheet_of, settle}

@@ -8,8 +8,8 @@ use Rattle.meaning.specs.declared.Edition.TheVariants.{Second}
 use Rattle.meaning.specs.Study.{Station, Study, Runs, runs_of, three_runs}
 use Rattle.meaning.specs.declared.Background.TheVariants.{YearRound, Peak}
 use Rattle.meaning.specs.declared.System.TheVariants.{Base, Wider}
-use Rattle.meaning.specs.declared.Judgement.{Judgement}
-use Rattle.meaning.specs.declared.Judgement.TheVariants.{Passes, Stops}
+use Rattle.meaning.specs.Answers.{Judgement}
+use Rattle.std.specs.Prelude.{Ok, Err}
 use Rattle.meaning.specs.declared.Refusal.TheVariants.{BadFile, BadNumber, Unbalanced, MissesTooHigh, DirectionInDoubt, Unscalable, BackgroundInDoubt}
 use Rattle.meaning.specs.Outcome.{judged}
 use Rattle.meaning.proofs.Write.{name, file_in}
@@ -22,7 +22,7 @@ not_whole : judged (set both 52 1) both_runs [] ∷ judged (set both 52 3) both_
     ∷ judged kiln (runs_of kiln_base kiln_wider kiln_local kiln_base []) []
     ∷ judged both (three_runs both_base both_wider both_local) []
     ∷ []
-    ≡ Stops BadFile ∷ Stops BadFile ∷ Stops BadFile ∷ Stops BadFile ∷ Stops BadFile ∷ []
+    ≡ Err BadFile ∷ Err BadFile ∷ Err BadFile ∷ Err BadFile ∷ Err BadFile ∷ []
 unfolding opened
 not_whole = refl
 
@@ -34,7 +34,7 @@ with_stations stations =
 
 -- 14: fixed generation above demand year round; peak's variable TEC a kilowatt too small
 unscalable : with_stations (plant "WIND" "NODA" 1 300000 ∷ []) ∷ with_stations (plant "GAS" "NODA" 7 149999 ∷ plant "WIND" "NODB" 1 100000 ∷ []) ∷ []
-    ≡ Stops Unscalable ∷ Stops Unscalable ∷ []
+    ≡ Err Unscalable ∷ Err Unscalable ∷ []
 unfolding opened
 unscalable = refl
 
@@ -47,7 +47,7 @@ in_order : with_runs both_base (set both_wider 2 (pos 1)) (set both_peak_base 3 
     ∷ with_runs both_base (set both_wider 2 (pos 1)) both_peak_base (set both_peak_wider 2 (pos 1))
     ∷ with_runs both_base both_wider both_peak_base (set both_peak_wider 2 (pos 1))
     ∷ []
-    ≡ Stops (Unbalanced (Base Peak) 1) ∷ Stops (BadNumber (Wider YearRound) 3) ∷ Stops (BadNumber (Wider Peak) 3) ∷ []
+    ≡ Err (Unbalanced (Base Peak) 1) ∷ Err (BadNumber (Wider YearRound) 3) ∷ Err (BadNumber (Wider Peak) 3) ∷ []
 unfolding opened
 in_order = refl
 
@@ -81,30 +81,30 @@ pair mark demand stations y p =
     judged (file_in 2 S runs) runs []
 
 -- 15: 700 kW of wind year round, none in peak
-which_doubt : pair 0 1400 (plant "WIND" "A" 1 1000 ∷ plant "GAS" "B" 7 2000 ∷ []) 700 0 ≡ Stops (BackgroundInDoubt 1)
+which_doubt : pair 0 1400 (plant "WIND" "A" 1 1000 ∷ plant "GAS" "B" 7 2000 ∷ []) 700 0 ≡ Err (BackgroundInDoubt 1)
 unfolding opened
 which_doubt = refl
 
 -- 11: 300 kW of gas in both, so the circuit counts for peak and its flow of system 4 is in doubt
 peak_doubt : pair 0 300 (plant "GAS" "A" 7 1400 ∷ []) 300 300 ∷ pair 0 300 (plant "GAS" "A" 7 1400 ∷ []) 301 300 ∷ []
-    ≡ Stops (DirectionInDoubt Peak 1) ∷ Stops (Unbalanced (Base YearRound) 1) ∷ []
+    ≡ Err (DirectionInDoubt Peak 1) ∷ Err (Unbalanced (Base YearRound) 1) ∷ []
 unfolding opened
 peak_doubt = refl
 
 -- a marked circuit is of year round alone: 11 of system 1, whatever peak's flow
 marked_doubt : pair 1 300 (plant "GAS" "A" 7 1400 ∷ []) 300 300 ∷ pair 1 300 (plant "WIND" "A" 1 429 ∷ plant "GAS" "B" 7 300 ∷ []) 300 0 ∷ []
-    ≡ Stops (DirectionInDoubt YearRound 1) ∷ Stops (DirectionInDoubt YearRound 1) ∷ []
+    ≡ Err (DirectionInDoubt YearRound 1) ∷ Err (DirectionInDoubt YearRound 1) ∷ []
 unfolding opened
 marked_doubt = refl
 
 -- without the mark 300 kW of wind year round and none in peak are peak's, where the circuit is idle: its length stands nowhere, and year round's flow is not judged by 11
-idle_in_peak : pair 0 300 (plant "WIND" "A" 1 429 ∷ plant "GAS" "B" 7 300 ∷ []) 300 0 ≡ Passes
+idle_in_peak : pair 0 300 (plant "WIND" "A" 1 429 ∷ plant "GAS" "B" 7 300 ∷ []) 300 0 ≡ Ok tt
 unfolding opened
 idle_in_peak = refl
 
 -- 850 kW of nuclear are fixed year round: 14 for a demand of 700; for one of 850 nothing remains, and no variable TEC is asked for. The length stands in peak's wider solution,
 -- which is all zeros here
 none_remains : pair 0 700 (plant "NUCLEAR" "A" 2 1000 ∷ plant "OIL" "A" 6 1000 ∷ []) 700 700 ∷ pair 0 850 (plant "NUCLEAR" "A" 2 1000 ∷ plant "OIL" "A" 6 1000 ∷ []) 850 850 ∷ []
-    ≡ Stops Unscalable ∷ Stops (MissesTooHigh (Wider Peak)) ∷ []
+    ≡ Err Unscalable ∷ Err (MissesTooHigh (Wider Peak)) ∷ []
 unfolding opened
 none_remains = refl

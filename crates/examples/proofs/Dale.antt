@@ -17,7 +17,7 @@ use Rattle.meaning.specs.Scaled.{missing, scaled}
 use Rattle.meaning.specs.Grid.{grid_of, node_tec, total_demand}
 use Rattle.meaning.specs.declared.Settings.{Settings}
 use Rattle.meaning.specs.declared.Direction.TheVariants.{Idle, Forward, Backward}
-use Rattle.meaning.specs.declared.Judgement.TheVariants.{Passes}
+use Rattle.std.specs.Prelude.{Ok}
 use Rattle.meaning.specs.declared.Side.TheVariants.{Generation, Demand}
 use Rattle.meaning.specs.declared.Background.TheVariants.{YearRound, Peak}
 use Rattle.meaning.specs.declared.System.{System}
@@ -96,7 +96,7 @@ dale_runs_lem Local = refl
 dale_runs_lem (Base Peak) = refl
 dale_runs_lem (Wider Peak) = refl
 
-dale_judged : judged dale dale_runs [] ≡ Passes
+dale_judged : judged dale dale_runs [] ≡ Ok tt
 unfolding opened
 dale_judged = refl
 

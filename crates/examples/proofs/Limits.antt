@@ -13,8 +13,8 @@ use Rattle.meaning.specs.declared.Background.TheVariants.{YearRound}
 use Rattle.meaning.specs.declared.System.{System}
 use Rattle.meaning.specs.declared.System.TheVariants.{Base, Wider, Local}
 use Rattle.meaning.specs.declared.Refusal.TheVariants.{BadNumber}
-use Rattle.meaning.specs.declared.Judgement.{Judgement}
-use Rattle.meaning.specs.declared.Judgement.TheVariants.{Stops}
+use Rattle.meaning.specs.Answers.{Judgement}
+use Rattle.std.specs.Prelude.{Err}
 use Rattle.meaning.specs.Grid.{grid_of}
 use Rattle.meaning.specs.Systems.{solution_stage}
 use Rattle.meaning.specs.Outcome.{prints}
@@ -100,7 +100,7 @@ highs_beyond : beyond high high_runs (Base YearRound) 0 (pos 2000000000000000001
     ∷ beyond high high_runs Local 1 (pos 10000000000000001)
     ∷ beyond high high_runs Local 12 (pos 100000000000001)
     ∷ []
-    ≡ Stops (BadNumber (Base YearRound) 1) ∷ Stops (BadNumber (Base YearRound) 8) ∷ Stops (BadNumber (Wider YearRound) 1) ∷ Stops (BadNumber (Wider YearRound) 8) ∷ Stops (BadNumber Local 2) ∷ Stops (BadNumber Local 13) ∷ []
+    ≡ Err (BadNumber (Base YearRound) 1) ∷ Err (BadNumber (Base YearRound) 8) ∷ Err (BadNumber (Wider YearRound) 1) ∷ Err (BadNumber (Wider YearRound) 8) ∷ Err (BadNumber Local 2) ∷ Err (BadNumber Local 13) ∷ []
 unfolding opened
 highs_beyond = refl
 
@@ -111,6 +111,6 @@ lows_beyond : beyond low low_runs (Base YearRound) 6 (neg_ℤ (pos 2000000000000
     ∷ beyond low low_runs Local 2 (neg_ℤ (pos 10000000000000001))
     ∷ beyond low low_runs Local 11 (neg_ℤ (pos 100000000000001))
     ∷ []
-    ≡ Stops (BadNumber (Base YearRound) 7) ∷ Stops (BadNumber (Base YearRound) 9) ∷ Stops (BadNumber (Wider YearRound) 7) ∷ Stops (BadNumber (Wider YearRound) 9) ∷ Stops (BadNumber Local 3) ∷ Stops (BadNumber Local 12) ∷ []
+    ≡ Err (BadNumber (Base YearRound) 7) ∷ Err (BadNumber (Base YearRound) 9) ∷ Err (BadNumber (Wider YearRound) 7) ∷ Err (BadNumber (Wider YearRound) 9) ∷ Err (BadNumber Local 3) ∷ Err (BadNumber Local 12) ∷ []
 unfolding opened
 lows_beyond = refl

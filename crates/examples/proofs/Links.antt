@@ -9,8 +9,8 @@ use Rattle.meaning.specs.File.{study_of}
 use Rattle.meaning.specs.declared.Background.TheVariants.{YearRound}
 use Rattle.meaning.specs.declared.System.TheVariants.{Base}
 use Rattle.meaning.specs.declared.Refusal.TheVariants.{BadTotal, NoChargeableTec, BadNumber}
-use Rattle.meaning.specs.declared.Judgement.{Judgement}
-use Rattle.meaning.specs.declared.Judgement.TheVariants.{Stops}
+use Rattle.meaning.specs.Answers.{Judgement}
+use Rattle.std.specs.Prelude.{Err}
 use Rattle.meaning.specs.Grid.{grid_of}
 use Rattle.meaning.specs.Outcome.{judged}
 use Rattle.meaning.specs.Read.{printed_income}
@@ -36,6 +36,6 @@ in_place : linked (link_of "GEN_1" "NODA" 100000 ∷ link_of "GEN_2" "NODB" 4999
     ∷ linked (link_of "GEN_1" "NODA" 200000 ∷ station_of "GEN_2" "NODB" 0 ∷ [])
     ∷ linked (link_of "GEN_1" "NODA" 200000 ∷ station_of "GEN_2" "NODB" 1 ∷ [])
     ∷ []
-    ≡ Stops BadTotal ∷ Stops NoChargeableTec ∷ Stops NoChargeableTec ∷ Stops (BadNumber (Base YearRound) 3) ∷ []
+    ≡ Err BadTotal ∷ Err NoChargeableTec ∷ Err NoChargeableTec ∷ Err (BadNumber (Base YearRound) 3) ∷ []
 unfolding opened
 in_place = refl

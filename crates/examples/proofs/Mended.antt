@@ -10,8 +10,8 @@ use Rattle.meaning.specs.Study.{Node, Circuit, Station, Runs, three_runs}
 use Rattle.meaning.specs.declared.Background.TheVariants.{YearRound}
 use Rattle.meaning.specs.declared.System.TheVariants.{Base, Wider, Local}
 use Rattle.meaning.specs.declared.Refusal.TheVariants.{BadFile, BadSetting, BadNode, BadCircuit, BadStation, Unreached, BadTotal, BadNumber, Unbalanced, MissesTooHigh, ShortBuffer, NoChargeableTec}
-use Rattle.meaning.specs.declared.Answer.{Answer}
-use Rattle.meaning.specs.declared.Answer.TheVariants.{Refused}
+use Rattle.meaning.specs.Answers.{Answer}
+use Rattle.std.specs.Prelude.{Err}
 use Rattle.meaning.specs.Outcome.{settle}
 use Rattle.meaning.proofs.Write.{file_of}
 use Rattle.meaning.proofs.Opened.{opened}
@@ -106,7 +106,7 @@ in_five b w l = answer kiln_settings kiln_nodes kiln_circuits kiln_stations b w 
 -- the same with version 3 (byte 532)
 version : (let runs : Runs = three_runs base₈ wider₈ local₈ in
     (settle (set (file_of (record { settings = lost_reference; nodes = nameless; circuits = unknown_end; stations = repeated }) runs) 532 3) runs [] (replicate 5 7)).answer)
-    ≡ Refused BadFile
+    ≡ Err BadFile
 unfolding opened
 version = refl
 
@@ -119,22 +119,22 @@ tables : answer lost_reference nameless unknown_end repeated base₈ wider₈ lo
     ∷ answer kiln_settings kiln_nodes kiln_circuits small base₈ wider₈ local₈
     ∷ answer kiln_settings kiln_nodes kiln_circuits linked base₈ wider₈ local₈
     ∷ []
-    ≡ Refused BadSetting ∷ Refused (BadNode 2) ∷ Refused (BadCircuit 2) ∷ Refused (BadStation 2) ∷ Refused (Unreached 2) ∷ Refused BadTotal ∷ Refused NoChargeableTec ∷ []
+    ≡ Err BadSetting ∷ Err (BadNode 2) ∷ Err (BadCircuit 2) ∷ Err (BadStation 2) ∷ Err (Unreached 2) ∷ Err BadTotal ∷ Err NoChargeableTec ∷ []
 unfolding opened
 tables = refl
 
 -- 8, 9, 10 of base, wider and local; then 12
 proposals : in_five base₈ wider₈ local₈ ∷ in_five base₉ wider₈ local₈ ∷ in_five base₁₀ wider₈ local₈ ∷ []
-    ≡ Refused (BadNumber (Base YearRound) 3) ∷ Refused (Unbalanced (Base YearRound) 1) ∷ Refused (MissesTooHigh (Base YearRound)) ∷ []
+    ≡ Err (BadNumber (Base YearRound) 3) ∷ Err (Unbalanced (Base YearRound) 1) ∷ Err (MissesTooHigh (Base YearRound)) ∷ []
 unfolding opened
 proposals = refl
 
 wider : in_five kiln_base wider₈ local₈ ∷ in_five kiln_base wider₉ local₈ ∷ in_five kiln_base wider₁₀ local₈ ∷ []
-    ≡ Refused (BadNumber (Wider YearRound) 3) ∷ Refused (Unbalanced (Wider YearRound) 1) ∷ Refused (MissesTooHigh (Wider YearRound)) ∷ []
+    ≡ Err (BadNumber (Wider YearRound) 3) ∷ Err (Unbalanced (Wider YearRound) 1) ∷ Err (MissesTooHigh (Wider YearRound)) ∷ []
 unfolding opened
 wider = refl
 
 local : in_five kiln_base kiln_wider local₈ ∷ in_five kiln_base kiln_wider local₉ ∷ in_five kiln_base kiln_wider local₁₀ ∷ in_five kiln_base kiln_wider kiln_local ∷ []
-    ≡ Refused (BadNumber Local 3) ∷ Refused (Unbalanced Local 1) ∷ Refused (MissesTooHigh Local) ∷ Refused ShortBuffer ∷ []
+    ≡ Err (BadNumber Local 3) ∷ Err (Unbalanced Local 1) ∷ Err (MissesTooHigh Local) ∷ Err ShortBuffer ∷ []
 unfolding opened
 local = refl

@@ -9,8 +9,8 @@ use Rattle.meaning.specs.Study.{Station, Study, Runs, runs_of}
 use Rattle.meaning.specs.declared.Background.TheVariants.{YearRound, Peak}
 use Rattle.meaning.specs.declared.System.TheVariants.{Base, Wider, Local}
 use Rattle.meaning.specs.declared.Refusal.TheVariants.{BadTotal, BadNumber, Unbalanced, MissesTooHigh, DirectionInDoubt, ShortBuffer, NoChargeableTec, Unscalable, BackgroundInDoubt}
-use Rattle.meaning.specs.declared.Answer.{Answer}
-use Rattle.meaning.specs.declared.Answer.TheVariants.{Refused}
+use Rattle.meaning.specs.Answers.{Answer}
+use Rattle.std.specs.Prelude.{Err}
 use Rattle.meaning.specs.Outcome.{settle}
 use Rattle.meaning.proofs.Write.{file_in}
 use Rattle.meaning.proofs.Opened.{opened}
@@ -107,7 +107,7 @@ tables : early small (eight full 1400000000 600000001) (eight half 800000000 300
     ∷ early links (eight full 1400000000 600000001) (eight half 800000000 300000001)
     ∷ early fixed (eight full 1400000000 600000001) (eight half 800000000 300000001)
     ∷ []
-    ≡ Refused BadTotal ∷ Refused NoChargeableTec ∷ Refused Unscalable ∷ []
+    ≡ Err BadTotal ∷ Err NoChargeableTec ∷ Err Unscalable ∷ []
 unfolding opened
 tables = refl
 
@@ -119,16 +119,16 @@ bases : early windy (eight full 1400000000 600000001) (eight half 800000000 3000
     ∷ early windy full (nine half 800000000 300000001)
     ∷ early windy full (ten half 800000000)
     ∷ []
-    ≡ Refused (BadNumber (Base YearRound) 2) ∷ Refused (Unbalanced (Base YearRound) 1) ∷ Refused (MissesTooHigh (Base YearRound))
-    ∷ Refused (BadNumber (Base Peak) 2)
-    ∷ Refused (Unbalanced (Base Peak) 1)
-    ∷ Refused (MissesTooHigh (Base Peak))
+    ≡ Err (BadNumber (Base YearRound) 2) ∷ Err (Unbalanced (Base YearRound) 1) ∷ Err (MissesTooHigh (Base YearRound))
+    ∷ Err (BadNumber (Base Peak) 2)
+    ∷ Err (Unbalanced (Base Peak) 1)
+    ∷ Err (MissesTooHigh (Base Peak))
     ∷ []
 unfolding opened
 bases = refl
 
 -- 15 of the second circuit before 11 of the first; then 11, of system 4
-doubts : early windy full half ∷ early halves half half ∷ [] ≡ Refused (BackgroundInDoubt 2) ∷ Refused (DirectionInDoubt Peak 1) ∷ []
+doubts : early windy full half ∷ early halves half half ∷ [] ≡ Err (BackgroundInDoubt 2) ∷ Err (DirectionInDoubt Peak 1) ∷ []
 unfolding opened
 doubts = refl
 
@@ -140,10 +140,10 @@ widers : late (eight nought 200000000 1) (eight metres 10200000000 1) (eight nou
     ∷ late nought (nine metres 10200000000 1) (eight nought 200000000 1)
     ∷ late nought (ten metres 10200000000) (eight nought 200000000 1)
     ∷ []
-    ≡ Refused (BadNumber (Wider YearRound) 2) ∷ Refused (Unbalanced (Wider YearRound) 1) ∷ Refused (MissesTooHigh (Wider YearRound))
-    ∷ Refused (BadNumber (Wider Peak) 2)
-    ∷ Refused (Unbalanced (Wider Peak) 1)
-    ∷ Refused (MissesTooHigh (Wider Peak))
+    ≡ Err (BadNumber (Wider YearRound) 2) ∷ Err (Unbalanced (Wider YearRound) 1) ∷ Err (MissesTooHigh (Wider YearRound))
+    ∷ Err (BadNumber (Wider Peak) 2)
+    ∷ Err (Unbalanced (Wider Peak) 1)
+    ∷ Err (MissesTooHigh (Wider Peak))
     ∷ []
 unfolding opened
 widers = refl
@@ -151,6 +151,6 @@ widers = refl
 local : late nought metres (eight nought 200000000 1) ∷ late nought metres (nine nought 200000000 1) ∷ late nought metres (ten nought 200000000)
     ∷ late nought metres nought
     ∷ []
-    ≡ Refused (BadNumber Local 2) ∷ Refused (Unbalanced Local 1) ∷ Refused (MissesTooHigh Local) ∷ Refused ShortBuffer ∷ []
+    ≡ Err (BadNumber Local 2) ∷ Err (Unbalanced Local 1) ∷ Err (MissesTooHigh Local) ∷ Err ShortBuffer ∷ []
 unfolding opened
 local = refl

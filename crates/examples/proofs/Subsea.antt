@@ -5,8 +5,8 @@ use Prim.Native.Nat.{ℕ}
 use lib.ListN.{length, set}
 use Rattle.meaning.specs.Study.{Study}
 use Rattle.meaning.specs.File.{version_of, study_of}
-use Rattle.meaning.specs.declared.Judgement.{Judgement}
-use Rattle.meaning.specs.declared.Judgement.TheVariants.{Passes, Stops}
+use Rattle.meaning.specs.Answers.{Judgement}
+use Rattle.std.specs.Prelude.{Ok, Err}
 use Rattle.meaning.specs.declared.Refusal.TheVariants.{BadFile, BadCircuit}
 use Rattle.meaning.specs.Outcome.{rows_stage, judged, prints}
 use Rattle.meaning.proofs.Write.{name, file_in}
@@ -55,18 +55,18 @@ abbrev rows_of : (version voltage factor : ℕ) → Judgement
 rows_of version voltage factor = rows_stage (study_of (linked version voltage 0 17000 factor))
 
 -- factors at the ends of their range, and 0 where the settings have factors
-factors_pass : rows_of 2 320 1000 ∷ rows_of 2 525 30000 ∷ rows_of 2 400 1000 ∷ rows_of 2 132 0 ∷ [] ≡ Passes ∷ Passes ∷ Passes ∷ Passes ∷ []
+factors_pass : rows_of 2 320 1000 ∷ rows_of 2 525 30000 ∷ rows_of 2 400 1000 ∷ rows_of 2 132 0 ∷ [] ≡ (Ok tt) ∷ (Ok tt) ∷ (Ok tt) ∷ (Ok tt) ∷ []
 unfolding opened
 factors_pass = refl
 
 -- one past them, 0 at a new voltage, a voltage that there is not, and a new voltage in version 1, which has no factor
 factors_stop : rows_of 2 320 999 ∷ rows_of 2 400 30001 ∷ rows_of 2 320 0 ∷ rows_of 2 525 0 ∷ rows_of 2 500 2000 ∷ rows_of 1 320 2000 ∷ rows_of 1 525 0 ∷ []
-    ≡ Stops (BadCircuit 3) ∷ Stops (BadCircuit 3) ∷ Stops (BadCircuit 3) ∷ Stops (BadCircuit 3) ∷ Stops (BadCircuit 3) ∷ Stops (BadCircuit 3) ∷ Stops (BadCircuit 3) ∷ []
+    ≡ Err (BadCircuit 3) ∷ Err (BadCircuit 3) ∷ Err (BadCircuit 3) ∷ Err (BadCircuit 3) ∷ Err (BadCircuit 3) ∷ Err (BadCircuit 3) ∷ Err (BadCircuit 3) ∷ []
 unfolding opened
 factors_stop = refl
 
 -- rows of one version behind a trailer of the other; versions 0 and 3
 versions_stop : judged (set kiln 532 2) kiln_runs [] ∷ judged (set kiln_two 544 1) kiln_runs [] ∷ judged (set kiln_two 544 0) kiln_runs [] ∷ judged (set kiln_two 544 3) kiln_runs [] ∷ []
-    ≡ Stops BadFile ∷ Stops BadFile ∷ Stops BadFile ∷ Stops BadFile ∷ []
+    ≡ Err BadFile ∷ Err BadFile ∷ Err BadFile ∷ Err BadFile ∷ []
 unfolding opened
 versions_stop = refl

@@ -1,40 +1,50 @@
--- A field that the file's end cuts: the bytes past the end are 0.
-use mathlib.Core.Path.{◌≡◌}
+-- A range's test, numbers of little-endian bytes and the two's complement of a word, as the standard library has them.
+use mathlib.Core.Path.{◌≡◌, refl, ap}
+use mathlib.Core.Bool.{cond}
 use mathlib.Core.List.{List}
-use Prim.Native.Nat.{ℕ, ◌+◌, ◌*◌, ◌-◌, ◌^◌, ◌≤◌, ◌<◌}
-use lib.IntN.{pos, negsuc, ◌-ℤ◌}
-use lib.ListN.{length, get_or, get_or-eq_default}
+use Prim.Native.Nat.{ℕ, ◌+◌, ◌-◌, ◌^◌, ◌<◌}
+use native.Mathlib.Decide.{dec_lt}
+use native.Mathlib.Nat.{add-zero, add_assoc}
 use native.Mathlib.Omega.{arith}
 use borrow.Author.Tests.{lt-ltb, le-ltb}
-use mir.Syntax.{w64}
-use mir.Val.{SFits}
-use Rattle.integers.proofs.Core.{Z}
-use Rattle.meaning.specs.File.{u32, u64, i64}
+use lib.Dec.{ltb, leb}
+use lib.IntN.{pos, negsuc}
+use mir.Syntax.{w32, w64}
+use mir.Val.{to_z}
+use Rattle.std.specs.Int.{from_le_bytes}
+use Rattle.std.specs.List.{slice_index}
+use Rattle.meaning.specs.File.{u32, u64}
+use Rattle.std.specs.Ordering.{is_le, nat_cmp}
+use Rattle.std.proofs.lemmas.Bool.Decides.{nat_tests}
 
-pub past : (file : List ℕ) (k : ℕ) → length file ≤ k → get_or file k 0 ≡ 0
-past file k h = get_or-eq_default file 0 h
+pub le_cmp : (a b : ℕ) → is_le (nat_cmp a b) ≡ leb a b
+le_cmp a b = grind (arith, nat_tests)
 
-module _ (file : List ℕ) (at : ℕ) where
-  pub u32_past : length file ≤ at → u32 file at ≡ 0
+-- numbers of bytes that are the file's from a place on
+module _ (file bytes : List ℕ) (at : ℕ) where
+  pub u32_bytes : ((k : ℕ) → k < 4 → slice_index bytes k ≡ slice_index file (at + k)) → from_le_bytes w32 bytes ≡ u32 file at
   unfolding u32
-  u32_past h = omega (arith, past file at h, past file (at + 1) (omega arith), past file (at + 2) (omega arith), past file (at + 3) (omega arith))
+  u32_bytes b = omega (arith, rw add-zero at (b 0 (omega arith)), b 1 (omega arith), b 2 (omega arith), b 3 (omega arith))
 
-  pub u32_three : length file ≤ at + 3 → u32 file at ≡ get_or file at 0 + 256 * get_or file (at + 1) 0 + 65536 * get_or file (at + 2) 0
-  unfolding u32
-  u32_three h = omega (arith, past file (at + 3) (omega arith))
+  pub u64_bytes : ((k : ℕ) → k < 8 → slice_index bytes k ≡ slice_index file (at + k)) → from_le_bytes w64 bytes ≡ u64 file at
+  unfolding u32 u64
+  u64_bytes b =
+      simp add_assoc
+      (omega (
+        arith,
+        rw add-zero at (b 0 (omega arith)),
+        b 1 (omega arith),
+        b 2 (omega arith),
+        b 3 (omega arith),
+        b 4 (omega arith),
+        b 5 (omega arith),
+        b 6 (omega arith),
+        b 7 (omega arith),
+      ))
 
--- the two's complement of a word, and what it asks
-complement : (m : ℕ) → negsuc 0 -ℤ pos m ≡ negsuc m
-complement m = simp Z (omega arith)
-
-pub complement_fits : (m : ℕ) → m < 2 ^ 63 → SFits w64 (negsuc 0 -ℤ pos m)
-complement_fits m = simp Z (omega arith)
-
-module _ (file : List ℕ) (at : ℕ) where
-  pub i64_above : (v : ℕ) → v ≡ u64 file at → v < 2 ^ 63 → pos v ≡ i64 file at
-  unfolding i64
-  i64_above v e h = rw (← e, lt-ltb _ _ h)
-
-  pub i64_below : (v : ℕ) → v ≡ u64 file at → 2 ^ 63 ≤ v → negsuc 0 -ℤ pos (2 ^ 64 - 1 - v) ≡ i64 file at
-  unfolding i64
-  i64_below v e h = rw (← e, le-ltb _ _ h) (complement (2 ^ 64 - 1 - v))
+pub signed : (v : ℕ) → to_z w64 v ≡ cond (ltb v (2 ^ 63)) (pos v) (negsuc (2 ^ 64 - 1 - v))
+signed v = go (dec_lt v (2 ^ 63))
+  where
+    go : Dec (v < 2 ^ 63) → to_z w64 v ≡ cond (ltb v (2 ^ 63)) (pos v) (negsuc (2 ^ 64 - 1 - v))
+    go (yes h) = rw (lt-ltb v (2 ^ 63) h) refl
+    go (no h) = rw (le-ltb v (2 ^ 63) (omega arith)) (ap negsuc (omega arith))

@@ -19,7 +19,6 @@ use Rattle.meaning.specs.declared.Direction.TheVariants.{Idle, Forward, Backward
 use Rattle.meaning.specs.Editions.{same_background}
 use Rattle.meaning.specs.Direction.{direction, signed, background}
 use Rattle.meaning.specs.declared.Background.{Background}
-use Rattle.meaning.specs.declared.Counting.{Counting}
 use Rattle.meaning.specs.declared.System.{System}
 use Rattle.meaning.specs.declared.System.TheVariants.{Base, Wider, Local}
 use Rattle.meaning.proofs.Columns.{column_at, column_past}
@@ -63,9 +62,6 @@ module _ (long : ℕ) (flow : ℤ) where
     doubtful_length e = rw (signed_is, ← e) refl
 
 -- ---- by the background
-pub counts_are : (b : Background) (counting : Counting) {x y : Background} → b ≡ x → background counting ≡ y → same_background x y ≡ same_background b (background counting)
-counts_are b counting e f = rw (e, f) refl
-
 module _ (b : Background) (long : ℕ) (h : Heading) where
   pub wider_own : same_background b (background h.counting) ≡ true → signed_by long h.flow ≡ wider_in b long h
   unfolding wider_in

@@ -37,13 +37,11 @@ pub fn net_flows<'a>(
     ensures { result ≡ net_flows n first.now second.now run.now }
 {
     let m = reading::circuits_in(n, run.len());
-    let mut net = [0i64; 256];
-    let mut c: usize = 0;
-    while c < m {
+    let mut net = [0; 256];
+    for c in 0..m {
         let flow = reading::carried(run[n + c]);
         circuit::add_at(&mut net, first[c], flow);
-        circuit::add_at(&mut net, second[c], 0 - flow);
-        c += 1;
+        circuit::add_at(&mut net, second[c], -flow);
     }
     net
 }
@@ -60,16 +58,14 @@ pub fn misses_low<'a>(
     ensures { result ≡ misses_low n first.now second.now x.now offset.now run.now }
 {
     let m = reading::circuits_in(n, run.len());
-    let mut total: u64 = 0;
-    let mut c: usize = 0;
-    while c < m {
+    let mut total = 0;
+    for c in 0..m {
         let p = reading::number_at(run, first[c]);
         let q = reading::number_at(run, second[c]);
         total += circuit::miss_size(p, q, x[c], run[n + c], offset[c]);
         if total > 100000000 {
             return false;
         }
-        c += 1;
     }
     true
 }
@@ -90,11 +86,9 @@ pub fn headings(
         flow: 0,
     };
     let mut all = [none; 512];
-    let mut c: usize = 0;
-    while c < m {
+    for c in 0..m {
         let peak = reading::number_at(peak_base, n + c);
         all[c] = numbers::heading_of(edition, mark[c], base[n + c], peak);
-        c += 1;
     }
     all
 }
@@ -108,11 +102,9 @@ pub fn offsets<'a>(
 ) -> [i64; 512]
     ensures { result ≡ offsets_of system length.now mark.now headings }
 {
-    let mut offset = [0i64; 512];
-    let mut c: usize = 0;
-    while c < 512 {
+    let mut offset = [0; 512];
+    for c in 0..512 {
         offset[c] = marks::offset_of(system, length[c], mark[c], headings[c]);
-        c += 1;
     }
     offset
 }

@@ -16,10 +16,9 @@ pub fn signed_length(long: u64, flow: i64) -> i64
     }
     let nm = (1000000 * long) as i64;
     match numbers::direction_of(flow) {
-        Direction::Idle => 0,
         Direction::Forward => nm,
-        Direction::Backward => 0 - nm,
-        Direction::InDoubt => 0,
+        Direction::Backward => -nm,
+        Direction::Idle | Direction::InDoubt => 0,
     }
 }
 
@@ -27,24 +26,14 @@ pub fn signed_length(long: u64, flow: i64) -> i64
 pub fn counts_in(background: Background, counting: Counting) -> bool
     ensures { result ≡ same_background background (own_background counting) }
 {
-    match numbers::background_of(counting) {
-        Background::YearRound => match background {
-            Background::YearRound => true,
-            Background::Peak => false,
-        },
-        Background::Peak => match background {
-            Background::YearRound => false,
-            Background::Peak => true,
-        },
-    }
+    background == numbers::background_of(counting)
 }
 
 // An unmarked circuit's offset in the wider system of a background: its signed length where it counts for it, nothing in the other.
 pub fn wider_offset(background: Background, long: u64, heading: Heading) -> i64
     ensures { result ≡ wider_in background long heading }
 {
-    let counting = heading.counting;
-    if counts_in(background, counting) {
+    if counts_in(background, heading.counting) {
         return signed_length(long, heading.flow);
     }
     0
@@ -55,18 +44,8 @@ pub fn offset_of(system: System, long: u64, mark: u64, heading: Heading) -> i64
     ensures { result ≡ offset_in system long mark heading }
 {
     match system {
-        System::Base(_) => 0,
-        System::Wider(background) => {
-            if mark == 0 {
-                return wider_offset(background, long, heading);
-            }
-            0
-        }
-        System::Local => {
-            if mark != 0 {
-                return signed_length(long, heading.flow);
-            }
-            0
-        }
+        System::Wider(background) if mark == 0 => wider_offset(background, long, heading),
+        System::Local if mark != 0 => signed_length(long, heading.flow),
+        _ => 0,
     }
 }

@@ -7,23 +7,14 @@ ghost use Rattle.flows.specs.Turns.{Counted};
 pub fn circuits_in(n: usize, long: usize) -> usize
     ensures { Counted n long result }
 {
-    if long <= n {
-        return 0;
-    }
-    if long - n <= 512 {
-        return long - n;
-    }
-    512
+    long.saturating_sub(n).min(512)
 }
 
 // Number i of a run, or 0 past its end.
 pub fn number_at(run: &[i64], i: usize) -> i64
     ensures { result ≡ number run.now i }
 {
-    if i < run.len() {
-        return run[i];
-    }
-    0
+    run.get(i).copied().unwrap_or(0)
 }
 
 // A flow, or 0 where it is out of its range, so that no sum of flows wraps.

@@ -2,14 +2,10 @@
 -- All that is said here of the nearest follows from `nearest_error`, and holds whatever happens to a half; only `nearest_mirror` and `nearest_moved` know where it goes.
 use mathlib.Core.Path.{◌≡◌}
 use mathlib.Core.Logic.{◌⊎◌, inl, inr}
-use Prim.Native.Nat.{ℕ, zero, suc, ◌*◌, ◌^◌, ◌≤◌, ◌<◌}
-use native.Mathlib.Nat.{mul-le-mul_right}
+use Prim.Native.Nat.{ℕ, zero, suc, ◌*◌, ◌≤◌, ◌<◌}
 use native.Mathlib.Omega.{arith}
 use lib.IntN.{ℤ, pos, neg_ℤ, nat_abs, ◌+ℤ◌, ◌-ℤ◌, ◌*ℤ◌}
-use lib.Pow.{pow_pos}
 use lib.Signed.{◌≤ℤ◌, ◌<ℤ◌}
-use mir.Syntax.{Width}
-use mir.Val.{SFits, hbits}
 use Rattle.integers.specs.Numbers.{rounded, nearest, Near}
 use Rattle.integers.proofs.Core.{Z}
 use Rattle.integers.proofs.Laws.{lt_of_mul_lt, le-or-lt, le_antisymm, le_refl}
@@ -68,11 +64,3 @@ nearest_abs z (suc d) = nearest_within z (nat_abs z) (suc d) (omega arith)
 pub rounded_most : (a d : ℕ) → rounded a d ≤ a
 unfolding nearest
 rounded_most a d = nearest_abs (pos a) d
-
-pub nearest_fits : (w : Width) (z : ℤ) (d : ℕ) → SFits w z → SFits w (nearest z d)
-nearest_fits w z zero h = rw (nearest_none z) (record { sfits = pow_pos (hbits w) })
-nearest_fits w z (suc d) h =
-    let room = mul-le-mul_right d (pow_pos (hbits w)) in
-    let most = nearest_le z (pos (2 ^ hbits w) -ℤ pos 1) (suc d) (omega arith) (simp Z (omega (arith, simp Z at h, room))) in
-    let least = nearest_ge z (neg_ℤ (pos (2 ^ hbits w))) (suc d) (omega arith) (simp Z (omega (arith, simp Z at h))) in
-    simp Z (omega (arith, simp Z at most, simp Z at least))

@@ -1,19 +1,20 @@
 -- The tests of a file, from the numbers that code has read: counts, chain and what is left; and a section from its trailer.
 use mathlib.Core.Path.{◌≡◌, refl, sym}
 use mathlib.Core.List.{List}
-use mathlib.Core.Bool.{Bool, true, false, cond, ◌&&◌}
+use mathlib.Core.Logic.{◌≢◌}
+use mathlib.Core.Bool.{and_assoc, and-true, and-false, or-false, Bool, true, false, cond, ◌&&◌}
 use Prim.Native.Nat.{ℕ, zero, suc, ◌+◌, ◌*◌, ◌-◌, ◌≤◌, ◌<◌, ◌^◌}
-use native.Mathlib.Nat.{mul-le-mul}
+use native.Mathlib.Nat.{add-zero, add_assoc, mul-le-mul}
 use native.Mathlib.Omega.{arith}
-use borrow.Author.Tests.{lt-leb}
+use borrow.Author.Tests.{lt-leb, ne_eqb}
 use lib.Dec.{eqb, leb}
 use lib.ListN.{length}
+use Rattle.std.specs.List.{list_all, range_with_len}
 use Rattle.meaning.specs.declared.Edition.{Edition}
 use Rattle.meaning.specs.declared.Edition.TheVariants.{First, Second}
 use Rattle.meaning.specs.Rows.{◌between◌and◌, all}
 use Rattle.meaning.specs.File.{u32, edition_at, solutions, sections, trailer_size, circuit_size, record_size, most_circuits, version_of, known_edition, stated_length, section_count, section_offset, section_start, section, counted, chained, file_whole}
 use Rattle.meaning.proofs.Says.{says_le}
-use Rattle.meaning.proofs.Frame.{sections_are}
 use Rattle.meaning.proofs.Whole.{whole_file}
 
 -- numbers below 5
@@ -28,6 +29,20 @@ five P a b c d e (suc (suc (suc (suc (suc k))))) h = absurd (omega arith)
 four : (s : ℕ) → 4 ≤ s → 4 + (s - 4) ≡ s
 four s h = omega arith
 
+-- ---- the editions by number
+module _ (version : ℕ) where
+  pub known_zero : (leb 1 version && leb version 2) ≡ known_edition version 0
+  unfolding known_edition ◌between◌and◌
+  known_zero = simp (and-true, and-false, or-false)
+
+  pub known_two : eqb version 2 ≡ known_edition version 2
+  unfolding known_edition ◌between◌and◌
+  known_two = simp (and-true, and-false)
+
+  pub known_none : (edition : ℕ) → edition ≢ 0 → edition ≢ 2 → false ≡ known_edition version edition
+  unfolding known_edition ◌between◌and◌
+  known_none edition h k = simp (ne_eqb edition 0 h, ne_eqb edition 2 k, and-false)
+
 -- ---- the frame of each edition
 -- the tables and three solutions are sections of both
 pub sections_least : (e : Edition) → 7 ≤ sections e
@@ -37,11 +52,6 @@ sections_least Second = omega arith
 pub sections_most : (e : Edition) → sections e ≤ 9
 sections_most First = omega arith
 sections_most Second = omega arith
-
--- a trailer: 8 bytes a section, and 8 for version and length
-pub trailer_is : (e : Edition) → 8 * sections e + 8 ≡ trailer_size e
-trailer_is First = refl
-trailer_is Second = refl
 
 module _ (file : List ℕ) where
   -- the numbers of the trailer, tested one by one
@@ -104,30 +114,21 @@ pub solution_size : (v k : ℕ) → 3 < k → k < 9 → 8 ≡ record_size v k
 unfolding record_size
 solution_size v k h l = rw (four k h) at (five (λ j. 8 ≡ record_size v (4 + j)) refl refl refl refl refl (k - 4) (omega arith))
 
--- ---- the solutions, one after the other: whether those before section k have this many numbers
-pub record SolvedTo (file : List ℕ) (numbers k : ℕ) (each : Bool) : Type 0 where
-  pub least : 4 ≤ k
-  pub most : k ≤ sections (edition_at file)
-  pub so_far : each ≡ all (λ j. eqb (section_count file (4 + j)) numbers) (k - 4)
+-- ---- a test of numbers that follow one another, from the first and from the last
+all_front : (f : ℕ → Bool) (n : ℕ) → all f (suc n) ≡ (f 0 && all (λ k. f (suc k)) n)
+unfolding all
+all_front f zero = sym (and-true (f 0))
+all_front f (suc n) = rw (all_front f n) (and_assoc (f 0) _ _)
 
-module _ {file : List ℕ} {numbers : ℕ} where
-  pub solved_none : SolvedTo file numbers 4 true
-  unfolding all
-  solved_none = record { least = omega arith; most = omega (arith, sections_least (edition_at file)); so_far = refl }
+one_more : (k : ℕ) → suc k ≡ 1 + k
+one_more k = omega arith
 
-  pub solved_on : {k count : ℕ} {each : Bool} → SolvedTo file numbers k each → k < sections (edition_at file) → count ≡ section_count file k
-      → SolvedTo file numbers (k + 1) (each && eqb count numbers)
-  unfolding all
-  solved_on {k} t h n =
-      let e : k + 1 - 4 ≡ suc (k - 4) = omega (arith, t.least) in
-      record { least = omega (arith, t.least); most = omega arith; so_far = rw (e, four k t.least, n, t.so_far) refl }
+pub all_range : (test : ℕ → Bool) (n a : ℕ) → list_all test (range_with_len a n) ≡ all (λ k. test (a + k)) n
+unfolding all
+all_range test zero a = refl
+all_range test (suc n) a = rw (all_range test n (a + 1), all_front (λ k. test (a + k)) n) (simp (add-zero, add_assoc, one_more))
 
-  pub solved_is : {k : ℕ} {each : Bool} → SolvedTo file numbers k each → sections (edition_at file) ≤ k
-      → each ≡ all (λ j. eqb (section_count file (4 + j)) numbers) (solutions (edition_at file))
-  solved_is {k} t h =
-      let e : k - 4 ≡ solutions (edition_at file) = omega (arith, t.most, sections_are (edition_at file)) in
-      rw e at t.so_far
-
+-- ---- the chain
 -- after k turns: whether the first k sections follow one another, and where the next begins
 pub record ChainedTo (file : List ℕ) (k : ℕ) (follow : Bool) (start : ℕ) : Type 0 where
   pub within : k ≤ sections (edition_at file)

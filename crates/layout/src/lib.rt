@@ -11,7 +11,7 @@ ghost use Rattle.layout.specs.Frame.{counts_of};
 
 use meaning::{Section, Settings};
 
-// The sections that hold rows, by number.
+// The sections that hold rows, by number. Numbers and no enum: `section` answers every number, and one past the last of its edition has no rows.
 pub const NODES: usize = 1;
 
 pub const CIRCUITS: usize = 2;
@@ -81,8 +81,5 @@ pub fn counts(file: &[u8]) -> RowCounts
 pub fn settings(file: &[u8]) -> Settings
     ensures { result ≡ (readable file.now).settings }
 {
-    if whole(file) {
-        return settings_row::settings(file);
-    }
-    settings_row::settings(&file[0..0])
+    settings_row::settings(if whole(file) { file } else { &[] })
 }

@@ -1,11 +1,10 @@
 // The frame, and the trailer that points back at it: for each section its offset and its count, then version and length.
 ghost use Rattle.std.specs.Prelude.{◌≡◌, true, ◌+◌, ◌-◌, ◌*◌, ◌≤◌, ◌<◌, ◌^◌, eqb, length};
 ghost use Rattle.meaning.specs.Rows.{all};
-ghost use Rattle.meaning.specs.declared.Edition.TheVariants.{First};
 ghost use Rattle.meaning.specs.File.{edition_at, solutions, sections, trailer_size, circuit_size, record_size, most_circuits, version_of, known_edition, section_offset, section_count, section, counted, chained, file_whole, study_of};
 ghost use Rattle.layout.specs.Frame.{counts_of};
 
-use crate::RowCounts;
+use crate::{CIRCUITS, NODES, RowCounts, STATIONS};
 use meaning::{Edition, Section};
 
 // The edition that a file names. A number that names none is read as edition 1, and such a file is not whole.
@@ -22,7 +21,11 @@ pub fn edition(file: &[u8]) -> Edition
 pub fn known(version: usize, edition: usize) -> bool
     ensures { result ≡ known_edition version edition }
 {
-    (((1 <= version) & (version <= 2)) & (edition == 0)) | ((version == 2) & (edition == 2))
+    match edition {
+        0 => (1..=2).contains(&version),
+        2 => version == 2,
+        _ => false,
+    }
 }
 
 // The sections of a file: the settings, three tables and the solutions.
@@ -64,19 +67,10 @@ fn circuit_size(version: usize) -> usize
 fn most_circuits(edition: Edition, version: usize) -> usize
     ensures { result ≡ most_circuits edition version }
 {
-    match edition {
-        Edition::First => most_of_first(version),
-        Edition::Second => 320,
-    }
-}
-
-// The most of edition 1.
-fn most_of_first(version: usize) -> usize
-    ensures { result ≡ most_circuits First version }
-{
-    match version {
-        2 => 480,
-        _ => 512,
+    match (edition, version) {
+        (Edition::First, 2) => 480,
+        (Edition::First, _) => 512,
+        (Edition::Second, _) => 320,
     }
 }
 
@@ -87,9 +81,9 @@ pub fn record_size(version: usize, section: usize) -> usize
 {
     match section {
         0 => 64,
-        1 => 24,
-        2 => circuit_size(version),
-        3 => 32,
+        NODES => 24,
+        CIRCUITS => circuit_size(version),
+        STATIONS => 32,
         _ => 8,
     }
 }
@@ -123,14 +117,7 @@ fn solved(file: &[u8], numbers: usize) -> bool
     requires { 128 ≤ length file.now }
     ensures { result ≡ all (λ k. eqb (section_count file.now (4 + k)) numbers) (solutions (edition_at file.now)) }
 {
-    let sections = sections(file);
-    let mut each = true;
-    let mut section = 4;
-    while section < sections {
-        each = each & (count(file, section) == numbers);
-        section += 1;
-    }
-    each
+    (4..sections(file)).all(|section| count(file, section) == numbers)
 }
 
 // Whether each table's count is in its range, and a solution has as many numbers as nodes and circuits.
@@ -138,12 +125,12 @@ pub fn counted(file: &[u8]) -> bool
     requires { 128 ≤ length file.now }
     ensures { result ≡ counted file.now }
 {
-    let nodes = count(file, 1);
-    let circuits = count(file, 2);
+    let nodes = count(file, NODES);
+    let circuits = count(file, CIRCUITS);
     (count(file, 0) == 1)
-        & ((1 <= nodes) & (nodes <= 256))
+        & (1..=256).contains(&nodes)
         & (circuits <= most_circuits(edition(file), version(file)))
-        & (count(file, 3) <= 512)
+        & (count(file, STATIONS) <= 512)
         & solved(file, nodes + circuits)
 }
 
@@ -153,14 +140,11 @@ pub fn chained(file: &[u8]) -> bool
     ensures { result ≡ chained file.now }
 {
     let version = version(file);
-    let sections = sections(file);
     let mut follow = true;
     let mut start = 0;
-    let mut section = 0;
-    while section < sections {
-        follow = follow & (offset(file, section) == start);
+    for section in 0..sections(file) {
+        follow &= offset(file, section) == start;
         start += record_size(version, section) * count(file, section);
-        section += 1;
     }
     follow & (start + trailer_size(file) == file.len())
 }
@@ -171,9 +155,9 @@ pub fn row_counts(file: &[u8]) -> RowCounts
     ensures { result ≡ counts_of (study_of file.now) }
 {
     RowCounts {
-        nodes: count(file, 1),
-        circuits: count(file, 2),
-        stations: count(file, 3),
+        nodes: count(file, NODES),
+        circuits: count(file, CIRCUITS),
+        stations: count(file, STATIONS),
     }
 }
 

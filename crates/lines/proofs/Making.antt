@@ -1,12 +1,12 @@
 -- Writings one after the other, and texts taken byte by byte.
-use Prim.Native.Nat.{ℕ, suc, ◌+◌, ◌≤◌, ◌<◌}
+use Prim.Native.Nat.{ℕ, suc, ◌+◌, ◌-◌, ◌≤◌}
 use mathlib.Core.Path.{◌≡◌, refl, sym, ap, ◌∙◌}
-use mathlib.Core.List.{List, [], ◌∷◌, ◌++◌}
-use native.Mathlib.Numerals.{add-one}
+use mathlib.Core.List.{List, [], ◌∷◌, ◌++◌, append_assoc}
 use native.Mathlib.Nat.{add-zero, zero-add, add-suc, suc-add}
 use native.Mathlib.Omega.{arith}
-use lib.ListN.{length, get_or, set, take, drop, length-append}
-use lib.Seq.{sets, sets-eq, length-sets, take-suc, take-append_seam}
+use lib.ListN.{length, set, take, drop, length-append}
+use lib.Seq.{drop-drop, sets, sets-eq, length-sets, take-append_seam}
+use borrow.Rule.Slice.PartMut.{put_mid}
 use Rattle.meaning.specs.Rows.{joined}
 use Rattle.meaning.proofs.Rows.{joined_none, joined_more}
 use Rattle.lines.specs.declared.Line.{Line}
@@ -35,10 +35,6 @@ both {v} {w} {old} {mid} {new} {at} {m} {r} {t} {u} p q =
 pub put_none : (old : List ℕ) (at : ℕ) → Put 0 old at [] old at
 put_none old at = record { list = refl; next = sym (add-zero at); short = omega arith }
 
--- one byte
-pub put_one : (old : List ℕ) (at b : ℕ) → Put 1 old at (b ∷ []) (set old at b) (at + 1)
-put_one old at b = record { list = refl; next = refl; short = omega arith }
-
 -- a bound that is higher, or that is known otherwise
 pub within : {v w : ℕ} {old : List ℕ} {at : ℕ} {t new : List ℕ} {r : ℕ} → Put v old at t new r → length t ≤ w → Put w old at t new r
 within p h = record { list = p.list; next = p.next; short = h }
@@ -59,18 +55,12 @@ pub rows_more : {n w : ℕ} {old : List ℕ} {from : ℕ} (f : ℕ → List ℕ)
     → Put (n + w) old from (joined (k + 1) f) new r
 rows_more f k p q = rw (joined_more k f) (both p q)
 
--- a text taken byte by byte: one byte more, at a loop's `i + 1`
-pub take_more : (l : List ℕ) (i : ℕ) → i < length l → take (i + 1) l ≡ take i l ++ (get_or l i 0 ∷ [])
-take_more l i h = rw (add-one i) (take-suc l i 0 h)
-
--- one byte more is copied
-pub copy_more : {old : List ℕ} {at : ℕ} {out : List ℕ} (l : List ℕ) (i : ℕ) → i < length l → Put i old at (take i l) out (at + i)
-    → Put (i + 1) old at (take (i + 1) l) (set out (at + i) (get_or l i 0)) (at + (i + 1))
-copy_more {old} {at} {out} l i h p =
-    let e : at + (i + 1) ≡ at + i + 1 = omega arith in rw (take_more l i h, e) (both p (put_one out (at + i) (get_or l i 0)))
-
-pub copy_none : (old : List ℕ) (at : ℕ) → Put 0 old at [] old (at + 0)
-copy_none old at = rw (add-zero at) (put_none old at)
+-- a text copied over a part
+pub put_word : (old : List ℕ) (at : ℕ) (t : List ℕ) {part : List ℕ} → part ≡ t → at + length t ≤ length old
+    → Put (length t) old at t (put_mid at (at + length t - at) old part) (at + length t)
+put_word old at t {part} e h =
+    let k : at + length t - at ≡ length t = omega arith in
+    record { list = rw (e, k, drop-drop, ← append_assoc) (sym (sets-eq t old at h)); next = refl; short = omega arith }
 
 -- a text at the front of a buffer, by what stands behind it, and as its first part
 module _ {v : ℕ} {old t new : List ℕ} {r : ℕ} (p : Put v old 0 t new r) (h : v ≤ length old) where
@@ -88,15 +78,12 @@ module _ {most : ℕ} {t : List ℕ} (l : Line) (h : Holds most t l) (fits : mos
   unfolding zeros
   wide = refl
 
-  held_length : length l.bytes ≡ width
-  held_length = kept h ∙ wide
-
   held_short : l.len ≤ most
   held_short = omega (arith, h.next, h.short)
 
   -- what a copy of it asks, where there is room for it
-  pub ready : (at : ℕ) {n : ℕ} → at + most ≤ n → (l.len ≤ width) × (l.len ≤ length l.bytes) × (at + l.len ≤ n)
-  ready at room = (omega (arith, held_short), omega (arith, held_short, held_length), omega (arith, held_short))
+  pub ready : (at : ℕ) {n : ℕ} → at + most ≤ n → (l.len ≤ width) × (at + l.len ≤ n)
+  ready at room = (omega (arith, held_short), omega (arith, held_short))
 
   -- its copy is the text's
   pub copied : {v : ℕ} {old : List ℕ} {at : ℕ} {new : List ℕ} {r : ℕ} → Put v old at (take l.len l.bytes) new r → Put most old at t new r

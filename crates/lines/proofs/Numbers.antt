@@ -1,19 +1,23 @@
--- The decimal digits of a number by their last digit, and how many there are.
-use Prim.Native.Nat.{ℕ, ◌+◌, ◌/◌, ◌%◌, ◌^◌, ◌≤◌, ◌<◌}
+-- The decimal digits of a number by their last digit, how many there are, and numbers one after the other.
+use Prim.Native.Nat.{ℕ, ◌+◌, ◌/◌, ◌^◌, ◌≤◌, ◌<◌}
 use mathlib.Core.Path.{◌≡◌, refl, sym, ap, ◌∙◌}
-use mathlib.Core.List.{List, [], ◌∷◌, ◌++◌, append_assoc}
+use mathlib.Core.List.{List, [], ◌∷◌, ◌++◌, append_assoc, append-nil}
+use native.Mathlib.Numerals.{add-one}
 use native.Mathlib.Omega.{arith}
 use lib.IntN.{ℤ, pos, negsuc, nat_abs}
-use lib.ListN.{length, length-append, get_or, set}
+use lib.ListN.{length, length-append, get_or, take}
+use lib.Seq.{take-suc}
 use lib.Signed.{◌<ℤ◌, ◌≤ℤ◌}
 use mir.Syntax.{w64}
 use mir.Val.{SFits}
 use Rattle.integers.proofs.Core.{Z}
-use Rattle.meaning.specs.Rows.{joined}
 use Rattle.meaning.specs.Text.{text, natural, decimal, decimals, ends}
+use Rattle.meaning.specs.Sheet.{zone_numbers}
+use Rattle.meaning.specs.declared.Form.{Form}
+use Rattle.meaning.specs.declared.Form.TheVariants.{OneBackground, TwoBackgrounds, Sharing}
+use Rattle.meaning.specs.declared.ZoneFigures.{ZoneFigures}
 use Rattle.sizes.proofs.Widths.{natural_one, natural_more, natural_length, decimal_length}
-use Rattle.lines.specs.Making.{Put}
-use Rattle.lines.proofs.Making.{both, put_one, within}
+use Rattle.lines.specs.Making.{spaced, told}
 
 -- ---- how many
 pub natural_one_length : (n : ℕ) → n < 10 → length (natural n) ≡ 1
@@ -41,21 +45,28 @@ decimal_above (negsuc n) h = absurd h.le
 pub decimal_i64 : (z : ℤ) → SFits w64 z → length (decimal z) ≤ 20
 decimal_i64 z h = let k = simp Z at h in decimal_length 18 18 20 z (omega arith) (omega arith) (simp Z (omega arith)) (simp Z (omega arith))
 
--- ---- numbers behind the fields of a line: number k, each behind a space, and then the line's end
-unfoldable pub spaced : List ℤ → ℕ → List ℕ
-spaced zs k = text " " ++ decimal (get_or zs k (pos 0))
+-- ---- numbers behind the fields of a line: one more, those of two lists, and a line's last
+pub spaced_both : (xs ys : List ℤ) → spaced (xs ++ ys) ≡ spaced xs ++ spaced ys
+unfolding spaced
+spaced_both [] ys = refl
+spaced_both (x ∷ xs) ys = ap (λ (l : List ℕ). (text " " ++ decimal x) ++ l) (spaced_both xs ys) ∙ sym (append_assoc (text " " ++ decimal x) (spaced xs) (spaced ys))
 
-pub ends_spaced : (zs : List ℤ) → ends (decimals zs) ≡ joined (length zs) (spaced zs) ++ text "\n"
-unfolding ends decimals joined spaced
+pub spaced_more : (zs : List ℤ) (i : ℕ) → i < length zs → spaced (take (i + 1) zs) ≡ spaced (take i zs) ++ (text " " ++ decimal (get_or zs i (pos 0)))
+unfolding spaced
+spaced_more zs i h =
+    rw (add-one i, take-suc zs i (pos 0) h)
+    (spaced_both (take i zs) (get_or zs i (pos 0) ∷ []) ∙ ap (λ (l : List ℕ). spaced (take i zs) ++ l) (append-nil (text " " ++ decimal (get_or zs i (pos 0)))))
+
+pub ends_spaced : (zs : List ℤ) → ends (decimals zs) ≡ spaced zs ++ text "\n"
+unfolding ends decimals spaced
 ends_spaced [] = refl
 ends_spaced (z ∷ zs) =
     ap (λ (l : List ℕ). text " " ++ (decimal z ++ l)) (ends_spaced zs)
-    ∙ sym (append_assoc (text " " ++ decimal z) (joined (length zs) (spaced zs)) (text "\n"))
+    ∙ sym (append_assoc (text " " ++ decimal z) (spaced zs) (text "\n"))
 
--- ---- one digit is written, and the last digit after the others
-pub put_first : (old : List ℕ) (at n : ℕ) → n < 10 → Put (length (natural n)) old at (natural n) (set old at (48 + n)) (at + 1)
-put_first old at n h = rw (natural_one n h) (put_one old at (48 + n))
-
-pub put_last : {v : ℕ} {old mid : List ℕ} {at m : ℕ} (n : ℕ) → 10 ≤ n → Put v old at (natural (n / 10)) mid m
-    → Put (length (natural n)) old at (natural n) (set mid m (48 + n % 10)) (m + 1)
-put_last {v} {old} {mid} {at} {m} n h p = within {v = v + 1} (rw (natural_more n h) (both p (put_one mid m (48 + n % 10)))) (omega arith)
+-- the numbers of a zone's line
+pub zone_numbers_told : (form : Form) (r : ℤ) (z : ZoneFigures) → zone_numbers form r z ≡ told form z ++ (r ∷ z.total.0 ∷ [])
+unfolding zone_numbers told
+zone_numbers_told OneBackground r z = refl
+zone_numbers_told TwoBackgrounds r z = refl
+zone_numbers_told Sharing r z = refl

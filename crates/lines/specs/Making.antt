@@ -1,6 +1,11 @@
 -- Texts written at a place, and lines made from them.
-use Rattle.std.specs.Prelude.{ℕ, ◌+◌, ◌≤◌, ◌≡◌, List, length, replicate}
+use Rattle.std.specs.Prelude.{ℕ, ◌+◌, ◌≤◌, ◌≡◌, ℤ, List, [], ◌∷◌, ◌++◌, length, replicate}
 use Rattle.std.proofs.lemmas.List.Edits.{sets}
+use Rattle.meaning.specs.declared.Form.{Form}
+use Rattle.meaning.specs.declared.Form.TheVariants.{OneBackground, TwoBackgrounds, Sharing}
+use Rattle.meaning.specs.declared.ZoneFigures.{ZoneFigures}
+use Rattle.meaning.specs.Text.{text, decimal}
+use Rattle.meaning.specs.Sheet.{wider_then}
 use Rattle.lines.specs.declared.Line.{Line}
 
 -- a text of at most `most` bytes was written at `at`, nothing else changed, and r is the place after it
@@ -23,3 +28,14 @@ zeros = replicate width 0
 -- the line is the text, with zeros behind it
 abbrev pub Holds : (most : ℕ) → List ℕ → Line → Type 0
 Holds most text line = Put most zeros 0 text line.bytes line.len
+
+-- ---- numbers of a line, each behind a space
+unfoldable pub spaced : List ℤ → List ℕ
+spaced [] = []
+spaced (z ∷ zs) = (text " " ++ decimal z) ++ spaced zs
+
+-- those of a zone before residual and total
+unfoldable pub told : Form → ZoneFigures → List ℤ
+told OneBackground z = wider_then z.year_round []
+told TwoBackgrounds z = wider_then z.peak (wider_then z.year_round [])
+told Sharing z = wider_then z.peak (wider_then z.year_round (z.shared.metres.0 ∷ z.shared.tariff.0 ∷ []))

@@ -4,22 +4,23 @@
 mod digits;
 mod words;
 
-ghost use Rattle.std.specs.Prelude.{◌≡◌, take, ◌+◌, ◌≤◌};
+ghost use Rattle.std.specs.Prelude.{◌≡◌, [], ◌++◌, take, length, ◌+◌, ◌≤◌};
 ghost use Rattle.meaning.specs.Name.{unpadded};
-ghost use Rattle.meaning.specs.Text.{decimals, ends, line};
-ghost use Rattle.meaning.specs.declared.Form.TheVariants.{OneBackground, TwoBackgrounds, Sharing};
-ghost use Rattle.meaning.specs.Sheet.{constant_fields, letter, zone_numbers, zone_fields, node_line, remainder_fields};
+ghost use Rattle.meaning.specs.Text.{line, text};
+ghost use Rattle.meaning.specs.Sheet.{constant_fields, letter, zone_fields, node_line, remainder_fields, wider_then};
 ghost use Rattle.meaning.specs.Outcome.{refused_fields};
-ghost use Rattle.lines.specs.Making.{Adds, Holds, width};
+ghost use Rattle.lines.specs.Making.{Adds, Holds, spaced, told, width};
 
-use digits::{with_count, with_numbers};
-use meaning::{Edition, Form, LocalFigures, Metres, MicroPerKw, Side, Values, ZoneFigures};
-use words::{line_of, with_byte, with_name, with_word};
+use digits::{push_count, push_numbers};
+use meaning::{
+    Edition, Form, LocalFigures, Metres, MicroPerKw, Side, Values, WiderFigures, ZoneFigures,
+};
+use words::{empty, line_of, push, push_name, push_word};
 
 // Room for any line: a zone's is the longest, 233 bytes at most whatever its numbers.
 pub const WIDTH: usize = 240;
 
-// The text of a line, zeros behind it, and its length.
+// The text of a line, zeros behind it, and its length (there is no heap).
 #[derive(Clone, Copy)]
 pub struct Line {
     pub bytes: [u8; WIDTH],
@@ -30,11 +31,21 @@ pub struct Line {
 pub fn constant_line(edition: Edition, c: Metres, peak_c: Metres) -> Line
     ensures { Holds 44 (line (constant_fields edition c.0 peak_c.0)) result }
 {
-    let word = line_of(b"C");
     match edition {
-        Edition::First => with_numbers(word, &[c.0]),
-        Edition::Second => with_numbers(word, &[peak_c.0, c.0]),
+        Edition::First => numbered(b"C", &[c.0]),
+        Edition::Second => numbered(b"C", &[peak_c.0, c.0]),
     }
+}
+
+// A line of a letter and up to two numbers.
+fn numbered(letter: &[u8], numbers: &[i64]) -> Line
+    requires { (length letter.now ≡ 1) × (length numbers.now ≤ 2) }
+    ensures { Holds 44 (letter.now ++ (spaced numbers.now ++ text "\n")) result }
+{
+    let mut line = line_of(letter);
+    push_numbers(&mut line, numbers);
+    push(&mut line, b'\n');
+    line
 }
 
 // The letter of a side.
@@ -47,70 +58,30 @@ fn letter_of(side: Side) -> Line
     }
 }
 
-// The numbers of a zone's line, by its form: year round's three, then the residual and the total.
-fn one_background(residual: MicroPerKw, z: ZoneFigures) -> [i64; 5]
-    ensures { result ≡ zone_numbers OneBackground residual.0 z }
+// What a background says of a zone.
+fn push_wider(line: &mut Line, w: WiderFigures)
+    requires { line.old.len + 63 ≤ width }
+    ensures { Adds 63 line.old (spaced (wider_then w [])) line.new }
 {
-    let y = z.year_round;
-    [y.metres.0, y.after_c.0, y.tariff.0, residual.0, z.total.0]
+    push_numbers(line, &[w.metres.0, w.after_c.0, w.tariff.0]);
 }
 
-// 02, request 5: peak's three before them.
-fn two_backgrounds(residual: MicroPerKw, z: ZoneFigures) -> [i64; 8]
-    ensures { result ≡ zone_numbers TwoBackgrounds residual.0 z }
-{
-    let p = z.peak;
-    let y = z.year_round;
-    [
-        p.metres.0,
-        p.after_c.0,
-        p.tariff.0,
-        y.metres.0,
-        y.after_c.0,
-        y.tariff.0,
-        residual.0,
-        z.total.0,
-    ]
-}
-
-// 02, request 6: and the shared metres and their tariff after year round's.
-fn sharing(residual: MicroPerKw, z: ZoneFigures) -> [i64; 10]
-    ensures { result ≡ zone_numbers Sharing residual.0 z }
-{
-    let p = z.peak;
-    let y = z.year_round;
-    let s = z.shared;
-    [
-        p.metres.0,
-        p.after_c.0,
-        p.tariff.0,
-        y.metres.0,
-        y.after_c.0,
-        y.tariff.0,
-        s.metres.0,
-        s.tariff.0,
-        residual.0,
-        z.total.0,
-    ]
-}
-
-// A line with these numbers more, and its end.
-fn with_figures(line: Line, form: Form, residual: MicroPerKw, z: ZoneFigures) -> Line
-    requires { line.len + 211 ≤ width }
-    ensures { Adds 211 line (ends (decimals (zone_numbers form residual.0 z))) result }
+// The numbers of a zone before residual and total, by the form of its line: year round's three; 02, request 5: peak's three before them;
+// request 6: and the shared metres and their tariff after year round's.
+fn push_figures(line: &mut Line, form: Form, z: ZoneFigures)
+    requires { line.old.len + 168 ≤ width }
+    ensures { Adds 168 line.old (spaced (told form z)) line.new }
 {
     match form {
-        Form::OneBackground => {
-            let numbers = one_background(residual, z);
-            with_numbers(line, &numbers)
-        }
+        Form::OneBackground => push_wider(line, z.year_round),
         Form::TwoBackgrounds => {
-            let numbers = two_backgrounds(residual, z);
-            with_numbers(line, &numbers)
+            push_wider(line, z.peak);
+            push_wider(line, z.year_round);
         }
         Form::Sharing => {
-            let numbers = sharing(residual, z);
-            with_numbers(line, &numbers)
+            push_wider(line, z.peak);
+            push_wider(line, z.year_round);
+            push_numbers(line, &[z.shared.metres.0, z.shared.tariff.0]);
         }
     }
 }
@@ -119,46 +90,47 @@ fn with_figures(line: Line, form: Form, residual: MicroPerKw, z: ZoneFigures) ->
 pub fn zone_line(form: Form, side: Side, zone: usize, residual: MicroPerKw, z: ZoneFigures) -> Line
     ensures { Holds width (line (zone_fields form side zone residual.0 z)) result }
 {
-    let lettered = letter_of(side);
-    let numbered = with_count(lettered, zone);
-    let w = z.weight;
-    if w.0 == 0 {
-        return with_word(numbered, b" -\n");
+    let mut line = letter_of(side);
+    push_count(&mut line, zone);
+    if z.weight.0 == 0 {
+        push_word(&mut line, b" -\n");
+        return line;
     }
-    with_figures(numbered, form, residual, z)
+    push_figures(&mut line, form, z);
+    push_numbers(&mut line, &[residual.0, z.total.0]);
+    push(&mut line, b'\n');
+    line
 }
 
 // The line of a node, whose name stands at the front of these bytes: none without TEC.
 pub fn node_line(name: &[u8], l: LocalFigures) -> Line
     ensures { Holds 57 (node_line (unpadded (take 12 name.now)) l) result }
 {
-    let tec = l.tec;
-    if tec.0 == 0 {
-        return Line {
-            bytes: [0; WIDTH],
-            len: 0,
-        };
+    if l.tec.0 == 0 {
+        return empty();
     }
-    let word = line_of(b"L ");
-    let named = with_name(word, name);
-    with_numbers(named, &[l.metres.0, l.tariff.0])
+    let mut line = line_of(b"L ");
+    push_name(&mut line, name);
+    push_numbers(&mut line, &[l.metres.0, l.tariff.0]);
+    push(&mut line, b'\n');
+    line
 }
 
 // The line of the two remainders.
 pub fn remainder_line(generation: i64, demand: i64) -> Line
     ensures { Holds 44 (line (remainder_fields generation demand)) result }
 {
-    let word = line_of(b"R");
-    with_numbers(word, &[generation, demand])
+    numbered(b"R", &[generation, demand])
 }
 
 // `refused` with any number, system and row, whether or not a refusal carries them: that they are a refusal's is what `text::refuse` promises.
 pub fn refused_line(v: Values) -> Line
     ensures { Holds 71 (line (refused_fields v)) result }
 {
-    let word = line_of(b"refused");
-    let l1 = with_count(word, v.number);
-    let l2 = with_count(l1, v.system);
-    let l3 = with_count(l2, v.row);
-    with_byte(l3, b'\n')
+    let mut line = line_of(b"refused");
+    push_count(&mut line, v.number);
+    push_count(&mut line, v.system);
+    push_count(&mut line, v.row);
+    push(&mut line, b'\n');
+    line
 }

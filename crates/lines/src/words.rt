@@ -1,37 +1,17 @@
 // Lines from bytes, words and names, for this crate alone.
-ghost use Rattle.std.specs.Prelude.{[], ◌∷◌, ◌+◌, ◌≤◌, length, take};
+ghost use Rattle.std.specs.Prelude.{◌≡◌, ◌==◌, [], ◌∷◌, ◌+◌, ◌≤◌, length, position, take};
 ghost use Rattle.meaning.specs.Name.{unpadded};
 ghost use Rattle.lines.specs.Making.{Adds, Holds, width};
 
 use crate::{Line, WIDTH};
 
-// A line with one byte more.
-pub fn with_byte(line: Line, byte: u8) -> Line
-    requires { line.len + 1 ≤ width }
-    ensures { Adds 1 line (byte ∷ []) result }
+// A line without text.
+pub fn empty() -> Line
+    ensures { Holds 0 [] result }
 {
-    let at = line.len;
-    let mut longer = line;
-    longer.bytes[at] = byte;
-    longer.len = at + 1;
-    longer
-}
-
-// A line with a word more.
-pub fn with_word(line: Line, word: &[u8]) -> Line
-    requires { line.len + length word.now ≤ width }
-    ensures { Adds (length word.now) line word.now result }
-{
-    let at = line.len;
-    let mut bytes = line.bytes;
-    let mut i: usize = 0;
-    while i < word.len() {
-        bytes[at + i] = word[i];
-        i += 1;
-    }
     Line {
-        bytes: bytes,
-        len: at + i,
+        bytes: [0; WIDTH],
+        len: 0,
     }
 }
 
@@ -40,34 +20,43 @@ pub fn line_of(word: &[u8]) -> Line
     requires { length word.now ≤ width }
     ensures { Holds (length word.now) word.now result }
 {
-    let nothing = Line {
-        bytes: [0; WIDTH],
-        len: 0,
-    };
-    with_word(nothing, word)
+    let mut line = empty();
+    push_word(&mut line, word);
+    line
 }
 
-// A line with a name more, without its padding: at most 12 bytes.
-pub fn with_name(line: Line, name: &[u8]) -> Line
-    requires { line.len + 12 ≤ width }
-    ensures { Adds 12 line (unpadded (take 12 name.now)) result }
+// One byte more.
+pub fn push(line: &mut Line, byte: u8)
+    requires { line.old.len + 1 ≤ width }
+    ensures { Adds 1 line.old (byte ∷ []) line.new }
 {
-    let at = line.len;
-    let mut bytes = line.bytes;
-    let mut i: usize = 0;
-    while (i < 12) & (i < name.len()) {
-        let byte = name[i];
-        if byte == b' ' {
-            return Line {
-                bytes: bytes,
-                len: at + i,
-            };
-        }
-        bytes[at + i] = byte;
-        i += 1;
-    }
-    Line {
-        bytes: bytes,
-        len: at + i,
-    }
+    line.bytes[line.len] = byte;
+    line.len += 1;
+}
+
+// A word more.
+pub fn push_word(line: &mut Line, word: &[u8])
+    requires { line.old.len + length word.now ≤ width }
+    ensures { Adds (length word.now) line.old word.now line.new }
+{
+    let end = line.len + word.len();
+    line.bytes[line.len..end].copy_from_slice(word);
+    line.len = end;
+}
+
+// The place of the first space.
+fn first_space(name: &[u8]) -> Option<usize>
+    ensures { result ≡ position (λ b. b == 32) name.now }
+{
+    name.iter().position(|byte| *byte == b' ')
+}
+
+// A name more, without its padding: at most 12 bytes.
+pub fn push_name(line: &mut Line, name: &[u8])
+    requires { line.old.len + 12 ≤ width }
+    ensures { Adds 12 line.old (unpadded (take 12 name.now)) line.new }
+{
+    let padded = &name[..name.len().min(12)];
+    let end = first_space(padded).unwrap_or(padded.len());
+    push_word(line, &padded[..end]);
 }

@@ -7,8 +7,8 @@ use Prim.Native.Nat.{ℕ, suc, ◌-◌}
 use lib.IntN.{ℤ, pos, neg_ℤ}
 use lib.ListN.{get_or, replicate}
 use Rattle.meaning.specs.Rows.{rows}
-use Rattle.meaning.specs.declared.Judgement.{Judgement}
-use Rattle.meaning.specs.declared.Judgement.TheVariants.{Passes, Stops}
+use Rattle.meaning.specs.Answers.{Judgement}
+use Rattle.std.specs.Prelude.{Ok, Err}
 use Rattle.meaning.specs.declared.Refusal.TheVariants.{BadShare}
 use Rattle.meaning.specs.declared.Background.{Background}
 use Rattle.meaning.specs.declared.Background.TheVariants.{YearRound, Peak}
@@ -36,7 +36,7 @@ abbrev judged_by : List ℕ → Judgement
 judged_by next = share_file_stage (file_with next 0 486) 5 tec
 
 -- ---- 16
-pub stands : judged_by sound ≡ Passes
+pub stands : judged_by sound ≡ Ok tt
 unfolding opened
 stands = refl
 
@@ -51,7 +51,7 @@ pub faults : map judged_by (
     ∷ (2 ∷ 3 ∷ 4 ∷ 1 ∷ 0 ∷ [])
     ∷ (2 ∷ 5 ∷ 0 ∷ 3 ∷ 1 ∷ [])
     ∷ [])
-    ≡ map (λ row. Stops (BadShare row)) (1 ∷ 4 ∷ 5 ∷ 4 ∷ 1 ∷ 4 ∷ 1 ∷ 1 ∷ [])
+    ≡ map (λ row. Err (BadShare row)) (1 ∷ 4 ∷ 5 ∷ 4 ∷ 1 ∷ 4 ∷ 1 ∷ 1 ∷ [])
 unfolding opened
 faults = refl
 
@@ -60,12 +60,12 @@ pub frames : share_file_stage (file_with sound 0 486 ++ (0 ∷ [])) 5 tec ∷ sh
     ∷ share_file_stage (file_with sound 1001 486) 5 tec
     ∷ share_file_stage (file_with sound 1000 1000) 5 tec
     ∷ []
-    ≡ Stops (BadShare 0) ∷ Stops (BadShare 0) ∷ Stops (BadShare 0) ∷ Stops (BadShare 0) ∷ Passes ∷ []
+    ≡ Err (BadShare 0) ∷ Err (BadShare 0) ∷ Err (BadShare 0) ∷ Err (BadShare 0) ∷ (Ok tt) ∷ []
 unfolding opened
 frames = refl
 
 -- one zone alone is the centre
-pub alone : share_file_stage (u32s (replicate 8 0)) 1 (λ z. 7) ≡ Passes
+pub alone : share_file_stage (u32s (replicate 8 0)) 1 (λ z. 7) ≡ Ok tt
 unfolding opened
 alone = refl
 

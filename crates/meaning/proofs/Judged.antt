@@ -7,8 +7,8 @@ use lib.ListN.{length}
 use Rattle.meaning.specs.Study.{Study, Runs}
 use Rattle.meaning.specs.File.{study_of}
 use Rattle.meaning.specs.declared.Refusal.TheVariants.{BadFile, ShortBuffer}
-use Rattle.meaning.specs.declared.Judgement.{Judgement}
-use Rattle.meaning.specs.declared.Judgement.TheVariants.{Passes}
+use Rattle.meaning.specs.Answers.{Judgement}
+use Rattle.std.specs.Prelude.{Ok}
 use Rattle.meaning.specs.Answers.{◌or_else◌}
 use Rattle.meaning.specs.Grid.{grid_of}
 use Rattle.meaning.specs.Network.{network_of}
@@ -76,5 +76,5 @@ module _ (file : List ℕ) (runs : Runs) where
         )
 
     -- nothing stops a case exactly when it is acceptable
-    pub judged_pass : (judged file runs share ≡ Passes) ↔ Acceptable file runs share
+    pub judged_pass : (judged file runs share ≡ Ok tt) ↔ Acceptable file runs share
     judged_pass = (λ e. case_met.0 (judge_case.passes.0 e), λ a. judge_case.passes.1 (case_met.1 a))

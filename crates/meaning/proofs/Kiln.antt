@@ -13,8 +13,7 @@ use Rattle.meaning.specs.File.{study_of}
 use Rattle.meaning.specs.declared.Background.TheVariants.{YearRound}
 use Rattle.meaning.specs.declared.System.TheVariants.{Wider}
 use Rattle.meaning.specs.declared.Refusal.TheVariants.{BadNumber, ShortBuffer}
-use Rattle.meaning.specs.declared.Judgement.TheVariants.{Passes, Stops}
-use Rattle.meaning.specs.declared.Answer.TheVariants.{Accepted, Refused}
+use Rattle.std.specs.Prelude.{Ok, Err}
 use Rattle.meaning.specs.Outcome.{judged, prints, settle}
 use Rattle.meaning.specs.declared.Side.TheVariants.{Generation, Demand}
 use Rattle.meaning.specs.Grid.{grid_of}
@@ -99,12 +98,12 @@ pub kiln_prints : prints kiln [] ≡ kiln_sheet
 unfolding opened
 kiln_prints = refl
 
-pub kiln_judged : judged kiln kiln_runs [] ≡ Passes
+pub kiln_judged : judged kiln kiln_runs [] ≡ Ok tt
 unfolding opened
 kiln_judged = refl
 
 -- a buffer of 200 bytes holds the sheet at its front, and is otherwise as it was
-pub kiln_settled : settle kiln kiln_runs [] (replicate 200 7) ≡ record { answer = Accepted 117; buffer = kiln_sheet ++ replicate 83 7 }
+pub kiln_settled : settle kiln kiln_runs [] (replicate 200 7) ≡ record { answer = Ok 117; buffer = kiln_sheet ++ replicate 83 7 }
 unfolding opened
 kiln_settled = refl
 
@@ -118,15 +117,15 @@ unfolding opened
 kiln_remainders = (refl, refl)
 
 -- 8: the reference's potential is 1 in the wider run
-ground : judged kiln (three_runs kiln_base (set kiln_wider 2 (pos 1)) kiln_local) [] ≡ Stops (BadNumber (Wider YearRound) 3)
+ground : judged kiln (three_runs kiln_base (set kiln_wider 2 (pos 1)) kiln_local) [] ≡ Err (BadNumber (Wider YearRound) 3)
 unfolding opened
 ground = refl
 
 -- 12: a buffer one byte short is refused and stays as it was; an exact fit is written
-shortened : settle kiln kiln_runs [] (replicate 116 7) ≡ record { answer = Refused ShortBuffer; buffer = replicate 116 7 }
+shortened : settle kiln kiln_runs [] (replicate 116 7) ≡ record { answer = Err ShortBuffer; buffer = replicate 116 7 }
 unfolding opened
 shortened = refl
 
-exact : settle kiln kiln_runs [] (replicate 117 7) ≡ record { answer = Accepted 117; buffer = kiln_sheet }
+exact : settle kiln kiln_runs [] (replicate 117 7) ≡ record { answer = Ok 117; buffer = kiln_sheet }
 unfolding opened
 exact = refl

@@ -1,6 +1,7 @@
 -- laws of the definitions
 pub mod Rows
 pub mod Columns
+pub mod Made
 pub mod First
 pub mod Says
 pub mod Systems

@@ -9,8 +9,8 @@ use Rattle.meaning.specs.Rows.{failing}
 use Rattle.meaning.specs.declared.Edition.{Edition}
 use Rattle.meaning.specs.declared.Edition.TheVariants.{First, Second}
 use Rattle.meaning.specs.declared.Refusal.{Refusal}
-use Rattle.meaning.specs.declared.Judgement.{Judgement}
-use Rattle.meaning.specs.declared.Judgement.TheVariants.{Passes, Stops}
+use Rattle.meaning.specs.Answers.{Judgement}
+use Rattle.std.specs.Prelude.{Ok, Err}
 use Rattle.meaning.specs.Answers.{◌or_else◌, unless, at, in_second}
 use Rattle.meaning.specs.Refusals.{Condition, whole, each_row, only_second, Met, LowestUnmet, Unmet, AllMet, FirstUnmet}
 use Rattle.meaning.proofs.Rows.{Lowest, nothing, first, lowest_is, lowest_stops}
@@ -18,8 +18,8 @@ use Rattle.meaning.proofs.Answers.{stops≢passes, stops_same, passes-rows, not_
 use Rattle.meaning.proofs.Says.{Says, says_not}
 
 pub record Judges (j : Judgement) (cs : List Condition) : Type 0 where
-  pub passes : (j ≡ Passes) ↔ AllMet cs
-  pub stops : (r : Refusal) → (j ≡ Stops r) ↔ FirstUnmet cs r
+  pub passes : (j ≡ Ok tt) ↔ AllMet cs
+  pub stops : (r : Refusal) → (j ≡ Err r) ↔ FirstUnmet cs r
 
 -- ---- the conditions of two lists
 pub both_met : (cs ds : List Condition) → AllMet (cs ++ ds) ↔ AllMet cs × AllMet ds
@@ -73,28 +73,28 @@ unfolding ◌or_else◌
 ◌before◌ {a} {b} {cs} {ds} s t = go a s
   where
     go : (a : Judgement) → Judges a cs → Judges (a or_else b) (cs ++ ds)
-    go Passes s =
+    go (Ok _) s =
         let m = s.passes.0 refl in
         record {
           passes = (λ e. (both_met cs ds).1 (m, (t m).passes.0 e), λ n. (t m).passes.1 ((both_met cs ds).0 n).1);
           stops = λ r. (λ e. (first_of_two cs ds r).1 (inr (m, ((t m).stops r).0 e)), λ f. late r ((first_of_two cs ds r).0 f));
         }
       where
-        late : (r : Refusal) → FirstUnmet cs r ⊎ AllMet cs × FirstUnmet ds r → b ≡ Stops r
+        late : (r : Refusal) → FirstUnmet cs r ⊎ AllMet cs × FirstUnmet ds r → b ≡ Err r
         late r (inl f) = absurd (stops≢passes (sym ((s.stops r).1 f)))
         late r (inr (m, f)) = ((t m).stops r).1 f
-    go (Stops q) s =
+    go (Err q) s =
         record {
           passes = (λ e. absurd (stops≢passes e), λ n. absurd (stops≢passes (s.passes.1 ((both_met cs ds).0 n).0)));
           stops = λ r. (λ e. (first_of_two cs ds r).1 (inl ((s.stops r).0 e)), λ f. early r ((first_of_two cs ds r).0 f));
         }
       where
-        early : (r : Refusal) → FirstUnmet cs r ⊎ AllMet cs × FirstUnmet ds r → Stops q ≡ Stops r
+        early : (r : Refusal) → FirstUnmet cs r ⊎ AllMet cs × FirstUnmet ds r → ◌≡◌ {A = Judgement} (Err q) (Err r)
         early r (inl f) = (s.stops r).1 f
         early r (inr (m, f)) = absurd (stops≢passes (s.passes.1 m))
 
 -- nothing is asked
-pub judges_none : Judges Passes []
+pub judges_none : Judges (Ok tt) []
 judges_none = record { passes = (λ e. tt, λ m. refl); stops = λ r. (λ e. absurd (stops≢passes (sym e)), λ f. absurd f) }
 
 -- what edition 2 alone asks
@@ -124,8 +124,8 @@ judges_whole {b} {P} r s = go b s
           stops = λ q. (λ e. inl (sym (stops_same e), λ p. true≢false (sym (s.1 p))), λ f. found f);
         }
       where
-        found : {q : Refusal} → FirstUnmet (whole P r ∷ []) q → Stops r ≡ Stops q
-        found (inl (e, f)) = ap Stops (sym e)
+        found : {q : Refusal} → FirstUnmet (whole P r ∷ []) q → ◌≡◌ {A = Judgement} (Err r) (Err q)
+        found (inl (e, f)) = ap Err (sym e)
         found (inr (m, f)) = absurd f
 
 -- a test of each row
@@ -138,7 +138,7 @@ judges_rows {test} {P} n r h =
       stops = λ q. (λ e. inl (there (failing test n) (lowest_is _ n) e), back);
     }
   where
-    there : {q : Refusal} (o : Option ℕ) → Lowest (λ i. not (test i)) n o → at o r ≡ Stops q → (i : ℕ) × (q ≡ r (suc i)) × LowestUnmet n P i
+    there : {q : Refusal} (o : Option ℕ) → Lowest (λ i. not (test i)) n o → at o r ≡ Err q → (i : ℕ) × (q ≡ r (suc i)) × LowestUnmet n P i
     there o (nothing f) e = absurd (stops≢passes (sym e))
     there o (first i k t f) e = (
       i,
@@ -146,11 +146,11 @@ judges_rows {test} {P} n r h =
       record { within = k; unmet = (says_not (h i)).0 t; lower = λ j l. (h j).0 (not_false (test j) (f j l)) },
     )
 
-    back : {q : Refusal} → FirstUnmet (each_row n P r ∷ []) q → at (failing test n) r ≡ Stops q
+    back : {q : Refusal} → FirstUnmet (each_row n P r ∷ []) q → at (failing test n) r ≡ Err q
     back (inl (i, e, u)) =
         ap (λ (o : Option ℕ). at o r)
         (lowest_stops _ n i u.within ((says_not (h i)).1 u.unmet) (λ j l. ap not ((h j).1 (u.lower j l))))
-        ∙ ap Stops (sym e)
+        ∙ ap Err (sym e)
     back (inr (m, f)) = absurd f
 
 -- ---- `FirstUnmet` as a place in the order: all before it are met, and it is not

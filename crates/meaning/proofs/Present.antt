@@ -16,8 +16,8 @@ use Rattle.meaning.specs.declared.Form.TheVariants.{OneBackground, TwoBackground
 use Rattle.meaning.specs.declared.Background.{Background}
 use Rattle.meaning.specs.declared.Background.TheVariants.{YearRound, Peak}
 use Rattle.meaning.specs.declared.System.TheVariants.{Base, Wider, Local}
-use Rattle.meaning.specs.declared.Judgement.{Judgement}
-use Rattle.meaning.specs.declared.Judgement.TheVariants.{Passes}
+use Rattle.meaning.specs.Answers.{Judgement}
+use Rattle.std.specs.Prelude.{Ok}
 use Rattle.meaning.specs.declared.Refusal.TheVariants.{Unscalable, BackgroundInDoubt}
 use Rattle.meaning.specs.declared.Side.{Side}
 use Rattle.meaning.specs.declared.Side.TheVariants.{Generation, Demand}
@@ -135,7 +135,7 @@ module _ (G : Grid) (runs : Runs) (first : G.settings.edition ≡ First) where
   present_wider c =
       ap (λ (b : Background). cond (eqb (circuit G.circuits c).local_mark 0) (cond (same_background YearRound b) (length_of G runs c) (pos 0)) (pos 0)) (first_background G runs c first)
 
-  present_scaling : scaling_stage G ≡ Passes
+  present_scaling : scaling_stage G ≡ Ok tt
   unfolding scaling_stage in_second
   present_scaling = ap (λ (e : Edition). in_second e (unless (scalable G YearRound) Unscalable or_else unless (scalable G Peak) Unscalable)) first
 

@@ -21,7 +21,7 @@ use Rattle.meaning.specs.Study.{Runs, circuit}
 use Rattle.meaning.specs.declared.System.{System}
 use Rattle.meaning.specs.declared.Direction.{Direction}
 use Rattle.meaning.specs.declared.Direction.TheVariants.{Idle, Forward, Backward, InDoubt}
-use Rattle.meaning.specs.declared.Judgement.{Judgement}
+use Rattle.meaning.specs.Answers.{Judgement}
 use Rattle.meaning.specs.declared.Refusal.TheVariants.{BadNumber, Unbalanced, MissesTooHigh, DirectionInDoubt, BackgroundInDoubt}
 use Rattle.meaning.specs.Grid.{Grid}
 use Rattle.meaning.specs.Network.{Network, network_of}

@@ -20,7 +20,7 @@ use Rattle.meaning.specs.declared.Side.TheVariants.{Generation, Demand}
 use Rattle.meaning.specs.declared.Form.{Form}
 use Rattle.meaning.specs.declared.Form.TheVariants.{OneBackground, TwoBackgrounds}
 use Rattle.meaning.specs.declared.Form.TheVariants as form
-use Rattle.meaning.specs.declared.Judgement.TheVariants.{Passes as PassesStage}
+use Rattle.std.specs.Prelude.{Ok}
 use Rattle.meaning.specs.declared.Refusal.TheVariants.{BadShare}
 use Rattle.meaning.specs.Answers.{when}
 use Rattle.meaning.specs.Editions.{by_edition}
@@ -172,7 +172,7 @@ module _ (G : Grid) (share : List ℕ) (whole : in_force G.settings.edition shar
   unshared_form Generation = rw whole refl
   unshared_form Demand = refl
 
-  pub unshared_stage : share_stage G share ≡ PassesStage
+  pub unshared_stage : share_stage G share ≡ Ok tt
   unfolding share_stage when
   unshared_stage = rw whole refl
 

@@ -14,8 +14,8 @@ use Rattle.meaning.specs.declared.Background.TheVariants.{YearRound, Peak}
 use Rattle.meaning.specs.declared.System.{System}
 use Rattle.meaning.specs.declared.System.TheVariants.{Base, Wider, Local}
 use Rattle.meaning.specs.declared.Refusal.TheVariants.{BadNumber, Unbalanced, MissesTooHigh, DirectionInDoubt}
-use Rattle.meaning.specs.declared.Judgement.{Judgement}
-use Rattle.meaning.specs.declared.Judgement.TheVariants.{Passes, Stops}
+use Rattle.meaning.specs.Answers.{Judgement}
+use Rattle.std.specs.Prelude.{Ok, Err}
 use Rattle.meaning.specs.Grid.{plant_of, pays, pays_in, grid_of}
 use Rattle.meaning.specs.Network.{network_of}
 use Rattle.meaning.specs.Proposal.{range_stage}
@@ -107,7 +107,7 @@ abbrev base₂₀₁ : List ℤ
 base₂₀₁ = pos 201000000 ∷ pos 0 ∷ pos 201000000 ∷ []
 
 beside_eleven : of_base (pos 201000000 ∷ pos 1 ∷ pos 201000000 ∷ []) ∷ of_base (pos 300000000 ∷ pos 0 ∷ pos 300000000 ∷ []) ∷ of_base base₂₀₁ ∷ []
-    ≡ Stops (BadNumber (Base YearRound) 2) ∷ Stops (Unbalanced (Base YearRound) 1) ∷ Stops (DirectionInDoubt YearRound 1) ∷ []
+    ≡ Err (BadNumber (Base YearRound) 2) ∷ Err (Unbalanced (Base YearRound) 1) ∷ Err (DirectionInDoubt YearRound 1) ∷ []
 unfolding opened
 beside_eleven = refl
 
@@ -117,7 +117,7 @@ eleven_first : doubted base₂₀₁ (pos 0 ∷ pos 0 ∷ pos 1 ∷ []) (pos 0 �
     ∷ doubted base₂₀₁ (pos 0 ∷ pos 0 ∷ pos 0 ∷ []) (pos 0 ∷ pos 0 ∷ pos 1 ∷ [])
     ∷ doubted base₂₀₁ (pos 0 ∷ pos 0 ∷ pos 0 ∷ []) (pos 200000000 ∷ pos 0 ∷ pos 0 ∷ [])
     ∷ []
-    ≡ replicate 5 (Stops (DirectionInDoubt YearRound 1))
+    ≡ replicate 5 (Err (DirectionInDoubt YearRound 1))
 unfolding opened
 eleven_first = refl
 
@@ -161,12 +161,12 @@ at_limits : numbers (Base YearRound) (pos 2000000000000000000) (neg_ℤ (pos 100
     ∷ numbers (Wider YearRound) (neg_ℤ (pos 10000000000000000)) (pos 100000000000000)
     ∷ numbers Local (pos 10000000000000000) (neg_ℤ (pos 100000000000000))
     ∷ []
-    ≡ Passes ∷ Passes ∷ Passes ∷ []
+    ≡ (Ok tt) ∷ (Ok tt) ∷ (Ok tt) ∷ []
 unfolding opened
 at_limits = refl
 
 past_limits : numbers (Base YearRound) (neg_ℤ (pos 2000000000000000001)) (pos 0) ∷ numbers (Wider YearRound) (pos 10000000000000001) (pos 0) ∷ numbers Local (pos 0) (neg_ℤ (pos 100000000000001)) ∷ []
-    ≡ Stops (BadNumber (Base YearRound) 1) ∷ Stops (BadNumber (Wider YearRound) 1) ∷ Stops (BadNumber Local 3) ∷ []
+    ≡ Err (BadNumber (Base YearRound) 1) ∷ Err (BadNumber (Wider YearRound) 1) ∷ Err (BadNumber Local 3) ∷ []
 unfolding opened
 past_limits = refl
 

@@ -11,7 +11,7 @@ use Rattle.meaning.specs.declared.System.{System}
 use Rattle.meaning.specs.declared.System.TheVariants.{Base, Wider, Local}
 use Rattle.meaning.specs.declared.Refusal.{Refusal}
 use Rattle.meaning.specs.declared.Refusal.TheVariants.{BadFile, BadSetting, BadNode, BadCircuit, BadStation, Unreached, BadTotal, BadNumber, Unbalanced, MissesTooHigh, DirectionInDoubt, ShortBuffer, NoChargeableTec, Unscalable, BackgroundInDoubt, BadShare}
-use Rattle.meaning.specs.declared.Answer.TheVariants.{Refused}
+use Rattle.std.specs.Prelude.{Err}
 use Rattle.meaning.specs.Answers.{refusal, values}
 use Rattle.meaning.specs.Editions.{system_number}
 
@@ -40,7 +40,7 @@ refusal_of number system row =
     BadFile ∷ BadFile ∷ BadSetting ∷ BadNode row ∷ BadCircuit row ∷ BadStation row ∷ Unreached row ∷ BadTotal ∷ BadNumber s row ∷ Unbalanced s row
     ∷ MissesTooHigh s ∷ DirectionInDoubt (background_of s) row ∷ ShortBuffer ∷ NoChargeableTec ∷ Unscalable ∷ BackgroundInDoubt row ∷ BadShare row ∷ []) number BadFile
 
-told : (r : Refusal) → refusal_of (values (Refused r)).number (values (Refused r)).system (values (Refused r)).row ≡ r
+told : (r : Refusal) → refusal_of (values (Err r)).number (values (Err r)).system (values (Err r)).row ≡ r
 unfolding refusal_of background_of values refusal
 told BadFile = refl
 told BadSetting = refl
@@ -59,21 +59,21 @@ told Unscalable = refl
 told (BackgroundInDoubt i) = refl
 told (BadShare i) = refl
 
-pub values_tell : (q r : Refusal) → (values (Refused q)).number ≡ (values (Refused r)).number → (values (Refused q)).system ≡ (values (Refused r)).system
-    → (values (Refused q)).row ≡ (values (Refused r)).row → q ≡ r
+pub values_tell : (q r : Refusal) → (values (Err q)).number ≡ (values (Err r)).number → (values (Err q)).system ≡ (values (Err r)).system
+    → (values (Err q)).row ≡ (values (Err r)).row → q ≡ r
 values_tell q r n s i =
     sym (told q)
-    ∙ ap (λ (k : ℕ). refusal_of k (values (Refused q)).system (values (Refused q)).row) n
-    ∙ ap (λ (k : ℕ). refusal_of (values (Refused r)).number k (values (Refused q)).row) s
-    ∙ ap (λ (k : ℕ). refusal_of (values (Refused r)).number (values (Refused r)).system k) i
+    ∙ ap (λ (k : ℕ). refusal_of k (values (Err q)).system (values (Err q)).row) n
+    ∙ ap (λ (k : ℕ). refusal_of (values (Err r)).number k (values (Err q)).row) s
+    ∙ ap (λ (k : ℕ). refusal_of (values (Err r)).number (values (Err r)).system k) i
     ∙ told r
 
 -- no refusal has number 0, which is accepted's
-pub number_positive : (r : Refusal) → (values (Refused r)).number ≢ 0
+pub number_positive : (r : Refusal) → (values (Err r)).number ≢ 0
 unfolding refusal_of values refusal
 number_positive r e =
-    let h : ◌≡◌ {A = ℕ} 1 0 = sym (ap (λ (q : Refusal). (values (Refused q)).number) is_first) ∙ e in
+    let h : ◌≡◌ {A = ℕ} 1 0 = sym (ap (λ (q : Refusal). (values (Err q)).number) is_first) ∙ e in
     omega (arith, h)
   where
     is_first : r ≡ BadFile
-    is_first = sym (told r) ∙ ap (λ (k : ℕ). refusal_of k (values (Refused r)).system (values (Refused r)).row) e
+    is_first = sym (told r) ∙ ap (λ (k : ℕ). refusal_of k (values (Err r)).system (values (Err r)).row) e

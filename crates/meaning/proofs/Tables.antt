@@ -18,7 +18,7 @@ use Rattle.meaning.specs.declared.Edition.TheVariants.{First, Second}
 use Rattle.meaning.specs.declared.Background.{Background}
 use Rattle.meaning.specs.declared.Background.TheVariants.{YearRound, Peak}
 use Rattle.meaning.specs.declared.Refusal.TheVariants.{BadSetting, BadNode, BadCircuit, BadStation, Unreached, BadTotal, NoChargeableTec, Unscalable}
-use Rattle.meaning.specs.declared.Judgement.TheVariants.{Passes}
+use Rattle.std.specs.Prelude.{Ok}
 use Rattle.meaning.specs.Tables.{seen_earlier, known, sound_scales, sound_settings, sound_node_row, new_voltage, sound_voltage, sound_factor, sound_circuit_row, sound_station_row, sound_node, sound_circuit, sound_station, settings_stage, nodes_stage, circuits_stage, stations_stage}
 use Rattle.meaning.specs.Grid.{Grid, grid_of, place, sound_totals, totals_stage, chargeable_stage, total_demand, total_tec}
 use Rattle.meaning.specs.Network.{network_of, reach_stage}
@@ -128,7 +128,7 @@ module _ (S : Study) where
     λ r. (r.settings, (r.nodes, (r.circuits, (r.stations, tt)))),
   )
 
-  pub rows_pass : (rows_stage S ≡ Passes) ↔ Rowwise
+  pub rows_pass : (rows_stage S ≡ Ok tt) ↔ Rowwise
   rows_pass = (λ e. rowwise_met.0 (judge_rows.passes.0 e), λ r. judge_rows.passes.1 (rowwise_met.1 r))
 
   -- ---- 6
@@ -232,7 +232,7 @@ sound_met S = (
   λ s. ((rowwise_met S).1 (rowwise S s.tables), (s.tables.reached, (s.tables.totals, (s.chargeable, (scaling_met (grid_of S)).1 s.scalable)))),
 )
 
-pub sound_pass : (S : Study) → ((rows_stage S ≡ Passes) × (grid_stage (grid_of S) ≡ Passes)) ↔ SoundStudy S
+pub sound_pass : (S : Study) → ((rows_stage S ≡ Ok tt) × (grid_stage (grid_of S) ≡ Ok tt)) ↔ SoundStudy S
 sound_pass S = (
   λ t.
       let m = (judge_rows S).passes.0 t.0 in

@@ -14,8 +14,8 @@ use Rattle.meaning.specs.declared.Settings.{Settings}
 use Rattle.meaning.specs.declared.System.{System}
 use Rattle.meaning.specs.Editions.{system_number, all_systems}
 use Rattle.meaning.specs.declared.Refusal.TheVariants.{BadFile}
-use Rattle.meaning.specs.declared.Judgement.{Judgement}
-use Rattle.meaning.specs.declared.Judgement.TheVariants.{Passes}
+use Rattle.meaning.specs.Answers.{Judgement}
+use Rattle.std.specs.Prelude.{Ok}
 use Rattle.meaning.specs.Study.{Circuit, Study, Runs, circuit, no_circuit}
 use Rattle.meaning.specs.File.{u32, edition_at, solutions, circuit_size, record_size, version_of, section_start, section, section_count, solution_count, row_at, factor_at, circuit_at, run_length, runs_whole, study_of, runs_in}
 use Rattle.meaning.specs.Answers.{◌or_else◌, unless}
@@ -38,7 +38,7 @@ module _ (file file' : List ℕ) (same : SayTheSame file file') where
   same_study : study_of file ≡ study_of file'
   same_study = λ i. record { settings = same.settings i; nodes = same.nodes i; circuits = same.circuits i; stations = same.stations i }
 
-  passes : (f : List ℕ) → WholeFile f (runs_in f) → file_stage f ≡ Passes
+  passes : (f : List ℕ) → WholeFile f (runs_in f) → file_stage f ≡ Ok tt
   passes f w = ((passes_or_else _ _).0 ((judge_file f (runs_in f)).passes.1 (w, tt))).0
 
   -- "count is nodes plus circuits": the solutions of both files have as many numbers

@@ -7,10 +7,9 @@ use Rattle.meaning.specs.declared.Background.TheVariants.{YearRound, Peak}
 use Rattle.meaning.specs.declared.System.TheVariants.{Base, Wider, Local}
 use Rattle.meaning.specs.declared.Side.{Side}
 use Rattle.meaning.specs.declared.Side.TheVariants.{Generation}
-use Rattle.meaning.specs.declared.Judgement.TheVariants.{Passes}
+use Rattle.std.specs.Prelude.{Ok, Err}
 use Rattle.meaning.specs.declared.Refusal.{Refusal}
 use Rattle.meaning.specs.declared.Refusal.TheVariants.{BadFile}
-use Rattle.meaning.specs.declared.Answer.TheVariants.{Refused}
 use Rattle.meaning.specs.Answers.{values, ◌or_else◌}
 use Rattle.meaning.specs.Editions.{Of, system_number, flow_systems, distance_systems}
 use Rattle.meaning.specs.Study.{Metres, Study, Runs, circuit, runs_of, three_runs}
@@ -67,8 +66,8 @@ module _ (G : Grid) (runs : Runs) (share : List ℕ) where
     pub line_income : (side : Side) (line : List ℕ) → read_whole (field 6 line) ≡ read_whole (field 4 line) +ℤ read_whole (field 5 line)
         → zone_income G share side line ≡ cond (has_letter (letter side) line) (read_whole (field 6 line) *ℤ pos (zone_paying G side (read_natural 0 (field 1 line)))) (pos 0)
     -- the order: no 14 and no 16 after 13; "8, 9, 10 for system 1 (base); 11; 8, 9, 10 for system 2 (wider), then 3 (local)"
-    pub scaling : scaling_stage G ≡ Passes
-    pub sharing : share_stage G share ≡ Passes
+    pub scaling : scaling_stage G ≡ Ok tt
+    pub sharing : share_stage G share ≡ Ok tt
     pub order : proposals_stage G runs
         ≡ solution_stage G runs (Base YearRound) or_else direction_stage G runs or_else solution_stage G runs (Wider YearRound) or_else solution_stage G runs Local
 
@@ -78,11 +77,11 @@ pub record EditionOneIs01 : Type 0 where
 
 -- so no answer of it has a number or a system that 01 and requests 1 to 4 do not list: "never 14 or 15", nor 16
 pub record AnswerOfOne (r : Refusal) : Type 0 where
-  pub number : (values (Refused r)).number ≤ 13
-  pub system : (values (Refused r)).system ≤ 3
+  pub number : (values (Err r)).number ≤ 13
+  pub system : (values (Err r)).system ≤ 3
 
 abbrev pub EditionOneAnswers : Type 0
-EditionOneAnswers = (file : List ℕ) (runs : Runs) (share buffer : List ℕ) (r : Refusal) → (study_of file).settings.edition ≡ First → (settle file runs share buffer).answer ≡ Refused r → AnswerOfOne r
+EditionOneAnswers = (file : List ℕ) (runs : Runs) (share buffer : List ℕ) (r : Refusal) → (study_of file).settings.edition ≡ First → (settle file runs share buffer).answer ≡ Err r → AnswerOfOne r
 
 -- ---- the lent runs are those of the edition, else 1: a case of edition 2 with three runs, and one of edition 1 with a run for peak
 pub record RunsOfTheEdition : Type 0 where

@@ -1,7 +1,7 @@
 -- 01, What each entry settles: the contracts of the entries, which their code cites. A call is what a caller lent, what it got, and its buffers afterwards.
 use Rattle.std.specs.Prelude.{◌≡◌, List, [], ◌∷◌, ◌++◌, ℕ, ◌-◌, length, replicate}
 use Rattle.meaning.specs.declared.Values.{Values}
-use Rattle.meaning.specs.declared.Answer.{Answer}
+use Rattle.meaning.specs.Answers.{Answer}
 use Rattle.meaning.specs.declared.Printed.{Printed}
 use Rattle.meaning.specs.Answers.{values}
 use Rattle.meaning.specs.Study.{Runs}

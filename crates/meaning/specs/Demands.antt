@@ -17,7 +17,7 @@ use Rattle.meaning.specs.declared.Form.TheVariants.{OneBackground, TwoBackground
 use Rattle.meaning.specs.declared.Values.{Values}
 use Rattle.meaning.specs.declared.Refusal.{Refusal}
 use Rattle.meaning.specs.declared.Refusal.TheVariants.{BadFile, BadSetting, BadNode, BadCircuit, BadStation, Unreached, BadTotal, BadNumber, Unbalanced, MissesTooHigh, DirectionInDoubt, ShortBuffer, NoChargeableTec, Unscalable, BackgroundInDoubt, BadShare}
-use Rattle.meaning.specs.declared.Answer.TheVariants.{Refused}
+use Rattle.std.specs.Prelude.{Err}
 use Rattle.meaning.specs.Answers.{values, refusal}
 use Rattle.meaning.specs.Grid.{Grid, grid_of, capacity_of, node_tec, paying_tec, total_tec, total_demand}
 use Rattle.meaning.specs.Proposal.{potential}
@@ -60,7 +60,7 @@ pub data Listed (e : Edition) (n m k z : ℕ) : Refusal → Values → Type 0 wh
   bad_share : (row : ℕ) → e ≡ Second → row ≤ z → Listed e n m k z (BadShare row) (refusal 16 0 row)
 
 abbrev pub ListedFor : Study → Refusal → Type 0
-ListedFor S r = Listed S.settings.edition (length S.nodes) (length S.circuits) (length S.stations) S.settings.generation_zones r (values (Refused r))
+ListedFor S r = Listed S.settings.edition (length S.nodes) (length S.circuits) (length S.stations) S.settings.generation_zones r (values (Err r))
 
 -- accepted: the answer is the sheet's length, and the buffer starts with the sheet; bytes behind it are untouched
 abbrev pub IsWritten : List ℕ → Runs → (share buffer : List ℕ) → Type 0
@@ -92,7 +92,7 @@ AcceptedExactlyWhen = (file : List ℕ) (runs : Runs) (share buffer : List ℕ) 
 -- ---- demands 1 and 2: which refusal
 -- "refused exactly when": this refusal is the answer exactly when 01's order stops the case there; the buffer is then as it was
 pub record RefusedWhen (file : List ℕ) (runs : Runs) (share buffer : List ℕ) (r : Refusal) : Type 0 where
-  pub exactly : ((settle file runs share buffer).answer ≡ Refused r) ↔ Stopped file runs share buffer r
+  pub exactly : ((settle file runs share buffer).answer ≡ Err r) ↔ Stopped file runs share buffer r
   pub untouched : Stopped file runs share buffer r → settle file runs share buffer ≡ refused r buffer
 
 abbrev pub RefusedExactlyWhen : Type 0

@@ -9,7 +9,7 @@ use Rattle.meaning.specs.declared.LocalFigures.{LocalFigures}
 use Rattle.meaning.specs.declared.Form.{Form}
 use Rattle.meaning.specs.declared.Form.TheVariants.{OneBackground, TwoBackgrounds}
 use Rattle.meaning.specs.declared.Form.TheVariants as form
-use Rattle.meaning.specs.declared.Judgement.{Judgement}
+use Rattle.meaning.specs.Answers.{Judgement}
 use Rattle.meaning.specs.declared.Plant.{Plant}
 use Rattle.meaning.specs.declared.Plant.TheVariants.{Intermittent, NuclearAndCcs, Interconnector, Hydro, PumpedStorage, Peaking, Other}
 use Rattle.meaning.specs.declared.Background.{Background}

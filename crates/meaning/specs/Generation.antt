@@ -10,7 +10,7 @@ use Rattle.meaning.specs.declared.Plant.{Plant}
 use Rattle.meaning.specs.declared.Plant.TheVariants.{Intermittent, NuclearAndCcs, Interconnector, Hydro, PumpedStorage, Peaking, Other}
 use Rattle.meaning.specs.declared.Running.{Running}
 use Rattle.meaning.specs.declared.Running.TheVariants.{Fixed, Variable}
-use Rattle.meaning.specs.declared.Judgement.{Judgement}
+use Rattle.meaning.specs.Answers.{Judgement}
 use Rattle.meaning.specs.declared.Refusal.TheVariants.{Unscalable}
 use Rattle.meaning.specs.Study.{Kw}
 use Rattle.meaning.specs.Answers.{◌or_else◌, unless, in_second}

@@ -3,10 +3,9 @@ use Rattle.std.specs.Prelude.{List, [], ◌∷◌, ◌++◌, ℕ, leb, length, d
 use Rattle.meaning.specs.declared.System.{System}
 use Rattle.meaning.specs.declared.Refusal.{Refusal}
 use Rattle.meaning.specs.declared.Refusal.TheVariants.{BadFile, ShortBuffer}
-use Rattle.meaning.specs.declared.Judgement.{Judgement}
-use Rattle.meaning.specs.declared.Judgement.TheVariants.{Passes, Stops}
-use Rattle.meaning.specs.declared.Answer.{Answer}
-use Rattle.meaning.specs.declared.Answer.TheVariants.{Accepted, Refused}
+use Rattle.meaning.specs.Answers.{Judgement}
+use Rattle.std.specs.Prelude.{Ok, Err}
+use Rattle.meaning.specs.Answers.{Answer}
 use Rattle.meaning.specs.declared.Values.{Values}
 use Rattle.meaning.specs.Answers.{values, ◌or_else◌, unless}
 use Rattle.meaning.specs.Study.{Study, Runs}
@@ -51,8 +50,8 @@ sheet_of file runs share = sheet (grid_of (study_of file)) runs share
 
 -- what an entry answers with room enough for the sheet: "Acceptance carries the sheet's length"
 unfoldable pub answered_by : Judgement → (sheet : List ℕ) → Answer
-answered_by Passes bytes = Accepted (length bytes)
-answered_by (Stops r) bytes = Refused r
+answered_by (Ok _) bytes = Ok (length bytes)
+answered_by (Err r) bytes = Err r
 
 unfoldable pub answer_of : (file : List ℕ) → Runs → (share : List ℕ) → Answer
 answer_of file runs share = answered_by (judged file runs share) (sheet_of file runs share)
@@ -64,11 +63,11 @@ pub record Settled : Type 0 where
 
 -- a refusal "writes nothing"
 unfoldable pub refused : Refusal → (buffer : List ℕ) → Settled
-refused r buffer = record { answer = Refused r; buffer = buffer }
+refused r buffer = record { answer = Err r; buffer = buffer }
 
 -- "Acceptance carries the sheet's length; bytes behind it are untouched."
 unfoldable pub written : (sheet buffer : List ℕ) → Settled
-written sheet buffer = record { answer = Accepted (length sheet); buffer = sheet ++ drop (length sheet) buffer }
+written sheet buffer = record { answer = Ok (length sheet); buffer = sheet ++ drop (length sheet) buffer }
 
 -- 12: "sheet buffer shorter than the sheet"
 unfoldable pub buffer_stage : (sheet buffer : List ℕ) → Judgement
@@ -76,8 +75,8 @@ buffer_stage sheet buffer = unless (leb (length sheet) (length buffer)) ShortBuf
 
 -- refused by what stops the case first, else the sheet
 unfoldable pub settled_by : Judgement → (sheet buffer : List ℕ) → Settled
-settled_by Passes bytes buffer = written bytes buffer
-settled_by (Stops r) bytes buffer = refused r buffer
+settled_by (Ok _) bytes buffer = written bytes buffer
+settled_by (Err r) bytes buffer = refused r buffer
 
 -- 1 to 11 and 13 to 16, then 12
 unfoldable pub settle : (file : List ℕ) → Runs → (share buffer : List ℕ) → Settled
@@ -90,11 +89,11 @@ unfoldable pub refused_fields : Values → List (List ℕ)
 refused_fields v = text "refused" ∷ natural v.number ∷ natural v.system ∷ natural v.row ∷ []
 
 unfoldable pub refused_line : Refusal → List ℕ
-refused_line r = line (refused_fields (values (Refused r)))
+refused_line r = line (refused_fields (values (Err r)))
 
 unfoldable pub printed_by : Judgement → (sheet : List ℕ) → List ℕ
-printed_by Passes bytes = bytes
-printed_by (Stops r) bytes = refused_line r
+printed_by (Ok _) bytes = bytes
+printed_by (Err r) bytes = refused_line r
 
 -- one case on standard input, and the bytes of `share.bin`; "it never prints 12"
 unfoldable pub prints : (file share : List ℕ) → List ℕ

@@ -11,8 +11,8 @@ use Rattle.meaning.specs.declared.Direction.{Direction}
 use Rattle.meaning.specs.declared.Counting.{Counting}
 use Rattle.meaning.specs.declared.System.{System}
 use Rattle.meaning.specs.declared.System.TheVariants.{Base, Wider, Local}
-use Rattle.meaning.specs.declared.Judgement.{Judgement}
-use Rattle.meaning.specs.declared.Judgement.TheVariants.{Passes}
+use Rattle.meaning.specs.Answers.{Judgement}
+use Rattle.std.specs.Prelude.{Ok}
 use Rattle.meaning.specs.declared.Refusal.TheVariants.{DirectionInDoubt, BackgroundInDoubt}
 use Rattle.meaning.specs.Answers.{◌or_else◌, at, in_second}
 use Rattle.meaning.specs.Grid.{Grid}
@@ -34,7 +34,7 @@ in_order solution (s ∷ ss) after = solution s or_else in_order solution ss aft
 
 -- "8, 9, 10 for system 1 (base); 11; 8, 9, 10 for system 2 (wider), then 3 (local)"; 02, request 5: "8 to 10 for systems 1 and 4; 15 ..; 11 ..; 8 to 10 for 2, 5 and 3"
 unfoldable pub ordered : Edition → (solution : System → Judgement) → (counting directions : Judgement) → Judgement
-ordered e solution counting directions = in_order solution (flow_systems e) (counting or_else directions or_else in_order solution (distance_systems e) Passes)
+ordered e solution counting directions = in_order solution (flow_systems e) (counting or_else directions or_else in_order solution (distance_systems e) (Ok tt))
 
 module _ (G : Grid) where
   open G use {settings, nodes, circuits}

@@ -4,7 +4,7 @@ use Rattle.meaning.specs.Rows.{◌between◌and◌, failing, any}
 use Rattle.meaning.specs.Name.{Name, well_formed, same_name}
 use Rattle.meaning.specs.declared.Settings.{Settings}
 use Rattle.meaning.specs.Study.{Node, Circuit, Station, Study, node, circuit, station}
-use Rattle.meaning.specs.declared.Judgement.{Judgement}
+use Rattle.meaning.specs.Answers.{Judgement}
 use Rattle.meaning.specs.declared.Refusal.TheVariants.{BadSetting, BadNode, BadCircuit, BadStation}
 use Rattle.meaning.specs.Answers.{unless, at}
 

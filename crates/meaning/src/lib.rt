@@ -49,13 +49,13 @@ pub enum Edition {
 }
 
 // 02, request 5: edition 2 has two backgrounds. 01, edition 1, has one, under the name of year round.
-#[derive(Clone, Copy)]
+#[derive(Clone, Copy, PartialEq, Eq)]
 pub enum Background {
     YearRound,
     Peak,
 }
 
-// 14.15.7 (of the later edition): a plant type runs at a percentage of its TEC, or shares the demand that remains.
+// 14.15.7 (of the later edition): a plant type runs at a percentage of its TEC, or shares the demand that remains. An enum and no option: neither is the lack of the other.
 #[derive(Clone, Copy)]
 pub enum Running {
     Fixed(u64),
@@ -78,7 +78,7 @@ pub enum System {
 }
 
 // 01, The case file: plant types 1 to 7, the rows of the table in 14.15.7.
-#[derive(Clone, Copy)]
+#[derive(Clone, Copy, PartialEq, Eq)]
 pub enum Plant {
     Intermittent,
     NuclearAndCcs,
@@ -126,21 +126,23 @@ pub enum Refusal {
     BadShare(usize),
 }
 
-// What a stage of 01's order makes of a case: it goes on to the next stage, or it is refused.
+// 01, Arithmetic: the five proposed solutions, as runs that are lent; peak's are empty in edition 1.
 #[derive(Clone, Copy)]
-pub enum Judgement {
-    Passes,
-    Stops(Refusal),
+pub struct Solutions<'a> {
+    pub base: &'a [i64],
+    pub wider: &'a [i64],
+    pub local: &'a [i64],
+    pub peak_base: &'a [i64],
+    pub peak_wider: &'a [i64],
 }
+
+// What a stage of 01's order makes of a case: it goes on to the next stage, or it is refused.
+pub type Judgement = Result<(), Refusal>;
 
 // What an entry answers: accepted with the length of the sheet, or refused. There is no accepting without a sheet.
-#[derive(Clone, Copy)]
-pub enum Answer {
-    Accepted(usize),
-    Refused(Refusal),
-}
+pub type Answer = Result<usize, Refusal>;
 
-// What an answer carries: 01's number (0 for accepted), system and row, and the sheet's length.
+// What an answer carries: 01's number (0 for accepted), system and row, and the sheet's length. Numbers, as the C interface has them.
 #[derive(Clone, Copy)]
 pub struct Values {
     pub number: usize,
@@ -212,7 +214,7 @@ pub struct Figures {
     pub local: [LocalFigures; 256],
 }
 
-// 01, The sheet: what the program prints, the first `length` of these bytes. No sheet is longer than 17,258.
+// 01, The sheet: what the program prints, the first `length` of these bytes (there is no heap). No sheet is longer than 17,258.
 #[derive(Clone, Copy)]
 pub struct Printed {
     pub length: usize,

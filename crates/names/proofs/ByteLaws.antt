@@ -10,8 +10,7 @@ use native.Mathlib.Omega.{arith}
 use Rattle.meaning.specs.Name.{same_name}
 use Rattle.meaning.specs.File.{u32, u64, name_at}
 use Rattle.meaning.proofs.Says.{Says, says_as, ◌also◌, says_eq, agree}
-use Rattle.names.specs.Rest.{rest}
-use Rattle.names.proofs.NameLaws.{rest_cons, rest_none, rest_whole}
+use Rattle.names.proofs.NameLaws.{rest, rest_cons, rest_none, rest_whole}
 
 module _ (file : List ℕ) (at : ℕ) where
   -- the number that the n bytes from byte k on make, the first the lowest

@@ -8,15 +8,20 @@ use lib.Dec.{eqb, leb}
 use lib.ListN.{length, get_or, drop, length-take, length-drop, drop_of_length-le}
 use lib.Seq.{drop-cons}
 use native.Mathlib.Nat.{add-zero}
-use native.Mathlib.Decide.{dec_le, dec_lt}
+use native.Mathlib.Numerals.{add-one}
+use native.Mathlib.Decide.{dec_lt}
 use native.Mathlib.Omega.{arith}
-use borrow.Author.Tests.{ne_eqb, eqb-true, eqb-false, le-leb, leb-false}
+use borrow.Author.Tests.{ne_eqb, eqb-true, eqb-false, le-leb}
+use Rattle.std.proofs.Common.{take_all, take}
 use Rattle.meaning.specs.Rows.{◌between◌and◌, every}
 use Rattle.meaning.specs.Name.{Name, name_byte, unpadded, well_formed, same_name}
 use Rattle.meaning.specs.File.{name_at}
 use Rattle.meaning.proofs.Says.{says_as, ◌also◌, ◌either◌, agree, says_eq, says_le, says_name}
-use Rattle.names.specs.Rest.{rest, padded}
-use Rattle.names.specs.Inside.{Inside}
+use Rattle.names.specs.Padded.{padded}
+
+-- the name at a place, from its byte k on
+unfoldable pub rest : List ℕ → (at k : ℕ) → Name
+rest file at k = take (12 - k) (drop (at + k) file)
 
 module _ (file : List ℕ) (at : ℕ) where
   -- what is left of a name begins with its byte k
@@ -34,10 +39,6 @@ module _ (file : List ℕ) (at : ℕ) where
   pub rest_whole : name_at file at ≡ rest file at 0
   unfolding rest name_at
   rest_whole = rw add-zero
-
-  pub rest_long : at + 12 ≤ length file → (k : ℕ) → length (rest file at k) ≡ 12 - k
-  unfolding rest
-  rest_long h k = simp (length-take, length-drop) (omega arith)
 
   pub name_long : length (name_at file at) ≡ min 12 (length file - at)
   unfolding name_at
@@ -98,30 +99,30 @@ left_cons named b l = rw (eqb_back b 32) (go named (name_byte b))
     go true false = refl
     go false t = refl
 
-module _ (file : List ℕ) (at i : ℕ) where
-  pub left_on : (good named named' : Bool) → i < 12 → at + 12 ≤ length file → named' ≡ name_byte (get_or file (at + i) 0)
-      → (good && left named (rest file at i)) ≡ ((good && ((named && named') || eqb (get_or file (at + i) 0) 32)) && left (named && named') (rest file at (i + 1)))
-  left_on good named named' h l e =
-      rw (rest_cons file at i h l, left_cons named (get_or file (at + i) 0) (rest file at (i + 1)), e) (sym (and_assoc good _ _))
+module _ (bytes : Name) (i : ℕ) where
+  pub left_on : (good named named' : Bool) → i < length bytes → named' ≡ name_byte (get_or bytes i 0)
+      → (good && left named (drop i bytes)) ≡ ((good && ((named && named') || eqb (get_or bytes i 0) 32)) && left (named && named') (drop (i + 1) bytes))
+  left_on good named named' h e =
+      rw (add-one, drop-cons bytes i 0 h, left_cons named (get_or bytes i 0) (drop (suc i) bytes), e) (sym (and_assoc good _ _))
 
-  pub left_done : (good named : Bool) → 12 ≤ i → (good && left named (rest file at i)) ≡ good
+  pub left_done : (good named : Bool) → length bytes ≤ i → (good && left named (drop i bytes)) ≡ good
   unfolding padded every
-  left_done good named h = rw (rest_none file at i h) (go good named)
+  left_done good named h = rw (drop_of_length-le bytes h) (go good named)
     where
       go : (g n : Bool) → (g && left n []) ≡ g
       go true true = refl
       go true false = refl
       go false n = refl
 
+pub formed_is : (name : Name) → length name ≡ 12 → (name_byte (get_or name 0 0) && padded (take (length name - 1) (drop 1 name))) ≡ well_formed name
+formed_is [] h = absurd (omega arith)
+formed_is (b ∷ l) h = rw (take_all (length (b ∷ l) - 1) (drop 1 (b ∷ l)) (omega arith)) (sym (formed_cons b l (omega arith)))
+
 module _ (file : List ℕ) (at : ℕ) where
   -- a name that the end cuts is not well formed
   pub formed_cut : length file < at + 12 → well_formed (name_at file at) ≡ false
   unfolding well_formed
   formed_cut h = simp (ne_eqb (length (name_at file at)) 12 (λ e. omega (arith, name_long file at)))
-
-  pub formed_whole : at + 12 ≤ length file → well_formed (name_at file at) ≡ (name_byte (get_or file at 0) && padded (rest file at 1))
-  formed_whole h =
-      ap well_formed (rest_whole file at ∙ rw (add-zero at) at (rest_cons file at 0 (omega arith) h)) ∙ formed_cons _ _ (rest_long file at h 1)
 
 -- ---- two names
 -- names of one length, the later cut by the end
@@ -151,15 +152,3 @@ module _ (file : List ℕ) (a b : ℕ) where
           go (yes p) q = let k = both_past (length file) a b p (omega arith) l in inr (k, omega arith)
           go (no p) (yes q) = let k = both_past (length file) b a q (omega arith) (sym l) in inr (omega arith, k)
           go (no p) (no q) = inl (omega arith)
-
--- ---- both names in the file, or one cut
-module _ (file : List ℕ) (a b : ℕ) where
-  pub inside_short : length file < 12 → Inside file a b false
-  inside_short h = record { both = λ e. absurd (true≢false (sym e)); cut = λ e. omega arith }
-
-  pub inside_long : 12 ≤ length file → Inside file a b (leb a (length file - 12) && leb b (length file - 12))
-  inside_long h = record { both = λ e. let t = (says_le {m = a} {n = length file - 12} also says_le {m = b} {n = length file - 12}).0 e in (omega (arith, t.0), omega (arith, t.1)); cut = λ e. go e (dec_le a (length file - 12)) }
-    where
-      go : (leb a (length file - 12) && leb b (length file - 12)) ≡ false → Dec (a ≤ length file - 12) → length file < max a b + 12
-      go e (no k) = omega arith
-      go e (yes k) = omega (arith, leb-false b (length file - 12) (rw (le-leb a (length file - 12) k) at e))

@@ -1,4 +1,4 @@
 -- What the contracts of `names` cite beside `meaning`.
-pub mod Rest
+pub mod Padded
 pub mod Inside
 pub mod Search

@@ -1,12 +1,11 @@
 // Names in a case file: every slice and every place has its answer, also where the file's end cuts a name.
 #![tactic(auto)]
 
-mod bytes;
 mod name_rows;
 mod padding;
 mod same;
 
-ghost use Rattle.std.specs.Prelude.{◌≡◌, ◌+◌};
+ghost use Rattle.std.specs.Prelude.{◌≡◌, ◌+◌, unwrap_or};
 ghost use Rattle.meaning.specs.Name.{well_formed, same_name};
 ghost use Rattle.meaning.specs.File.{name_at, row_at};
 ghost use Rattle.meaning.specs.Columns.{column};
@@ -18,10 +17,7 @@ use meaning::Section;
 pub fn name_formed(file: &[u8], at: usize) -> bool
     ensures { result ≡ well_formed (name_at file.now at) }
 {
-    if same::inside(file, at, at) {
-        return padding::is_name_byte(file[at]) & padding::padded_tail(file, at);
-    }
-    false
+    same::inside(file, at, at) && padding::formed(&file[at..at + 12])
 }
 
 // Whether the names at two places are the same. Where the file's end cuts one, they are only at one place, or both past the end.
@@ -29,49 +25,43 @@ pub fn same_name(file: &[u8], a: usize, b: usize) -> bool
     ensures { result ≡ same_name (name_at file.now a) (name_at file.now b) }
 {
     if same::inside(file, a, b) {
-        return same::same_whole(file, a, b);
+        same::same_whole(file, a, b)
+    } else {
+        (a == b) | ((file.len() <= a) & (file.len() <= b))
     }
-    (a == b) | ((file.len() <= a) & (file.len() <= b))
 }
 
 // The lowest row whose name an earlier row has; the count of rows where there is none.
 pub fn repeated(file: &[u8], rows: Section) -> usize
     ensures { result ≡ first_repeated file.now rows }
 {
-    let count = rows.count;
-    let end = fields::row_at(rows, count);
+    let end = fields::row_at(rows, rows.count);
     let known = same::inside(file, end, end);
-    let mut row = 0u32;
-    'rows: loop {
-        if row >= count {
-            break 'rows count as usize;
-        }
-        let later = fields::row_at(rows, row);
-        let mut early = 0u32;
-        while early < row {
-            if name_rows::row_is(file, fields::row_at(rows, early), later, known) {
-                break 'rows row as usize;
+    let found = 'rows: {
+        for row in 0..rows.count {
+            let later = fields::row_at(rows, row);
+            for early in 0..row {
+                if name_rows::row_is(file, fields::row_at(rows, early), later, known) {
+                    break 'rows row;
+                }
             }
-            early += 1;
         }
-        row += 1;
-    }
+        rows.count
+    };
+    found as usize
 }
 
-// The lowest row that has the name at a place; the count of rows where there is none.
-fn place(file: &[u8], rows: Section, at: usize) -> usize
-    ensures { result ≡ first_named file.now rows at }
+// The lowest row that has the name at a place.
+fn place(file: &[u8], rows: Section, at: usize) -> Option<u32>
+    ensures { unwrap_or result rows.count ≡ first_named file.now rows at }
 {
-    let count = rows.count;
-    let known = same::inside(file, fields::row_at(rows, count), at);
-    let mut row = 0u32;
-    while row < count {
+    let known = same::inside(file, fields::row_at(rows, rows.count), at);
+    for row in 0..rows.count {
         if name_rows::row_is(file, fields::row_at(rows, row), at, known) {
-            return row as usize;
+            return Some(row);
         }
-        row += 1;
     }
-    count as usize
+    None
 }
 
 // Numbers of the nodes that a field of each row names, the count of nodes where there is none; no more than 512 rows.
@@ -79,10 +69,9 @@ pub fn places(file: &[u8], nodes: Section, rows: Section, field: u32) -> [usize;
     ensures { result ≡ column nodes.count 512 rows.count (λ i. first_named file.now nodes (row_at rows i + field)) }
 {
     let mut all = [nodes.count as usize; 512];
-    let mut i = 0u32;
-    while (i < rows.count) & (i < 512) {
-        all[i as usize] = place(file, nodes, fields::field_at(rows, i, field));
-        i += 1;
+    for i in 0..rows.count.min(512) {
+        let place = place(file, nodes, fields::field_at(rows, i, field));
+        all[i as usize] = place.unwrap_or(nodes.count) as usize;
     }
     all
 }

@@ -1,11 +1,14 @@
 -- 3: the nodes' table, row by row.
 use mathlib.Core.Path.{◌≡◌, refl}
 use mathlib.Core.List.{List}
-use mathlib.Core.Bool.{not, ◌||◌}
+use mathlib.Core.Bool.{Bool, true, false, not, ◌||◌}
 use Prim.Native.Nat.{ℕ, ◌+◌, ◌≤◌, ◌<◌}
 use native.Mathlib.Omega.{arith}
+use Rattle.std.specs.declared.option.Option.{Option}
+use Rattle.std.specs.declared.option.Option.TheVariants.{None, Some}
+use Rattle.std.specs.Option.{MatchOption}
 use Rattle.meaning.specs.declared.Refusal.TheVariants.{BadNode}
-use Rattle.meaning.specs.declared.Judgement.TheVariants.{Passes, Stops}
+use Rattle.std.specs.Prelude.{Ok, Err}
 use Rattle.meaning.specs.declared.Section.{Section}
 use Rattle.meaning.specs.declared.Settings.{Settings}
 use Rattle.meaning.specs.Study.{node}
@@ -31,15 +34,15 @@ module _ (file : List ℕ) {t : Section} (told : t ≡ section_in file 1) {s : S
       (not-and (sound_node_row (readable file).settings (node_at file (row_at t i))) (seen_earlier (name_row file t) i))
 
   module _ {r k : ℕ} (f : IsFirst (unsound_node s file t) t.count r) (g : IsFirst (seen_earlier (name_row file t)) t.count k) where
-    pub node_unsound : r < k → Stops (BadNode (r + 1)) ≡ nodes_stage (readable file)
+    pub node_unsound : r < k → Err (BadNode (r + 1)) ≡ nodes_stage (readable file)
     unfolding nodes_stage
     node_unsound h =
         rw (nodes_from file told).count (at_first BadNode (first_as node_test (lower_first f g (omega arith))) (omega (arith, g.within)))
 
-    pub node_repeated : k ≤ r → k < t.count → Stops (BadNode (k + 1)) ≡ nodes_stage (readable file)
+    pub node_repeated : k ≤ r → k < t.count → Err (BadNode (k + 1)) ≡ nodes_stage (readable file)
     unfolding nodes_stage
     node_repeated h l = rw (nodes_from file told).count (at_first BadNode (first_as node_test (lower_second f g h)) l)
 
-    pub nodes_sound : k ≤ r → t.count ≤ k → Passes ≡ nodes_stage (readable file)
+    pub nodes_sound : k ≤ r → t.count ≤ k → Ok tt ≡ nodes_stage (readable file)
     unfolding nodes_stage
     nodes_sound h l = rw (nodes_from file told).count (at_none BadNode (first_as node_test (lower_second f g h)) l)

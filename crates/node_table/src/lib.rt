@@ -1,7 +1,6 @@
 // The nodes' table: its columns, and refusal 3 of document 01. A file that is not whole reads as one without rows, and so has no bad one.
 #![tactic(auto)]
 
-mod fill;
 mod row;
 
 ghost use Rattle.std.specs.Prelude.{◌≡◌};
@@ -24,9 +23,9 @@ pub fn columns(file: &[u8]) -> NodeColumns
     ensures { result ≡ nodes_of (readable file.now) }
 {
     let rows = layout::section(file, layout::NODES);
-    let generation_zone = fill::numbers(file, rows, 12);
-    let demand_zone = fill::numbers(file, rows, 16);
-    let demand = fill::demands(file, rows, 20);
+    let generation_zone = fields::column(file, rows, 12);
+    let demand_zone = fields::column(file, rows, 16);
+    let demand = fields::column(file, rows, 20);
     NodeColumns {
         generation_zone,
         demand_zone,

@@ -2,11 +2,7 @@
 use mathlib.Core.Path.{◌≡◌, refl}
 use mathlib.Core.Logic.{◌≢◌}
 use Prim.Native.Nat.{ℕ, ◌+◌, ◌≤◌, ◌<◌}
-use native.Mathlib.Omega.{arith}
 use lib.IntN.{ℤ, nat_abs}
-use mir.Syntax.{w64}
-use mir.Val.{SFits}
-use Rattle.integers.proofs.Core.{Z}
 use borrow.Author.Tests.{le-leb, lt-leb, eq-eqb, ne_eqb}
 use Rattle.meaning.specs.declared.Background.{Background}
 use Rattle.meaning.specs.declared.Background.TheVariants.{YearRound, Peak}
@@ -16,10 +12,6 @@ use Rattle.meaning.specs.declared.Edition.{Edition}
 use Rattle.meaning.specs.declared.Edition.TheVariants.{First, Second}
 use Rattle.meaning.specs.Direction.{by_flows, counts_for, background}
 use Rattle.numbers.specs.Numbers.{by_background, heading_by}
-
--- no number of 64 bits has a magnitude above 2^63
-pub magnitude_most : (z : ℤ) → SFits w64 z → nat_abs z ≤ 9223372036854775808
-magnitude_most z f = simp Z (omega (arith, simp Z at f))
 
 module _ (year_round peak : ℤ) where
   pub for_peak : nat_abs year_round ≤ nat_abs peak + 400000000 → For Peak ≡ by_flows year_round peak

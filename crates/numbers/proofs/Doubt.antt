@@ -1,36 +1,22 @@
--- 15 and 11: a circuit whose background is decided, and one whose direction is clear.
+-- 11: a direction that is in doubt, and a circuit whose own is not.
 use mathlib.Core.Path.{◌≡◌, refl}
-use mathlib.Core.Bool.{true, false}
-use Prim.Native.Nat.{ℕ, ◌≤◌, ◌<◌}
-use borrow.Author.Tests.{le-leb, lt-leb}
-use Rattle.meaning.specs.declared.Background.{Background}
-use Rattle.meaning.specs.declared.Counting.TheVariants.{For, Doubtful}
-use Rattle.meaning.specs.Direction.{direction, in_doubt, is_doubtful}
+use mathlib.Core.Logic.{◌≢◌}
+use mathlib.Core.Bool.{false, not}
+use Prim.Native.Nat.{ℕ, ◌≤◌}
+use borrow.Author.Tests.{le-leb}
+use Rattle.meaning.specs.declared.Direction.{Direction}
+use Rattle.meaning.specs.declared.Direction.TheVariants.{Idle, Forward, Backward, InDoubt}
+use Rattle.meaning.specs.Direction.{direction, in_doubt}
 use Rattle.numbers.specs.declared.Heading.{Heading}
-use Rattle.numbers.specs.Numbers.{decided_in, clear_in}
+use Rattle.numbers.specs.Numbers.{clear_in}
 
-module _ (length : ℕ) (h : Heading) where
-  pub decided_short : length < 1 → true ≡ decided_in length h
-  unfolding decided_in
-  decided_short l = rw (lt-leb 1 length l) refl
+pub not_in_doubt : (d : Direction) → d ≢ InDoubt → false ≡ in_doubt d
+unfolding in_doubt
+not_in_doubt Idle n = refl
+not_in_doubt Forward n = refl
+not_in_doubt Backward n = refl
+not_in_doubt InDoubt n = absurd (n refl)
 
-  pub clear_short : length < 1 → true ≡ clear_in length h
-  unfolding clear_in
-  clear_short l = rw (lt-leb 1 length l) refl
-
-  module _ (long : 1 ≤ length) where
-    pub decided_for : {b : Background} → h.counting ≡ For b → true ≡ decided_in length h
-    unfolding decided_in is_doubtful
-    decided_for e = rw (le-leb 1 length long, e) refl
-
-    pub not_decided : h.counting ≡ Doubtful → false ≡ decided_in length h
-    unfolding decided_in is_doubtful
-    not_decided e = rw (le-leb 1 length long, e) refl
-
-    pub not_clear : in_doubt (direction h.flow) ≡ true → false ≡ clear_in length h
-    unfolding clear_in
-    not_clear e = rw (le-leb 1 length long, e) refl
-
-    pub no_doubt : in_doubt (direction h.flow) ≡ false → true ≡ clear_in length h
-    unfolding clear_in
-    no_doubt e = rw (le-leb 1 length long, e) refl
+pub clear_long : (length : ℕ) (h : Heading) → 1 ≤ length → not (in_doubt (direction h.flow)) ≡ clear_in length h
+unfolding clear_in
+clear_long length h long = rw (le-leb 1 length long) refl

@@ -1,40 +1,30 @@
--- The row that a loop finds, or the count where it finds none.
+-- The row that a search finds, or the count where it finds none.
 use mathlib.Core.Path.{◌≡◌, refl, sym, ◌∙◌, ap}
-use mathlib.Core.Logic.{◌⊎◌, inl, inr}
 use mathlib.Core.Bool.{Bool, true, false, not}
 use mathlib.Core.Option.{Option, none, some}
 use Prim.Native.Nat.{ℕ, ◌+◌, ◌≤◌, ◌<◌}
 use native.Mathlib.Numerals.{add-one}
+use native.Mathlib.Decide.{dec_lt}
 use native.Mathlib.Omega.{arith}
 use Rattle.meaning.specs.declared.Refusal.{Refusal}
-use Rattle.meaning.specs.declared.Judgement.TheVariants.{Passes, Stops}
+use Rattle.std.specs.Prelude.{Ok, Err}
 use Rattle.meaning.specs.Answers.{at}
 use Rattle.meaning.specs.Rows.{failing}
-use Rattle.meaning.proofs.Rows.{Lowest, nothing, first, lowest_is, lowest_stops, lowest_none, below_suc}
+use Rattle.meaning.proofs.Rows.{Lowest, nothing, first, lowest_is, lowest_stops, lowest_none}
 use Rattle.numbers.specs.Numbers.{row_of}
 
 -- the rows below i pass the test
 pub record AllPass (test : ℕ → Bool) (i : ℕ) : Type 0 where
   pub each : (j : ℕ) → j < i → test j ≡ true
 
-pub pass_none : (test : ℕ → Bool) → AllPass test 0
-pass_none test = record { each = λ j h. absurd (omega arith) }
-
-pub pass_more : {test : ℕ → Bool} {i : ℕ} → AllPass test i → test i ≡ true → AllPass test (i + 1)
-pass_more {test} {i} p e = record { each = λ j h. go j (below_suc i j (omega arith)) }
+-- what a search answers: the row that fails, those below it passing, or the count
+pub row_first : (test : ℕ → Bool) (n : ℕ) {r : ℕ} → r ≤ n → ((j : ℕ) → j < r → test j ≡ true) → (r < n → test r ≡ false) → r ≡ row_of (failing test n) n
+unfolding row_of
+row_first test n {r} within before here = go (dec_lt r n)
   where
-    go : (j : ℕ) → (j < i) ⊎ (j ≡ i) → test j ≡ true
-    go j (inl k) = p.each j k
-    go j (inr k) = rw k e
-
--- what a loop answers: the row where it stops, or the count
-pub row_here : (test : ℕ → Bool) (n i : ℕ) → AllPass test i → i < n → test i ≡ false → i ≡ row_of (failing test n) n
-unfolding row_of
-row_here test n i p h e = rw (lowest_stops (λ j. not (test j)) n i h (ap not e) (λ j k. ap not (p.each j k))) refl
-
-pub row_none : (test : ℕ → Bool) (n : ℕ) → AllPass test n → n ≡ row_of (failing test n) n
-unfolding row_of
-row_none test n p = rw (lowest_none (λ j. not (test j)) n (λ j k. ap not (p.each j k))) refl
+    go : Dec (r < n) → r ≡ row_of (failing test n) n
+    go (yes h) = rw (lowest_stops (λ j. not (test j)) n r h (ap not (here h)) (λ j k. ap not (before j k))) refl
+    go (no h) = rw (lowest_none (λ j. not (test j)) n (λ j k. ap not (before j (omega arith)))) (omega arith)
 
 -- what a caller learns of it
 not_false : (b : Bool) → not b ≡ false → b ≡ true
@@ -76,10 +66,10 @@ module _ (test : ℕ → Bool) (n more row : ℕ) (h : n ≤ more) where
       go o (first i k t g) e l = lowest_none (λ j. not (test j)) n (λ j k. g j (omega arith))
 
 -- a stage that looks for the lowest row: what it says
-pub row_stops : (test : ℕ → Bool) (n row : ℕ) (cause : ℕ → Refusal) → failing test n ≡ some row → Stops (cause (row + 1)) ≡ at (failing test n) cause
+pub row_stops : (test : ℕ → Bool) (n row : ℕ) (cause : ℕ → Refusal) → failing test n ≡ some row → Err (cause (row + 1)) ≡ at (failing test n) cause
 unfolding at
 row_stops test n row cause f = rw (add-one, f) refl
 
-pub row_passes : (test : ℕ → Bool) (n : ℕ) (cause : ℕ → Refusal) → failing test n ≡ none → Passes ≡ at (failing test n) cause
+pub row_passes : (test : ℕ → Bool) (n : ℕ) (cause : ℕ → Refusal) → failing test n ≡ none → Ok tt ≡ at (failing test n) cause
 unfolding at
 row_passes test n cause f = rw f refl

@@ -13,10 +13,9 @@ use Rattle.meaning.specs.Grid.{grid_of}
 use Rattle.meaning.specs.Figures.{form_of}
 use Rattle.meaning.specs.declared.Refusal.{Refusal}
 use Rattle.meaning.specs.declared.Refusal.TheVariants.{BadFile}
-use Rattle.meaning.specs.declared.Judgement.{Judgement}
-use Rattle.meaning.specs.declared.Judgement.TheVariants.{Passes, Stops}
-use Rattle.meaning.specs.declared.Answer.{Answer}
-use Rattle.meaning.specs.declared.Answer.TheVariants.{Accepted, Refused}
+use Rattle.meaning.specs.Answers.{Judgement}
+use Rattle.std.specs.Prelude.{Ok, Err}
+use Rattle.meaning.specs.Answers.{Answer}
 use Rattle.meaning.specs.declared.Printed.{Printed}
 use Rattle.meaning.specs.Answers.{◌or_else◌, unless}
 use Rattle.meaning.specs.Study.{Runs}
@@ -64,50 +63,50 @@ module _ (file share : List ℕ) where
   abbrev runs : Runs
   runs = runs_in file
 
-  fits : judged file runs share ≡ Passes → length (sheet_of file runs share) ≤ length zeros
+  fits : judged file runs share ≡ Ok tt → length (sheet_of file runs share) ≤ length zeros
   fits e = rw (length-replicate {A = ℕ} 17408 0) (omega (arith, sheets_fit file runs share ((judged_pass file runs share).0 e), held (form_of (grid_of (study_of file)) share Generation)))
 
   -- 12 never comes of it
-  refusal_settled : {r : Refusal} → judged file runs share ≡ Stops r → settle file runs share zeros ≡ refused r zeros
+  refusal_settled : {r : Refusal} → judged file runs share ≡ Err r → settle file runs share zeros ≡ refused r zeros
   unfolding settle settled_by ◌or_else◌
   refusal_settled e = rw e refl
 
-  sheet_settled : judged file runs share ≡ Passes → settle file runs share zeros ≡ written (sheet_of file runs share) zeros
+  sheet_settled : judged file runs share ≡ Ok tt → settle file runs share zeros ≡ written (sheet_of file runs share) zeros
   unfolding settle settled_by buffer_stage unless ◌or_else◌
   sheet_settled e = rw (e, le-leb (length (sheet_of file runs share)) (length zeros) (fits e)) refl
 
   module _ (answer : Answer) (after : List ℕ) (settled : ◌≡◌ {A = Settled} (record { answer = answer; buffer = after }) (settle file runs share zeros)) where
-    stopped_answer : {r : Refusal} → judged file runs share ≡ Stops r → answer ≡ Refused r
+    stopped_answer : {r : Refusal} → judged file runs share ≡ Err r → answer ≡ Err r
     unfolding refused
     stopped_answer e = ap (λ (s : Settled). s.answer) (settled ∙ refusal_settled e)
 
-    passed_answer : judged file runs share ≡ Passes → answer ≡ Accepted (length (sheet_of file runs share))
+    passed_answer : judged file runs share ≡ Ok tt → answer ≡ Ok (length (sheet_of file runs share))
     unfolding written
     passed_answer e = ap (λ (s : Settled). s.answer) (settled ∙ sheet_settled e)
 
-    buffer_is : judged file runs share ≡ Passes → after ≡ sheet_of file runs share ++ drop (length (sheet_of file runs share)) zeros
+    buffer_is : judged file runs share ≡ Ok tt → after ≡ sheet_of file runs share ++ drop (length (sheet_of file runs share)) zeros
     unfolding written
     buffer_is e = ap (λ (s : Settled). s.buffer) (settled ∙ sheet_settled e)
 
-    passed_prints : judged file runs share ≡ Passes → sheet_of file runs share ≡ prints file share
+    passed_prints : judged file runs share ≡ Ok tt → sheet_of file runs share ≡ prints file share
     unfolding prints printed_by
     passed_prints e = rw e refl
 
-    pub refusal_printed : {cause : Refusal} → answer ≡ Refused cause → refused_line cause ≡ prints file share
+    pub refusal_printed : {cause : Refusal} → answer ≡ Err cause → refused_line cause ≡ prints file share
     unfolding prints printed_by
     refusal_printed {cause} a = go (judged file runs share) refl
       where
         go : (j : Judgement) → judged file runs share ≡ j → refused_line cause ≡ prints file share
-        go Passes e = absurd (accepted≢refused (sym (passed_answer e) ∙ a))
-        go (Stops r) e = rw (e, refused_same (sym a ∙ stopped_answer e)) refl
+        go (Ok _) e = absurd (accepted≢refused (sym (passed_answer e) ∙ a))
+        go (Err r) e = rw (e, refused_same (sym a ∙ stopped_answer e)) refl
 
-    pub sheet_printed : {n : ℕ} → answer ≡ Accepted n → Prints (prints file share) (record { length = n; bytes = after })
+    pub sheet_printed : {n : ℕ} → answer ≡ Ok n → Prints (prints file share) (record { length = n; bytes = after })
     unfolding prints printed_by
     sheet_printed {n} a = go (judged file runs share) refl
       where
         go : (j : Judgement) → judged file runs share ≡ j → Prints (prints file share) (record { length = n; bytes = after })
-        go (Stops r) e = absurd (accepted≢refused (sym a ∙ stopped_answer e))
-        go Passes e =
+        go (Err r) e = absurd (accepted≢refused (sym a ∙ stopped_answer e))
+        go (Ok _) e =
             subst (λ (text : List ℕ). Prints text (record { length = n; bytes = after })) (passed_prints e)
             (printed_front (sheet_of file runs share) after n (record { buffer = buffer_is e; answer = accepted_same (sym a ∙ passed_answer e) }))
 

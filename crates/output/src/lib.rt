@@ -4,14 +4,14 @@
 mod runs;
 
 ghost use Rattle.std.specs.Prelude.{◌≡◌, true, take};
-ghost use Rattle.meaning.specs.Study.{runs_of};
+ghost use Rattle.meaning.specs.Study.{lent};
 ghost use Rattle.meaning.specs.File.{file_whole, runs_in};
 ghost use Rattle.meaning.specs.Outcome.{prints, refused_line};
 ghost use Rattle.meaning.specs.Calls.{Prints};
 
-use meaning::{Answer, Printed, Refusal};
+use meaning::{Printed, Refusal, Solutions};
 
-// A solution copied out of the file: its numbers, zeros behind them, and how many it has.
+// A solution copied out of the file: its numbers, zeros behind them, and how many it has (there is no heap).
 #[derive(Clone, Copy)]
 struct Run {
     numbers: [i64; 768],
@@ -28,25 +28,14 @@ fn refused(cause: Refusal) -> Printed
 }
 
 // What is printed for a file with its own solutions. No sheet is longer than the buffer, so 12 never comes of it.
-fn with_runs(
-    file: &[u8],
-    base: &[i64],
-    wider: &[i64],
-    local: &[i64],
-    peak_base: &[i64],
-    peak_wider: &[i64],
-    share: &[u8],
-) -> Printed
-    requires { runs_of base.now wider.now local.now peak_base.now peak_wider.now ≡ runs_in file.now }
+fn with_runs(file: &[u8], runs: &Solutions, share: &[u8]) -> Printed
+    requires { lent runs.now ≡ runs_in file.now }
     ensures { Prints (prints file.now share.now) result }
 {
     let mut bytes = [0u8; 17408];
-    let answer = sheet::write(
-        file, base, wider, local, peak_base, peak_wider, share, &mut bytes,
-    );
-    match answer {
-        Answer::Refused(cause) => refused(cause),
-        Answer::Accepted(length) => Printed { length, bytes },
+    match sheet::write(file, runs, share, &mut bytes) {
+        Err(cause) => refused(cause),
+        Ok(length) => Printed { length, bytes },
     }
 }
 
@@ -60,25 +49,14 @@ fn of_whole_file(file: &[u8], share: &[u8]) -> Printed
     let local = runs::run_of(file, layout::LOCAL);
     let peak_base = runs::run_of(file, layout::PEAK_BASE);
     let peak_wider = runs::run_of(file, layout::PEAK_WIDER);
-    let base_run = base.numbers;
-    let wider_run = wider.numbers;
-    let local_run = local.numbers;
-    let peak_base_run = peak_base.numbers;
-    let peak_wider_run = peak_wider.numbers;
-    let base_count = base.count;
-    let wider_count = wider.count;
-    let local_count = local.count;
-    let peak_base_count = peak_base.count;
-    let peak_wider_count = peak_wider.count;
-    with_runs(
-        file,
-        &base_run[0..base_count],
-        &wider_run[0..wider_count],
-        &local_run[0..local_count],
-        &peak_base_run[0..peak_base_count],
-        &peak_wider_run[0..peak_wider_count],
-        share,
-    )
+    let runs = Solutions {
+        base: &base.numbers[0..base.count],
+        wider: &wider.numbers[0..wider.count],
+        local: &local.numbers[0..local.count],
+        peak_base: &peak_base.numbers[0..peak_base.count],
+        peak_wider: &peak_wider.numbers[0..peak_wider.count],
+    };
+    with_runs(file, &runs, share)
 }
 
 // What is printed for an input and a share file, of any bytes.

@@ -12,10 +12,8 @@ fn run_at(file: &[u8], rows: Section) -> [i64; 768]
     ensures { result ≡ column (pos 0) 768 rows.count (λ i. i64 file.now (row_at rows i)) }
 {
     let mut all = [0i64; 768];
-    let mut i = 0u32;
-    while (i < rows.count) & (i < 768) {
+    for i in 0..rows.count.min(768) {
         all[i as usize] = fields::i64_at(file, fields::row_at(rows, i));
-        i += 1;
     }
     all
 }

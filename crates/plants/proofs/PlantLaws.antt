@@ -1,9 +1,11 @@
 -- A percentage in two parts, and the columns of a grid by what counts.
 use mathlib.Core.Path.{◌≡◌, refl, ◌∙◌, ap}
 use mathlib.Core.Bool.{Bool, true, false, not, cond}
+use mathlib.Core.List.{[], ◌∷◌}
 use Prim.Native.Nat.{ℕ, zero, suc, ◌+◌, ◌*◌, ◌/◌, ◌%◌, ◌≤◌, ◌<◌}
 use native.Mathlib.Nat.{mul-le-mul_right}
 use native.Mathlib.Omega.{arith}
+use lib.ListN.{get_or}
 use Rattle.integers.specs.Numbers.{sum}
 use Rattle.meaning.specs.declared.Edition.{Edition}
 use Rattle.meaning.specs.declared.Edition.TheVariants.{First, Second}
@@ -72,6 +74,18 @@ part_low (Variable e b) plant kw = kept_low (is_variable (runs_as e b plant)) kw
 part_low LowCarbon plant kw = kept_low (low_carbon plant) kw
 part_low Carbon plant kw = kept_low (not (low_carbon plant)) kw
 part_low (Of one) plant kw = kept_low (same_plant one plant) kw
+
+-- ---- the types in the order of their numbers
+pub types_at : (t : ℕ) (none : Plant) → t < 7 → get_or (Intermittent ∷ NuclearAndCcs ∷ Interconnector ∷ Hydro ∷ PumpedStorage ∷ Peaking ∷ Other ∷ []) t none ≡ plant_of (suc t)
+unfolding plant_of
+types_at zero none h = refl
+types_at (suc zero) none h = refl
+types_at (suc (suc zero)) none h = refl
+types_at (suc (suc (suc zero))) none h = refl
+types_at (suc (suc (suc (suc zero)))) none h = refl
+types_at (suc (suc (suc (suc (suc zero))))) none h = refl
+types_at (suc (suc (suc (suc (suc (suc zero)))))) none h = refl
+types_at (suc (suc (suc (suc (suc (suc (suc t))))))) none h = absurd (omega arith)
 
 -- ---- of a grid
 module _ (G : Grid) where

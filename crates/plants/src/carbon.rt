@@ -5,16 +5,12 @@ ghost use Rattle.meaning.specs.Figures.{low_carbon};
 use meaning::Plant;
 
 // Whether a plant type is low carbon: types 1, 2 and 4.
+#[tactic(auto, unfolding(meaning::specs::Figures::low_carbon))]
 pub fn low(plant: Plant) -> bool
     ensures { result ≡ low_carbon plant }
 {
-    match plant {
-        Plant::Intermittent => true,
-        Plant::NuclearAndCcs => true,
-        Plant::Interconnector => false,
-        Plant::Hydro => true,
-        Plant::PumpedStorage => false,
-        Plant::Peaking => false,
-        Plant::Other => false,
-    }
+    matches!(
+        plant,
+        Plant::Intermittent | Plant::NuclearAndCcs | Plant::Hydro
+    )
 }

@@ -2,7 +2,6 @@
 #![tactic(auto)]
 
 mod carbon;
-mod kind;
 mod peak;
 mod running;
 mod share;
@@ -12,6 +11,17 @@ ghost use Rattle.meaning.specs.Grid.{pays as pays_at_all};
 ghost use Rattle.plants.specs.Counted.{part_of};
 
 use meaning::{Background, Edition, Kw, Plant};
+
+// The plant types, in the order of their numbers 1 to 7.
+pub const TYPES: [Plant; 7] = [
+    Plant::Intermittent,
+    Plant::NuclearAndCcs,
+    Plant::Interconnector,
+    Plant::Hydro,
+    Plant::PumpedStorage,
+    Plant::Peaking,
+    Plant::Other,
+];
 
 // What counts of TEC: all of it, what pays, what of this pays at peak; in a background of an edition what is fixed, and the TEC of the variable types;
 // low carbon TEC, carbon TEC, and the TEC of one plant type.
@@ -28,21 +38,15 @@ pub enum Counted {
 }
 
 // Whether the TEC of a plant type pays: interconnectors don't.
+#[tactic(auto, unfolding(meaning::specs::Grid::pays))]
 fn pays(plant: Plant) -> bool
     ensures { result ≡ pays_at_all plant }
 {
-    match plant {
-        Plant::Intermittent => true,
-        Plant::NuclearAndCcs => true,
-        Plant::Interconnector => false,
-        Plant::Hydro => true,
-        Plant::PumpedStorage => true,
-        Plant::Peaking => true,
-        Plant::Other => true,
-    }
+    !matches!(plant, Plant::Interconnector)
 }
 
 // What counts of the TEC of a plant type.
+#[tactic(auto, using(crate::proofs::PlantLaws::low_percentage), unfolding(crate::specs::Counted::part_of))]
 pub fn part(counted: Counted, plant: Plant, kw: Kw) -> Kw
     ensures { result.0 ≡ part_of counted plant kw.0 }
 {
@@ -60,6 +64,6 @@ pub fn part(counted: Counted, plant: Plant, kw: Kw) -> Kw
         ),
         Counted::LowCarbon => share::kept(carbon::low(plant), kw),
         Counted::Carbon => share::kept(!carbon::low(plant), kw),
-        Counted::Of(one) => share::kept(kind::same(one, plant), kw),
+        Counted::Of(one) => share::kept(one == plant, kw),
     }
 }

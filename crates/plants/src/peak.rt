@@ -8,21 +8,15 @@ ghost use Rattle.meaning.specs.Generation.{runs_as};
 use meaning::{Plant, Running};
 
 // Whether the TEC of a plant type pays at peak: neither interconnectors nor intermittent.
+#[tactic(auto, unfolding(meaning::specs::Grid::pays_in))]
 pub fn pays(plant: Plant) -> bool
     ensures { result ≡ pays_in Peak plant }
 {
-    match plant {
-        Plant::Intermittent => false,
-        Plant::NuclearAndCcs => true,
-        Plant::Interconnector => false,
-        Plant::Hydro => true,
-        Plant::PumpedStorage => true,
-        Plant::Peaking => true,
-        Plant::Other => true,
-    }
+    !matches!(plant, Plant::Intermittent | Plant::Interconnector)
 }
 
 // How it runs.
+#[tactic(auto, unfolding(meaning::specs::Generation::runs_as))]
 pub fn runs(plant: Plant) -> Running
     ensures { result ≡ runs_as Second Peak plant }
 {

@@ -6,6 +6,7 @@ use crate::peak;
 use meaning::{Background, Edition, Plant, Running};
 
 // Edition 2 year round.
+#[tactic(auto, unfolding(meaning::specs::Generation::runs_as))]
 fn year_round(plant: Plant) -> Running
     ensures { result ≡ runs_as Edition.Second Background.YearRound plant }
 {
@@ -31,6 +32,7 @@ fn in_background(background: Background, plant: Plant) -> Running
 }
 
 // Either edition: in edition 1 every type is variable.
+#[tactic(auto, unfolding(meaning::specs::Generation::runs_as))]
 pub fn runs_as(edition: Edition, background: Background, plant: Plant) -> Running
     ensures { result ≡ runs_as edition background plant }
 {

@@ -16,6 +16,7 @@ pub fn kept(counts: bool, kw: Kw) -> Kw
 }
 
 // A percentage, rounded down: by whole hundreds and what is left of them, so that no product passes 64 bits.
+#[tactic(auto, using(crate::proofs::PlantLaws::percent_split, crate::proofs::PlantLaws::percent_low))]
 pub fn percent_of(percent: u64, kw: Kw) -> Kw
     requires { percent ≤ 100 }
     ensures { result.0 ≡ percent * kw.0 / 100 }
@@ -26,6 +27,7 @@ pub fn percent_of(percent: u64, kw: Kw) -> Kw
 }
 
 // What is fixed.
+#[tactic(auto, unfolding(meaning::specs::Generation::fixed_part))]
 pub fn fixed(running: Running, kw: Kw) -> Kw
     requires { Percentage running }
     ensures { result.0 ≡ fixed_part running kw.0 }
@@ -37,6 +39,7 @@ pub fn fixed(running: Running, kw: Kw) -> Kw
 }
 
 // What may run where a variable type shares the demand.
+#[tactic(auto, unfolding(meaning::specs::Generation::is_variable))]
 pub fn variable(running: Running, kw: Kw) -> Kw
     ensures { result.0 ≡ cond (is_variable running) kw.0 0 }
 {

@@ -6,7 +6,7 @@ use Prim.Native.Nat.{ℕ}
 use lib.ListN.{length, take, drop}
 use lib.Seq.{take_at}
 use Rattle.meaning.specs.declared.Refusal.{Refusal}
-use Rattle.meaning.specs.declared.Answer.TheVariants.{Refused}
+use Rattle.std.specs.Prelude.{Err}
 use Rattle.meaning.specs.Answers.{values}
 use Rattle.meaning.specs.Study.{Runs}
 use Rattle.meaning.specs.File.{study_of}
@@ -43,7 +43,7 @@ module _ (c : Call) (kept : Kept c) where
       ∙ ap (λ (k : ℕ). sheet_in c ++ drop k c.before) (sym (ap (λ (s : Settled). (values s.answer).length) (kept.contract ∙ w)))
 
   -- what is refused, seen by the caller
-  refused_answer : (r : IsRefused c.file c.runs c.share c.before) → c.answer ≡ Refused r.cause
+  refused_answer : (r : IsRefused c.file c.runs c.share c.before) → c.answer ≡ Err r.cause
   unfolding refused
   refused_answer r = ap (λ (s : Settled). s.answer) (kept.contract ∙ r.settled)
 
@@ -73,7 +73,7 @@ module _ (c : Call) (kept : Kept c) where
   acceptable : IsAccepted c → Acceptable c.file c.runs c.share
   acceptable a = ((accepted_exactly_when c.file c.runs c.share c.before).accepted.0 (accepted_written a)).0
 
-  refused_when : (r : Refusal) → (c.answer ≡ Refused r) ↔ Stopped c.file c.runs c.share c.before r
+  refused_when : (r : Refusal) → (c.answer ≡ Err r) ↔ Stopped c.file c.runs c.share c.before r
   refused_when r =
       let e = ap (λ (s : Settled). s.answer) kept.contract in
       let w = (refused_exactly_when c.file c.runs c.share c.before r).exactly in

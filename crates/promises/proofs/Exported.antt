@@ -7,8 +7,8 @@ use lib.ListN.{length, get_or, take, drop}
 use lib.Seq.{take_at}
 use Rattle.meaning.specs.declared.Refusal.{Refusal}
 use Rattle.meaning.specs.declared.Values.{Values}
-use Rattle.meaning.specs.declared.Answer.{Answer}
-use Rattle.meaning.specs.declared.Answer.TheVariants.{Accepted, Refused}
+use Rattle.meaning.specs.Answers.{Answer}
+use Rattle.std.specs.Prelude.{Ok, Err}
 use Rattle.meaning.specs.Answers.{values}
 use Rattle.meaning.specs.File.{study_of}
 use Rattle.meaning.specs.Grid.{grid_of}
@@ -58,17 +58,17 @@ module _ (c : ToldCall) (kept : ToldKept c) where
   told_is a e = (kept.answer.number ∙ ap (λ (x : Answer). (values x).number) e, kept.answer.numbers ∙ ap (λ (x : Answer). four (values x)) e)
 
   -- accepted
-  accepting_answer : Accepting c.file c.runs c.share c.before → inner.answer ≡ Accepted n
+  accepting_answer : Accepting c.file c.runs c.share c.before → inner.answer ≡ Ok n
   unfolding written
   accepting_answer t = ap (λ (s : Settled). s.answer) ((accepted_exactly_when c.file c.runs c.share c.before).accepted.1 t)
 
   zero_told : Accepting c.file c.runs c.share c.before → c.result ≡ 0
   unfolding values
-  zero_told t = (told_is (Accepted n) (accepting_answer t)).0
+  zero_told t = (told_is (Ok n) (accepting_answer t)).0
 
   -- refused
-  refused_number : (r : Refusal) → Stopped c.file c.runs c.share c.before r → c.result ≡ (values (Refused r)).number
-  refused_number r f = (told_is (Refused r) ((whole.refused r).1 f)).0
+  refused_number : (r : Refusal) → Stopped c.file c.runs c.share c.before r → c.result ≡ (values (Err r)).number
+  refused_number r f = (told_is (Err r) ((whole.refused r).1 f)).0
 
   stopped_untouched : (r : Refusal) → Stopped c.file c.runs c.share c.before r → c.after ≡ c.before
   unfolding refused
@@ -106,24 +106,24 @@ module _ (c : ToldCall) (kept : ToldKept c) where
   told_four : (a : Answer) → inner.answer ≡ a → c.numbers ≡ four (values a)
   told_four a e = (told_is a e).1
 
-  length_told_lem : (c.numbers ≡ four (values (Accepted n))) ↔ Accepting c.file c.runs c.share c.before
+  length_told_lem : (c.numbers ≡ four (values (Ok n))) ↔ Accepting c.file c.runs c.share c.before
   unfolding values
-  length_told_lem = (λ e. go e (one_answer c.file c.runs c.share c.before).either, λ t. told_four (Accepted n) (accepting_answer t))
+  length_told_lem = (λ e. go e (one_answer c.file c.runs c.share c.before).either, λ t. told_four (Ok n) (accepting_answer t))
     where
-      go : c.numbers ≡ four (values (Accepted n))
+      go : c.numbers ≡ four (values (Ok n))
           → Accepting c.file c.runs c.share c.before ⊎ ((r : Refusal) × Stopped c.file c.runs c.share c.before r) → Accepting c.file c.runs c.share c.before
       go e (inl t) = t
-      go e (inr (r, f)) = absurd (number_positive r (nth 0 (sym (told_four (Refused r) ((whole.refused r).1 f)) ∙ e)))
+      go e (inr (r, f)) = absurd (number_positive r (nth 0 (sym (told_four (Err r) ((whole.refused r).1 f)) ∙ e)))
 
-  refusal_told_lem : (r : Refusal) → (c.numbers ≡ four (values (Refused r))) ↔ Stopped c.file c.runs c.share c.before r
+  refusal_told_lem : (r : Refusal) → (c.numbers ≡ four (values (Err r))) ↔ Stopped c.file c.runs c.share c.before r
   unfolding values
-  refusal_told_lem r = (λ e. go e (one_answer c.file c.runs c.share c.before).either, λ f. told_four (Refused r) ((whole.refused r).1 f))
+  refusal_told_lem r = (λ e. go e (one_answer c.file c.runs c.share c.before).either, λ f. told_four (Err r) ((whole.refused r).1 f))
     where
-      go : c.numbers ≡ four (values (Refused r))
+      go : c.numbers ≡ four (values (Err r))
           → Accepting c.file c.runs c.share c.before ⊎ ((q : Refusal) × Stopped c.file c.runs c.share c.before q) → Stopped c.file c.runs c.share c.before r
-      go e (inl t) = absurd (number_positive r (nth 0 (sym e ∙ told_four (Accepted n) (accepting_answer t))))
+      go e (inl t) = absurd (number_positive r (nth 0 (sym e ∙ told_four (Ok n) (accepting_answer t))))
       go e (inr (q, f)) =
-          let same = sym (told_four (Refused q) ((whole.refused q).1 f)) ∙ e in
+          let same = sym (told_four (Err q) ((whole.refused q).1 f)) ∙ e in
           subst (Stopped c.file c.runs c.share c.before) (values_tell q r (nth 0 same) (nth 1 same) (nth 2 same)) f
 
   -- ---- the promises of the call that it makes, read from the numbers

@@ -5,9 +5,8 @@ use mathlib.Core.List.{List}
 use Prim.Native.Nat.{ℕ}
 use lib.ListN.{length}
 use Rattle.meaning.specs.declared.Refusal.{Refusal}
-use Rattle.meaning.specs.declared.Judgement.{Judgement}
-use Rattle.meaning.specs.declared.Judgement.TheVariants.{Passes, Stops}
-use Rattle.meaning.specs.declared.Answer.TheVariants.{Accepted, Refused}
+use Rattle.meaning.specs.Answers.{Judgement}
+use Rattle.std.specs.Prelude.{Ok, Err}
 use Rattle.meaning.specs.Study.{Runs}
 use Rattle.meaning.specs.Grid.{Grid}
 use Rattle.meaning.specs.Sheet.{sheet}
@@ -25,25 +24,25 @@ use Rattle.promises.specs.Judging.{RefusalJudged, EveryJudgePromised, JudgesHide
 
 -- ---- what is answered by a judgement: accepted exactly when it passes, a refusal exactly when it stops so
 module _ (sheet : List ℕ) where
-  accepted_by : (j : Judgement) → (answered_by j sheet ≡ Accepted (length sheet)) ↔ (j ≡ Passes)
+  accepted_by : (j : Judgement) → (answered_by j sheet ≡ Ok (length sheet)) ↔ (j ≡ Ok tt)
   unfolding answered_by
-  accepted_by Passes = (λ e. refl, λ e. refl)
-  accepted_by (Stops r) = (λ e. absurd (accepted≢refused (sym e)), λ e. absurd (stops≢passes e))
+  accepted_by (Ok _) = (λ e. refl, λ e. refl)
+  accepted_by (Err r) = (λ e. absurd (accepted≢refused (sym e)), λ e. absurd (stops≢passes e))
 
-  refused_by : (j : Judgement) (r : Refusal) → (answered_by j sheet ≡ Refused r) ↔ (j ≡ Stops r)
+  refused_by : (j : Judgement) (r : Refusal) → (answered_by j sheet ≡ Err r) ↔ (j ≡ Err r)
   unfolding answered_by
-  refused_by Passes r = (λ e. absurd (accepted≢refused e), λ e. absurd (stops≢passes (sym e)))
-  refused_by (Stops q) r = (λ e. ap Stops (refused_same e), λ e. ap Refused (stops_same e))
+  refused_by (Ok _) r = (λ e. absurd (accepted≢refused e), λ e. absurd (stops≢passes (sym e)))
+  refused_by (Err q) r = (λ e. ap Err (refused_same e), λ e. ap Err (stops_same e))
 
 module _ (file : List ℕ) (runs : Runs) (share : List ℕ) where
-  accepted : (answer_of file runs share ≡ Accepted (length (sheet_of file runs share))) ↔ Acceptable file runs share
+  accepted : (answer_of file runs share ≡ Ok (length (sheet_of file runs share))) ↔ Acceptable file runs share
   unfolding answer_of
   accepted =
       let a = accepted_by (sheet_of file runs share) (judged file runs share) in
       let p = judged_pass file runs share in
       (λ e. p.0 (a.0 e), λ t. a.1 (p.1 t))
 
-  refused : (r : Refusal) → (answer_of file runs share ≡ Refused r) ↔ FirstUnmet (case_order file runs share) r
+  refused : (r : Refusal) → (answer_of file runs share ≡ Err r) ↔ FirstUnmet (case_order file runs share) r
   unfolding answer_of
   refused r =
       let a = refused_by (sheet_of file runs share) (judged file runs share) r in
@@ -54,8 +53,8 @@ module _ (file : List ℕ) (runs : Runs) (share : List ℕ) where
   otherwise h = go (judged file runs share) refl
     where
       go : (j : Judgement) → judged file runs share ≡ j → RefusalJudged file (answer_of file runs share)
-      go Passes e = absurd (h ((judged_pass file runs share).0 e))
-      go (Stops r) e =
+      go (Ok _) e = absurd (h ((judged_pass file runs share).0 e))
+      go (Err r) e =
           let f = ((judge_case file runs share).stops r).0 e in
           record { cause = r; answered = (refused r).1 f; listed = case_listed file runs share r f; number = case_number file runs share r f }
 

@@ -7,8 +7,8 @@ use lib.ListN.{length, get_or, take, replicate}
 use lib.Seq.{take_at}
 use Rattle.meaning.specs.declared.Printed.{Printed}
 use Rattle.meaning.specs.declared.Refusal.{Refusal}
-use Rattle.meaning.specs.declared.Judgement.{Judgement}
-use Rattle.meaning.specs.declared.Judgement.TheVariants.{Passes, Stops}
+use Rattle.meaning.specs.Answers.{Judgement}
+use Rattle.std.specs.Prelude.{Ok, Err}
 use Rattle.meaning.specs.Study.{Runs}
 use Rattle.meaning.specs.File.{study_of, runs_in}
 use Rattle.meaning.specs.Grid.{Grid, grid_of}
@@ -45,11 +45,11 @@ module _ (file share : List ℕ) where
   abbrev runs : Runs
   runs = runs_in file
 
-  passes_sheet : judged file runs share ≡ Passes → prints file share ≡ sheet_of file runs share
+  passes_sheet : judged file runs share ≡ Ok tt → prints file share ≡ sheet_of file runs share
   unfolding prints printed_by
   passes_sheet e = rw e refl
 
-  stops_line : (r : Refusal) → judged file runs share ≡ Stops r → prints file share ≡ refused_line r
+  stops_line : (r : Refusal) → judged file runs share ≡ Err r → prints file share ≡ refused_line r
   unfolding prints printed_by
   stops_line r e = rw e refl
 
@@ -61,7 +61,7 @@ module _ (file share : List ℕ) where
       let h : ◌≡◌ {A = ℕ} 67 114 = sym (sheet_starts (grid_of (study_of file)) runs share) ∙ ap {B = ℕ} (λ (l : List ℕ). get_or l 0 0) e ∙ line_starts r in
       omega (arith, h)
 
-  refusal : (r : Refusal) → judged file runs share ≡ Stops r → RefusalPrinted file share (prints file share)
+  refusal : (r : Refusal) → judged file runs share ≡ Err r → RefusalPrinted file share (prints file share)
   refusal r e =
       let f = ((judge_case file runs share).stops r).0 e in
       record { cause = r; stopped = f; listed = case_listed file runs share r f; number = case_number file runs share r f; line = stops_line r e }
@@ -70,15 +70,15 @@ module _ (file share : List ℕ) where
   sheet_accepted p = go (judged file runs share) refl
     where
       go : (j : Judgement) → judged file runs share ≡ j → Acceptable file runs share
-      go Passes e = (judged_pass file runs share).0 e
-      go (Stops r) e = absurd (apart r (sym p ∙ stops_line r e))
+      go (Ok _) e = (judged_pass file runs share).0 e
+      go (Err r) e = absurd (apart r (sym p ∙ stops_line r e))
 
   line_stopped : (r : Refusal) → prints file share ≡ refused_line r → FirstUnmet (case_order file runs share) r
   line_stopped r p = go (judged file runs share) refl
     where
       go : (j : Judgement) → judged file runs share ≡ j → FirstUnmet (case_order file runs share) r
-      go Passes e = absurd (apart r (sym (passes_sheet e) ∙ p))
-      go (Stops q) e = ((judge_case file runs share).stops r).0 (e ∙ ap Stops (line_told q r (sym (stops_line q e) ∙ p)))
+      go (Ok _) e = absurd (apart r (sym (passes_sheet e) ∙ p))
+      go (Err q) e = ((judge_case file runs share).stops r).0 (e ∙ ap Err (line_told q r (sym (stops_line q e) ∙ p)))
 
   stopped_line : (r : Refusal) → FirstUnmet (case_order file runs share) r → prints file share ≡ refused_line r
   stopped_line r f = stops_line r (((judge_case file runs share).stops r).1 f)
@@ -87,8 +87,8 @@ module _ (file share : List ℕ) where
   otherwise f = go (judged file runs share) refl
     where
       go : (j : Judgement) → judged file runs share ≡ j → RefusalPrinted file share (prints file share)
-      go Passes e = absurd (f ((judged_pass file runs share).0 e))
-      go (Stops r) e = refusal r e
+      go (Ok _) e = absurd (f ((judged_pass file runs share).0 e))
+      go (Err r) e = refusal r e
 
   promised : PrintPromised file share (prints file share)
   promised = record {

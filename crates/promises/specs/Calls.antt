@@ -1,7 +1,7 @@
 -- The demands, said of calls of the entry `sheet::write`, whose contract is `Kept` (meaning/specs/Calls.antt).
 use Rattle.std.specs.Prelude.{◌≡◌, ◌↔◌, ◌⊎◌, false, List, [], ◌++◌, ℕ, length, take, drop}
 use Rattle.meaning.specs.declared.Refusal.{Refusal}
-use Rattle.meaning.specs.declared.Answer.TheVariants.{Accepted, Refused}
+use Rattle.std.specs.Prelude.{Ok, Err}
 use Rattle.meaning.specs.Answers.{values}
 use Rattle.meaning.specs.File.{study_of}
 use Rattle.meaning.specs.Grid.{grid_of}
@@ -18,7 +18,7 @@ use Rattle.meaning.specs.Calls.{Call, Kept}
 
 -- accepted, with the sheet's length
 abbrev pub IsAccepted : Call → Type 0
-IsAccepted c = c.answer ≡ Accepted (length (sheet_of c.file c.runs c.share))
+IsAccepted c = c.answer ≡ Ok (length (sheet_of c.file c.runs c.share))
 
 -- the sheet that a caller of an accepted case finds: as many bytes as the answer says, at the buffer's front
 abbrev pub sheet_in : Call → List ℕ
@@ -27,7 +27,7 @@ sheet_in c = take (values c.answer).length c.after
 -- a refusal of 01's table, and the buffer as it was
 pub record IsRefusal (c : Call) : Type 0 where
   pub cause : Refusal
-  pub answered : c.answer ≡ Refused cause
+  pub answered : c.answer ≡ Err cause
   pub listed : ListedFor (study_of c.file) cause
   pub untouched : c.after ≡ c.before
 
@@ -40,7 +40,7 @@ pub record Promised (c : Call) : Type 0 where
   pub sheet : IsAccepted c → sheet_in c ≡ sheet_of c.file c.runs c.share
   pub behind : IsAccepted c → c.after ≡ sheet_in c ++ drop (values c.answer).length c.before
   -- "A refusal returns its number, system and row as the document lists them": exactly when 01's order stops the case there
-  pub refused : (r : Refusal) → (c.answer ≡ Refused r) ↔ Stopped c.file c.runs c.share c.before r
+  pub refused : (r : Refusal) → (c.answer ≡ Err r) ↔ Stopped c.file c.runs c.share c.before r
   -- the revenue, from the bytes that the caller got
   pub revenue : IsAccepted c → Recovered (grid_of (study_of c.file)) c.share (sheet_in c)
   -- 02, request 6: the metres of each zone, not shared and shared; and where no file is in force, all is as without one

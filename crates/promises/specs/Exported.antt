@@ -1,7 +1,7 @@
 -- The demands, said of calls of the exported `wirepulley_write`, whose contract is `ToldKept` (meaning/specs/Calls.antt): answers are numbers.
 use Rattle.std.specs.Prelude.{◌≡◌, ◌↔◌, ◌≢◌, false, List, [], ◌++◌, ℕ, length, take, drop}
 use Rattle.meaning.specs.declared.Refusal.{Refusal}
-use Rattle.meaning.specs.declared.Answer.TheVariants.{Accepted, Refused}
+use Rattle.std.specs.Prelude.{Ok, Err}
 use Rattle.meaning.specs.Answers.{values}
 use Rattle.meaning.specs.File.{study_of}
 use Rattle.meaning.specs.Grid.{grid_of}
@@ -25,7 +25,7 @@ pub record RefusalTold (c : ToldCall) : Type 0 where
   pub cause : Refusal
   pub stopped : Stopped c.file c.runs c.share c.before cause
   pub listed : ListedFor (study_of c.file) cause
-  pub number : c.result ≡ (values (Refused cause)).number
+  pub number : c.result ≡ (values (Err cause)).number
   pub untouched : c.after ≡ c.before
 
 -- ---- demands 1 and 2, of one call
@@ -36,8 +36,8 @@ pub record ToldPromised (c : ToldCall) : Type 0 where
   pub behind : c.result ≡ 0 → c.after ≡ sheet_of c.file c.runs c.share ++ drop (length (sheet_of c.file c.runs c.share)) c.before
   pub otherwise : c.result ≢ 0 → RefusalTold c
   -- the four numbers are accepted's with the sheet's length, or this refusal's, exactly when
-  pub length_told : (c.numbers ≡ four (values (Accepted (length (sheet_of c.file c.runs c.share))))) ↔ Accepting c.file c.runs c.share c.before
-  pub refusal_told : (r : Refusal) → (c.numbers ≡ four (values (Refused r))) ↔ Stopped c.file c.runs c.share c.before r
+  pub length_told : (c.numbers ≡ four (values (Ok (length (sheet_of c.file c.runs c.share))))) ↔ Accepting c.file c.runs c.share c.before
+  pub refusal_told : (r : Refusal) → (c.numbers ≡ four (values (Err r))) ↔ Stopped c.file c.runs c.share c.before r
   -- the revenue, from the bytes that the caller got
   pub revenue : c.result ≡ 0 → Recovered (grid_of (study_of c.file)) c.share (sheet_at c (length (sheet_of c.file c.runs c.share)))
   -- and generation held against demand, in the same bytes (02, request 2)

@@ -1,8 +1,8 @@
 -- The demands, said of the entries that judge without a buffer: `sheet::judge`, whose answer is `answer_of`, and the exported `wirepulley_judge`, which tells it.
 use Rattle.std.specs.Prelude.{◌≡◌, ◌↔◌, ◌≢◌, false, List, [], ℕ, ◌≤◌, length}
 use Rattle.meaning.specs.declared.Refusal.{Refusal}
-use Rattle.meaning.specs.declared.Answer.{Answer}
-use Rattle.meaning.specs.declared.Answer.TheVariants.{Accepted, Refused}
+use Rattle.meaning.specs.Answers.{Answer}
+use Rattle.std.specs.Prelude.{Ok, Err}
 use Rattle.meaning.specs.Answers.{values}
 use Rattle.meaning.specs.Study.{Runs}
 use Rattle.meaning.specs.File.{study_of}
@@ -17,15 +17,15 @@ use Rattle.meaning.specs.Calls.{Tells}
 -- a refusal of 01's table, never 12
 pub record RefusalJudged (file : List ℕ) (answer : Answer) : Type 0 where
   pub cause : Refusal
-  pub answered : answer ≡ Refused cause
+  pub answered : answer ≡ Err cause
   pub listed : ListedFor (study_of file) cause
-  pub number : (values (Refused cause)).number ≢ 12
+  pub number : (values (Err cause)).number ≢ 12
 
 -- ---- demands 1 and 2, of a case and the answer that is given
 pub record JudgePromised (file : List ℕ) (runs : Runs) (share : List ℕ) (answer : Answer) : Type 0 where
   -- accepted with the sheet's length exactly when the case is acceptable; a refusal exactly when 01's order stops the case there; one of the two
-  pub accepted : (answer ≡ Accepted (length (sheet_of file runs share))) ↔ Acceptable file runs share
-  pub refused : (r : Refusal) → (answer ≡ Refused r) ↔ FirstUnmet (case_order file runs share) r
+  pub accepted : (answer ≡ Ok (length (sheet_of file runs share))) ↔ Acceptable file runs share
+  pub refused : (r : Refusal) → (answer ≡ Err r) ↔ FirstUnmet (case_order file runs share) r
   pub otherwise : (Acceptable file runs share → ⊥) → RefusalJudged file answer
   -- the entry that writes says the same with room enough
   pub with_room : (buffer : List ℕ) → length (sheet_of file runs share) ≤ length buffer → (settle file runs share buffer).answer ≡ answer

@@ -1,7 +1,7 @@
 -- The demands, said of the program: what it prints of the bytes that it read of a case and of a share file, in its buffer of 17,408. The runs are the file's own.
 use Rattle.std.specs.Prelude.{◌≡◌, ◌↔◌, ◌≢◌, false, List, [], ℕ, length, take}
 use Rattle.meaning.specs.declared.Refusal.{Refusal}
-use Rattle.meaning.specs.declared.Answer.TheVariants.{Refused}
+use Rattle.std.specs.Prelude.{Err}
 use Rattle.meaning.specs.declared.Printed.{Printed}
 use Rattle.meaning.specs.Answers.{values}
 use Rattle.meaning.specs.File.{study_of, runs_in}
@@ -27,7 +27,7 @@ pub record RefusalPrinted (file share text : List ℕ) : Type 0 where
   pub cause : Refusal
   pub stopped : FirstUnmet (case_order file (runs_in file) share) cause
   pub listed : ListedFor (study_of file) cause
-  pub number : (values (Refused cause)).number ≢ 12
+  pub number : (values (Err cause)).number ≢ 12
   pub line : text ≡ refused_line cause
 
 -- ---- demands 1 and 2, of a file, a share file (02, request 6; no bytes for none) and the text printed for them

@@ -1,12 +1,12 @@
--- From a file that was opened to the judgement of 1 to 11 and 13 to 16: where the tables stop the case, where the share file does, and where the proposals decide.
-use mathlib.Core.Path.{◌≡◌, ◌∙◌, ap}
+-- From a file that was opened to the judgement of 1 to 11 and 13 to 16: where the tables stop the case, and where the share file and the proposals decide.
+use mathlib.Core.Path.{◌≡◌, refl, sym, ◌∙◌, ap}
 use mathlib.Core.List.{List}
 use Prim.Native.Nat.{ℕ, ◌+◌, ◌≤◌}
 use native.Mathlib.Omega.{arith}
 use lib.ListN.{length}
 use Rattle.meaning.specs.declared.Refusal.{Refusal}
-use Rattle.meaning.specs.declared.Judgement.{Judgement}
-use Rattle.meaning.specs.declared.Judgement.TheVariants.{Passes, Stops}
+use Rattle.meaning.specs.Answers.{Judgement}
+use Rattle.std.specs.Prelude.{Result, Ok, Err}
 use Rattle.meaning.specs.Study.{Study, Runs}
 use Rattle.meaning.specs.File.{study_of}
 use Rattle.meaning.specs.Grid.{grid_of}
@@ -16,30 +16,24 @@ use Rattle.meaning.specs.Systems.{proposals_stage}
 use Rattle.meaning.specs.Answers.{◌or_else◌}
 use Rattle.meaning.specs.Figures.{share_stage}
 use Rattle.meaning.specs.Outcome.{judged}
-use Rattle.meaning.proofs.Answers.{stops_first, passes-first}
+use Rattle.meaning.proofs.Answers.{let_through, held_back}
 use Rattle.tables.specs.declared.Opened.{Opened}
-use Rattle.tables.specs.Opens.{Opens, with_judgement}
-use Rattle.tables.proofs.ReadLaws.{columns_kept}
+use Rattle.tables.specs.Opens.{Opens}
 use Rattle.tables.proofs.Sound.{SoundOpened, opened_sound}
 use Rattle.shares.proofs.OfOpened.{stage_of_opened}
 use Rattle.flows.specs.declared.Case.{Case}
 use Rattle.flows.specs.Flows.{circuits_in}
 use Rattle.proposal.specs.Case.{share_in, case_of, proposals_in, AllJudgeable}
-use Rattle.proposal.specs.Judges.{Judges}
 use Rattle.proposal.proofs.Told.{Told, proposals_told}
 use Rattle.proposal.proofs.Sound.{circuits_in_lem, judgeable}
 use Rattle.proposal.proofs.CaseOf.{reference_least, case_told}
 
-module _ (file : List ℕ) (runs : Runs) (share : List ℕ) (o : Opened) (t : Opens file (λ s. length (runs s)) o) where
-  -- the columns stay as they are
-  with_judgement_lem : (r : Judgement) → r ≡ judged file runs share → Judges file runs share (with_judgement o r)
-  with_judgement_lem r a = record { judgement = a; columns = columns_kept t.columns r }
+module _ (file : List ℕ) (runs : Runs) (share : List ℕ) {x : Result Opened Refusal} (t : Opens file (λ s. length (runs s)) x) where
+  pub tables_stop : {r : Refusal} → x ≡ Err r → judged file runs share ≡ Err r
+  unfolding judged ◌or_else◌
+  tables_stop h = rw (held_back _ _ t.judged h) refl
 
-  pub tables_stop : {r : Refusal} → o.judgement ≡ Stops r → Judges file runs share o
-  unfolding judged
-  tables_stop h = with_judgement_lem o.judgement (h ∙ stops_first (share_stage (grid_of (study_of file)) share or_else proposals_stage (grid_of (study_of file)) runs) t.judgement h)
-
-  module _ (h : o.judgement ≡ Passes) where
+  module _ {o : Opened} (h : x ≡ Ok o) where
     abbrev S : Study
     S = study_of file
 
@@ -68,25 +62,12 @@ module _ (file : List ℕ) (runs : Runs) (share : List ℕ) (o : Opened) (t : Op
     unfolding grid_of
     edition_is = told_case.edition
 
-    pub passed_judgeable : (k : Case) → k ≡ case_of o → AllJudgeable k runs
-    passed_judgeable k q = rw q (λ system i. judgeable S (case_of o) told_case s.tables few fewer (runs system) (long system (rw edition_is at i)))
+    pub passed_judgeable : AllJudgeable (case_of o) runs
+    passed_judgeable = λ system i. judgeable S (case_of o) told_case s.tables few fewer (runs system) (long system (rw edition_is at i))
 
-    -- 16, after the tables
-    share_is : {j : Judgement} → j ≡ share_in o share → j ≡ share_stage (grid_of S) share
-    share_is e = e ∙ stage_of_opened S s.study few o s.columns share
-
-    pub share_stops : {r : Refusal} (j : Judgement) → j ≡ share_in o share → j ≡ Stops r → (w : Opened) → w ≡ with_judgement o j → Judges file runs share w
-    unfolding judged
-    share_stops j e q w g =
-        rw g (with_judgement_lem j
-        (passes-first (share_stage (grid_of S) share or_else proposals_stage (grid_of S) runs) t.judgement h
-        (q ∙ stops_first (proposals_stage (grid_of S) runs) (share_is e) q)))
-
-    pub proposals_decide : (j : Judgement) → j ≡ share_in o share → j ≡ Passes → (k : Case) → k ≡ case_of o → (r : Judgement) → r ≡ proposals_in k runs
-        → (w : Opened) → w ≡ with_judgement o r → Judges file runs share w
-    unfolding judged grid_of case_of
-    proposals_decide j e p k q r f w g =
-        rw g (with_judgement_lem r
-        (passes-first (share_stage (grid_of S) share or_else proposals_stage (grid_of S) runs) t.judgement h
-        (passes-first (proposals_stage (grid_of S) runs) (share_is e) p
-        (f ∙ ap (λ (c : Case). proposals_in c runs) q ∙ proposals_told (grid_of S) (case_of o) told_case s.nodes_few.most fewer runs circuits_of))))
+    -- 16, and then the proposals, after the tables
+    pub rest_decides : {j : Judgement} → j ≡ (share_in o share or_else proposals_in (case_of o) runs) → judged file runs share ≡ j
+    unfolding judged grid_of case_of ◌or_else◌
+    rest_decides f =
+        rw ((let_through _ _ t.judged h).0)
+        (rw (← stage_of_opened S s.study few o s.columns share, ← proposals_told (grid_of S) (case_of o) told_case s.nodes_few.most fewer runs circuits_of) (sym f))

@@ -13,7 +13,7 @@ use lib.ListN.{length, get_or-eq_default}
 use Rattle.meaning.specs.declared.System.{System}
 use Rattle.meaning.specs.declared.System.TheVariants.{Base, Wider, Local}
 use Rattle.meaning.specs.declared.Refusal.TheVariants.{BadNumber, Unbalanced, MissesTooHigh}
-use Rattle.meaning.specs.declared.Judgement.TheVariants.{Passes, Stops}
+use Rattle.std.specs.Prelude.{Ok, Err}
 use Rattle.meaning.specs.Answers.{unless, at, ◌or_else◌}
 use Rattle.meaning.specs.Rows.{failing, rows}
 use Rattle.meaning.specs.Network.{Network}
@@ -86,7 +86,7 @@ module _ (N : Network) (limit : ℕ) (run : List ℤ) (h : limit ≤ 20000000000
 -- ---- the chain
 module _ (N : Network) (P : Proposed) where
   -- 8 stops at a row
-  pub stops_number : (row : ℕ) → row ≡ row_of (failing (numbers N P) (count N)) (count N) → row < count N → Stops (BadNumber P.system (row + 1)) ≡ system_stage N P
+  pub stops_number : (row : ℕ) → row ≡ row_of (failing (numbers N P) (count N)) (count N) → row < count N → Err (BadNumber P.system (row + 1)) ≡ system_stage N P
   unfolding system_stage range_stage at ◌or_else◌
   stops_number row e h =
       let f : failing (numbers N P) (count N) ≡ some row = row_is (numbers N P) (count N) (omega arith) ∙ ap some (sym e) in
@@ -98,15 +98,15 @@ module _ (N : Network) (P : Proposed) where
   passes_numbers f = rw f refl
 
   -- 9 stops at a node
-  pub stops_node : failing (numbers N P) (count N) ≡ none → (row : ℕ) → failing (nodes N P) N.nodes ≡ some row → Stops (Unbalanced P.system (row + 1)) ≡ system_stage N P
+  pub stops_node : failing (numbers N P) (count N) ≡ none → (row : ℕ) → failing (nodes N P) N.nodes ≡ some row → Err (Unbalanced P.system (row + 1)) ≡ system_stage N P
   unfolding balance_stage at ◌or_else◌
   stops_node g row f = rw (add-one, passes_numbers g, f) refl
 
   -- 9 passes, and 10 decides
-  pub stops_misses : failing (numbers N P) (count N) ≡ none → failing (nodes N P) N.nodes ≡ none → low N P ≡ false → Stops (MissesTooHigh P.system) ≡ system_stage N P
+  pub stops_misses : failing (numbers N P) (count N) ≡ none → failing (nodes N P) N.nodes ≡ none → low N P ≡ false → Err (MissesTooHigh P.system) ≡ system_stage N P
   unfolding balance_stage miss_stage at unless ◌or_else◌
   stops_misses g f e = rw (passes_numbers g, f, e) refl
 
-  pub passes_all : failing (numbers N P) (count N) ≡ none → failing (nodes N P) N.nodes ≡ none → low N P ≡ true → Passes ≡ system_stage N P
+  pub passes_all : failing (numbers N P) (count N) ≡ none → failing (nodes N P) N.nodes ≡ none → low N P ≡ true → Ok tt ≡ system_stage N P
   unfolding balance_stage miss_stage at unless ◌or_else◌
   passes_all g f e = rw (passes_numbers g, f, e) refl

@@ -15,8 +15,8 @@ use Rattle.meaning.specs.declared.Edition.{Edition}
 use Rattle.meaning.specs.declared.Edition.TheVariants.{First, Second}
 use Rattle.meaning.specs.declared.System.{System}
 use Rattle.meaning.specs.declared.System.TheVariants.{Base, Wider, Local}
-use Rattle.meaning.specs.declared.Judgement.{Judgement}
-use Rattle.meaning.specs.declared.Judgement.TheVariants.{Passes, Stops}
+use Rattle.meaning.specs.Answers.{Judgement}
+use Rattle.std.specs.Prelude.{Ok, Err}
 use Rattle.meaning.specs.declared.Refusal.{Refusal}
 use Rattle.meaning.specs.declared.Refusal.TheVariants.{DirectionInDoubt, BackgroundInDoubt}
 use Rattle.meaning.specs.Answers.{◌or_else◌, at, in_second}
@@ -72,44 +72,39 @@ cause_same test n cause cause' h = go (failing test n) (lowest_is (λ i. not (te
   where
     go : (o : Option ℕ) → Lowest (λ i. not (test i)) n o → at o cause ≡ at o cause'
     go o (nothing g) = refl
-    go o (first i k t g) = ap Stops (h i k)
+    go o (first i k t g) = ap Err (h i k)
 
 -- a row that was found, with the background that its circuit counts for
 pub row_told : (test : ℕ → Bool) (n row : ℕ) (headings : List Heading) (b : Background) → b ≡ background (get_or headings row no_heading).counting → failing test n ≡ some row
-    → Stops (DirectionInDoubt b (row + 1)) ≡ at (failing test n) (λ row. DirectionInDoubt (background (get_or headings (row - 1) no_heading).counting) row)
+    → Err (DirectionInDoubt b (row + 1)) ≡ at (failing test n) (λ row. DirectionInDoubt (background (get_or headings (row - 1) no_heading).counting) row)
 row_told test n row headings b e f =
-    ap (λ b. Stops (DirectionInDoubt b (row + 1))) (e ∙ ap (λ r. background (get_or headings r no_heading).counting) back)
+    ap (λ b. Err (DirectionInDoubt b (row + 1))) (e ∙ ap (λ r. background (get_or headings r no_heading).counting) back)
     ∙ row_stops test n row (λ row. DirectionInDoubt (background (get_or headings (row - 1) no_heading).counting) row) f
   where
     back : row ≡ row + 1 - 1
     back = omega arith
 
 -- ---- what is judged of the systems of an edition
-module _ (earlier : Judgement) (e : Edition) (j : Judgement) where
-  pub first_alone : e ≡ First → earlier ≡ earlier or_else in_second e j
+module _ (e : Edition) (j : Judgement) where
+  pub first_alone : e ≡ First → Ok tt ≡ in_second e j
   unfolding in_second
-  first_alone h = rw h (sym (or_else_none earlier))
+  first_alone h = rw h refl
 
-  pub second_too : e ≡ Second → earlier or_else j ≡ earlier or_else in_second e j
+  pub second_too : e ≡ Second → j ≡ in_second e j
   unfolding in_second
   second_too h = rw h refl
 
 pub of_peak : {e : Edition} → e ≡ Second → Of Peak e
 of_peak h = subst (λ (e : Edition). Of Peak e) (sym h) tt
 
--- nothing comes before the first
-pub flows_first : (j a b : Judgement) → j ≡ Passes or_else a → j or_else b ≡ a or_else b
-unfolding ◌or_else◌
-flows_first j a b e = ap (λ (first : Judgement). first or_else b) e
-
--- the edition's order in two parts: the systems whose flows say directions, and all that comes after them
-pub in_two_parts : (e : Edition) (solution : System → Judgement) (backgrounds directions : Judgement)
-    → (solution (Base YearRound) or_else in_second e (solution (Base Peak)))
-    or_else (backgrounds or_else directions or_else solution (Wider YearRound) or_else in_second e (solution (Wider Peak)) or_else solution Local)
+-- the edition's order as code goes along it: a stage of peak's is there in edition 1 too, and passes
+pub one_by_one : (e : Edition) (solution : System → Judgement) (backgrounds directions : Judgement)
+    → solution (Base YearRound) or_else in_second e (solution (Base Peak)) or_else backgrounds or_else directions
+    or_else solution (Wider YearRound) or_else in_second e (solution (Wider Peak)) or_else solution Local
     ≡ ordered e solution backgrounds directions
 unfolding ordered in_order ◌or_else◌ in_second
-in_two_parts First solution backgrounds directions = simp or_else_none
-in_two_parts Second solution backgrounds directions = simp (or_else_assoc, or_else_none)
+one_by_one First solution backgrounds directions = simp or_else_none
+one_by_one Second solution backgrounds directions = simp (or_else_assoc, or_else_none)
 
 ordered_same : (e : Edition) (solution solution' : System → Judgement) (a b directions directions' : Judgement)
     → ((s : System) → HasSystem e s → solution s ≡ solution' s) → a ≡ b → directions ≡ directions'
@@ -231,7 +226,7 @@ module _ (G : Grid) (k : Case) (t : Told G k) (few : k.nodes ≤ 256) (fewer : l
       j : Judgement
       j = at (failing (counting_clear G runs) (length G.circuits)) BackgroundInDoubt
 
-      none_found : G.settings.edition ≡ First → j ≡ Passes
+      none_found : G.settings.edition ≡ First → j ≡ Ok tt
       none_found e = ap (λ o. at o BackgroundInDoubt) (lowest_none (λ c. not (counting_clear G runs c)) (length G.circuits) (λ c h. ap not (first_decided e c)))
 
       go : (e : Edition) → G.settings.edition ≡ e → j ≡ in_second e j

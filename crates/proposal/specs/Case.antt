@@ -7,7 +7,7 @@ use Rattle.meaning.specs.declared.Kw.{Kw}
 use Rattle.meaning.specs.declared.System.{System}
 use Rattle.meaning.specs.declared.System.TheVariants.{Base, Wider, Local}
 use Rattle.meaning.specs.declared.Refusal.TheVariants.{DirectionInDoubt, BackgroundInDoubt}
-use Rattle.meaning.specs.declared.Judgement.{Judgement}
+use Rattle.meaning.specs.Answers.{Judgement}
 use Rattle.meaning.specs.Answers.{◌or_else◌, at, in_second}
 use Rattle.meaning.specs.Rows.{failing}
 use Rattle.meaning.specs.Editions.{by_edition, HasSystem}
@@ -104,12 +104,12 @@ directions_in lengths headings =
 abbrev pub flows_in : Background → Case → (run : List ℤ) → Judgement
 flows_in b k run = solution_in (Base b) k [] run
 
--- 15, 11, and 8, 9, 10 of the systems whose potentials are distances
-abbrev pub distances_in : Case → (headings : List Heading) (wider local peak_wider : List ℤ) → Judgement
-distances_in k headings wider local peak_wider =
-    backgrounds_in k.length headings or_else directions_in k.length headings or_else solution_in (Wider YearRound) k headings wider
-    or_else in_second k.edition (solution_in (Wider Peak) k headings peak_wider)
-    or_else solution_in Local k headings local
+-- 8, 9, 10 of the systems whose potentials are distances
+abbrev pub lengths_in : Case → (headings : List Heading) → Runs → Judgement
+lengths_in k headings runs =
+    solution_in (Wider YearRound) k headings (runs (Wider YearRound))
+    or_else in_second k.edition (solution_in (Wider Peak) k headings (runs (Wider Peak)))
+    or_else solution_in Local k headings (runs Local)
 
 -- 8 to 11 and 15 in the edition's order
 abbrev pub proposals_in : Case → Runs → Judgement

@@ -1,11 +1,14 @@
--- What opening a case with its runs gives: the first refusal among 1 to 11 and 13 to 16, and the columns as `tables` states them.
-use Rattle.std.specs.Prelude.{◌≡◌, List, ℕ, length}
+-- What opening a case with its runs gives: the columns, or the first refusal among 1 to 11 and 13 to 16.
+use Rattle.std.specs.Prelude.{◌≡◌, List, ℕ, Result, IfOk}
+use Rattle.meaning.specs.declared.Refusal.{Refusal}
+use Rattle.meaning.specs.Answers.{yields}
 use Rattle.meaning.specs.Study.{Runs}
 use Rattle.meaning.specs.Outcome.{judged}
+use Rattle.layout.specs.Readable.{readable}
+use Rattle.station_table.specs.Tec.{Possible}
 use Rattle.tables.specs.declared.Opened.{Opened}
-use Rattle.tables.specs.Order.{frame_stage}
-use Rattle.tables.specs.Opens.{Columns}
+use Rattle.tables.specs.Opens.{opened_of}
 
-pub record Judges (file : List ℕ) (runs : Runs) (share : List ℕ) (o : Opened) : Type 0 where
-  pub judgement : o.judgement ≡ judged file runs share
-  pub columns : Columns (frame_stage file (λ s. length (runs s))) file o
+pub record Judges (file : List ℕ) (runs : Runs) (share : List ℕ) (r : Result Opened Refusal) : Type 0 where
+  pub judged : r ≡ yields (judged file runs share) (opened_of (readable file))
+  pub possible : IfOk r (λ o. Possible o.by_type)

@@ -33,43 +33,42 @@ pub fn peak_supply(edition: Edition, n: usize, by_type: [Kw; 1792], demand: [Kw;
 }
 
 // 16 of a file that was opened: 02, request 6.
-pub fn share_stage(read: Opened, share: &[u8]) -> Judgement
-    ensures { result ≡ share_in read share.now }
+pub fn share_stage(read: &Opened, share: &[u8]) -> Judgement
+    ensures { result ≡ share_in read.now share.now }
 {
     let settings = read.settings;
-    let edition = settings.edition;
     let n = read.counts.nodes;
     let zone = read.nodes.generation_zone;
-    let by_type = read.by_type;
-    shares::stage(edition, settings.generation_zones, n, zone, by_type, share)
+    shares::stage(
+        settings.edition,
+        settings.generation_zones,
+        n,
+        zone,
+        read.by_type,
+        share,
+    )
 }
 
 // The case of a file that was opened.
-pub fn case_of(read: Opened) -> Case
-    requires { 1 ≤ read.settings.reference }
-    ensures { result ≡ case_of read }
+pub fn case_of(read: &Opened) -> Case
+    requires { 1 ≤ read.now.settings.reference }
+    ensures { result ≡ case_of read.now }
 {
     let settings = read.settings;
     let edition = settings.edition;
     let n = read.counts.nodes;
-    let first = read.circuits.first;
-    let second = read.circuits.second;
-    let x = read.circuits.x;
-    let length = read.circuits.length;
-    let mark = read.circuits.mark;
-    let by_type = read.by_type;
     let demand = read.nodes.demand;
-    let supply = background_supply(edition, Background::YearRound, n, by_type, demand);
-    let peak_supply = peak_supply(edition, n, by_type, demand);
+    let supply = background_supply(edition, Background::YearRound, n, read.by_type, demand);
+    let peak_supply = peak_supply(edition, n, read.by_type, demand);
     Case {
         edition,
         nodes: n,
         reference: settings.reference - 1,
-        first,
-        second,
-        x,
-        length,
-        mark,
+        first: read.circuits.first,
+        second: read.circuits.second,
+        x: read.circuits.x,
+        length: read.circuits.length,
+        mark: read.circuits.mark,
         supply,
         peak_supply,
     }

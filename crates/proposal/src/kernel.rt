@@ -23,14 +23,14 @@ pub fn judge_system<'a>(
 {
     let row = numbers::first_out_of_range(n, reference, numbers::limit_of(system), run);
     if row < run.len() {
-        return Judgement::Stops(Refusal::BadNumber(system, row + 1));
+        return Err(Refusal::BadNumber(system, row + 1));
     }
     let node = numbers::first_apart(flows::net_flows(n, first, second, run), supply);
     if node < n {
-        return Judgement::Stops(Refusal::Unbalanced(system, node + 1));
+        return Err(Refusal::Unbalanced(system, node + 1));
     }
     if flows::misses_low(n, first, second, x, offset, run) {
-        return Judgement::Passes;
+        return Ok(());
     }
-    Judgement::Stops(Refusal::MissesTooHigh(system))
+    Err(Refusal::MissesTooHigh(system))
 }

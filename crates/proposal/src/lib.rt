@@ -7,50 +7,19 @@ mod kernel;
 mod order;
 mod solution;
 
-ghost use Rattle.meaning.specs.Study.{runs_of};
+ghost use Rattle.meaning.specs.Answers.{yields};
+ghost use Rattle.meaning.specs.Study.{lent};
 ghost use Rattle.proposal.specs.Judges.{Judges};
 
-use meaning::Judgement;
+use meaning::{Judgement, Solutions};
 use tables::Opened;
 
-// Reads a file once, judges its tables, then the share file and then the runs of its edition: what stops the case first, and the columns.
-pub fn open(
-    file: &[u8],
-    base: &[i64],
-    wider: &[i64],
-    local: &[i64],
-    peak_base: &[i64],
-    peak_wider: &[i64],
-    share: &[u8],
-) -> Opened
-    ensures { Judges file.now (runs_of base.now wider.now local.now peak_base.now peak_wider.now) share.now result }
+// Reads a file once, judges its tables, then the share file and then the runs of its edition: what stops the case first; where nothing does, the columns are in what was lent for them.
+pub fn open(file: &[u8], runs: &Solutions, share: &[u8], opened: &mut Opened) -> Judgement
+    ensures { Judges file.now (lent runs.now) share.now (yields result opened.new) }
 {
-    let read = tables::open(
-        file,
-        base.len(),
-        wider.len(),
-        local.len(),
-        peak_base.len(),
-        peak_wider.len(),
-    );
-    let judgement = read.judgement;
-    match judgement {
-        Judgement::Stops(_) => return read,
-        Judgement::Passes => (),
-    }
-    let of_share = case::share_stage(read, share);
-    match of_share {
-        Judgement::Stops(_) => tables::with_judgement(read, of_share),
-        Judgement::Passes => tables::with_judgement(
-            read,
-            order::proposals(
-                case::case_of(read),
-                base,
-                wider,
-                local,
-                peak_base,
-                peak_wider,
-            ),
-        ),
-    }
+    tables::open(file, runs, opened)?;
+    case::share_stage(opened, share)?;
+    let k = case::case_of(opened);
+    order::proposals(&k, runs)
 }

@@ -22,7 +22,7 @@ pub fn start(target: i64, payers: Kw) -> Rest
 {
     let k = payers.0;
     if (1 <= k) & (k <= 100000000) & (integers::magnitude(target) <= 1000000000000000000) {
-        return parts::divided(target, k);
+        return Rest::of(target, k);
     }
     Rest { each: 0, over: 0 }
 }
@@ -31,13 +31,8 @@ pub fn start(target: i64, payers: Kw) -> Rest
 pub fn less(rest: Rest, payers: Kw, tariff: MicroPerKw, kw: Kw) -> Rest
     ensures { result ≡ less_of rest payers.0 tariff.0 kw.0 }
 {
-    let each = rest.each;
-    let over = rest.over;
-    let k = payers.0;
-    let t = tariff.0;
-    let part = kw.0;
-    if parts::in_range(each, over, k, t, part) {
-        return parts::taken(each, over, k, t, part);
+    if rest.takes(payers.0, tariff.0, kw.0) {
+        return rest.taken(payers.0, tariff.0, kw.0);
     }
     rest
 }

@@ -6,8 +6,8 @@ use Prim.Native.Nat.{ℕ, suc, ◌≤◌, ◌<◌, min}
 use native.Mathlib.Omega.{arith}
 use borrow.Author.Tests.{le-leb}
 use Rattle.meaning.specs.declared.Edition.{Edition}
-use Rattle.meaning.specs.declared.Judgement.{Judgement}
-use Rattle.meaning.specs.declared.Judgement.TheVariants.{Passes as PassesStage}
+use Rattle.meaning.specs.Answers.{Judgement}
+use Rattle.std.specs.Prelude.{Ok}
 use Rattle.meaning.specs.declared.Kw.{Kw}
 use Rattle.meaning.specs.declared.Plant.{Plant}
 use Rattle.meaning.specs.declared.Side.TheVariants.{Generation}
@@ -25,8 +25,8 @@ use Rattle.zone_kw.proofs.OfGrid.{ZonesOf, at_zone, all_by_zone, some_by_zone, s
 use Rattle.chains.specs.Columns.{of_zone, zone_kw, inward_of, factors_of, stage_in}
 use Rattle.chains.proofs.Laws.{OnlyZones, zone_none, zone_past, zone_is, same_next, same_factor, stage_is}
 use Rattle.boundaries.specs.declared.Shares.{Shares}
-use Rattle.boundaries.specs.Boundaries.{up_to, kept, sharing_in}
-use Rattle.shares.specs.OfCase.{no_shares, stage_of, shares_of}
+use Rattle.boundaries.specs.Boundaries.{no_shares, up_to, kept, sharing_in}
+use Rattle.shares.specs.OfCase.{stage_of, shares_of}
 
 -- ---- as code goes: a file in force, and one that is not
 module _ (e : Edition) (count n : ℕ) (zone : List ℕ) (by_type : List Kw) (share : List ℕ) {b : Bool} (told : b ≡ in_force e share) where
@@ -34,7 +34,7 @@ module _ (e : Edition) (count n : ℕ) (zone : List ℕ) (by_type : List Kw) (sh
   unfolding stage_of when
   forced_stage h a t s = s ∙ rw (sym told ∙ h, t, a) refl
 
-  pub unforced_stage : b ≡ false → PassesStage ≡ stage_of e count n zone by_type share
+  pub unforced_stage : b ≡ false → Ok tt ≡ stage_of e count n zone by_type share
   unfolding stage_of when
   unforced_stage h = rw (sym told ∙ h) refl
 

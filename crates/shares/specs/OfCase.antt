@@ -1,7 +1,7 @@
 -- 02, request 6: refusal 16 and what a share file says, over the columns of a case that was opened.
 use Rattle.std.specs.Prelude.{true, false, cond, List, ℕ, replicate}
 use Rattle.meaning.specs.declared.Edition.{Edition}
-use Rattle.meaning.specs.declared.Judgement.{Judgement}
+use Rattle.meaning.specs.Answers.{Judgement}
 use Rattle.meaning.specs.declared.Kw.{Kw}
 use Rattle.meaning.specs.Answers.{when}
 use Rattle.meaning.specs.Columns.{kilowatts}
@@ -12,16 +12,7 @@ use Rattle.zone_kw.specs.ByZone.{by_zone}
 use Rattle.zone_kw.specs.Load.{shared_kw}
 use Rattle.chains.specs.Columns.{inward_of, factors_of, stage_in}
 use Rattle.boundaries.specs.declared.Shares.{Shares}
-
-abbrev pub no_shares : Shares
-no_shares =
-    record {
-      in_force = false;
-      next = replicate 32 0;
-      low = replicate 32 (kilowatts 0);
-      carbon = replicate 32 (kilowatts 0);
-      kw = replicate 32 (kilowatts 0);
-    }
+use Rattle.boundaries.specs.Boundaries.{no_shares}
 
 -- of n nodes, by each one's zone and TEC of each plant type
 module _ (e : Edition) (zones n : ℕ) (zone : List ℕ) (by_type : List Kw) (share : List ℕ) where

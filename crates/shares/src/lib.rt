@@ -2,7 +2,7 @@
 #![tactic(auto)]
 
 ghost use Rattle.std.specs.Prelude.{◌≡◌};
-ghost use Rattle.shares.specs.OfCase.{stage_of, shares_of, no_shares};
+ghost use Rattle.shares.specs.OfCase.{stage_of, shares_of};
 
 use boundaries::Shares;
 use meaning::{Edition, Judgement, Kw};
@@ -25,21 +25,7 @@ pub fn stage(
         let tec = by_zone(nodes, zone, by_node(by_type, Counted::All));
         return chains::stage(share, zones, tec);
     }
-    Judgement::Passes
-}
-
-// A file that is not in force says nothing.
-fn no_shares() -> Shares
-    ensures { result ≡ no_shares }
-{
-    let none = [Kw(0); 32];
-    Shares {
-        in_force: false,
-        next: [0usize; 32],
-        low: none,
-        carbon: none,
-        kw: none,
-    }
+    Ok(())
 }
 
 // What the file says: of each zone the next one inward, low carbon and carbon TEC, and the kilowatts that pay its shared tariff.
@@ -66,5 +52,5 @@ pub fn shares_of(
             kw: zone_kw::shared_kw(nodes, zone, by_type, factors),
         };
     }
-    no_shares()
+    Shares::none()
 }

@@ -7,17 +7,17 @@ use borrow.Author.Tests.{le-leb, lt-leb}
 use lib.ListN.{length}
 use Rattle.meaning.specs.declared.Refusal.{Refusal}
 use Rattle.meaning.specs.declared.Refusal.TheVariants.{ShortBuffer}
-use Rattle.meaning.specs.declared.Judgement.TheVariants.{Passes, Stops}
-use Rattle.meaning.specs.declared.Answer.TheVariants.{Accepted, Refused}
-use Rattle.meaning.specs.Answers.{◌or_else◌, unless}
+use Rattle.std.specs.Prelude.{Result, Ok, Err}
+use Rattle.meaning.specs.Answers.{Answer, ◌or_else◌, unless}
 use Rattle.meaning.specs.Study.{Runs}
 use Rattle.meaning.specs.File.{study_of}
 use Rattle.meaning.specs.Grid.{grid_of}
 use Rattle.meaning.specs.Outcome.{judged, sheet_of, Settled, refused, written, buffer_stage, answered_by, answer_of, settled_by, settle}
 use Rattle.meaning.specs.Conditions.{Acceptable}
+use Rattle.meaning.proofs.Answers.{let_through, held_back}
 use Rattle.meaning.proofs.Judged.{judged_pass}
-use Rattle.charges.specs.declared.Charged.{Charged}
-use Rattle.charges.specs.Charged.{figures_by, charged_of}
+use Rattle.meaning.specs.declared.Figures.{Figures}
+use Rattle.charges.specs.Charged.{charged_of}
 use Rattle.meaning.specs.Figures.{sharing, basis}
 use Rattle.tariffs.specs.Case.{figures_of}
 use Rattle.layout.specs.Readable.{section_in}
@@ -28,61 +28,62 @@ use Rattle.sheet.proofs.OfCase.{case_sheet, case_sized}
 
 -- ---- a text in a buffer: 12 where the buffer is shorter
 module _ (text before after : List ℕ) (n : ℕ) (w : Fitted text before after n) where
-  pub short_settled : length before < n → ◌≡◌ {A = Settled} (record { answer = Refused ShortBuffer; buffer = after }) (settled_by (buffer_stage text before) text before)
+  pub short_settled : length before < n → ◌≡◌ {A = Settled} (record { answer = Err ShortBuffer; buffer = after }) (settled_by (buffer_stage text before) text before)
   unfolding settled_by buffer_stage unless refused
   short_settled h =
       let l = lt-leb (length text) (length before) (omega (arith, w.answer)) in
       rw (w.buffer, l) refl
 
-  pub text_settled : n ≤ length before → ◌≡◌ {A = Settled} (record { answer = Accepted n; buffer = after }) (settled_by (buffer_stage text before) text before)
+  pub text_settled : n ≤ length before → ◌≡◌ {A = Settled} (record { answer = Ok n; buffer = after }) (settled_by (buffer_stage text before) text before)
   unfolding settled_by buffer_stage unless written
   text_settled h =
       let l = le-leb (length text) (length before) (omega (arith, w.answer)) in
       rw (w.answer, w.buffer, l) refl
 
 -- ---- a case that was charged
-module _ (file : List ℕ) (runs : Runs) (share : List ℕ) (r : Charged) (made : r ≡ charged_of file runs share) where
-  judged_is : r.judgement ≡ judged file runs share
-  unfolding charged_of
-  judged_is = ap (λ (x : Charged). x.judgement) made
-
+module _ (file : List ℕ) (runs : Runs) (share : List ℕ) {x : Result Figures Refusal} (made : x ≡ charged_of file runs share) where
   -- stopped: the refusal, and the buffer as it was
-  module _ {cause : Refusal} (stops : r.judgement ≡ Stops cause) where
-    pub refusal_settled : (buffer : List ℕ) → ◌≡◌ {A = Settled} (record { answer = Refused cause; buffer = buffer }) (settle file runs share buffer)
-    unfolding settle settled_by ◌or_else◌ refused
-    refusal_settled buffer = rw (sym judged_is ∙ stops) refl
+  module _ {cause : Refusal} (stops : x ≡ Err cause) where
+    stopped : judged file runs share ≡ Err cause
+    unfolding charged_of
+    stopped = held_back _ _ made stops
 
-    pub refusal_answered : Refused cause ≡ answer_of file runs share
+    pub refusal_settled : (buffer : List ℕ) → ◌≡◌ {A = Settled} (record { answer = Err cause; buffer = buffer }) (settle file runs share buffer)
+    unfolding settle settled_by ◌or_else◌ refused
+    refusal_settled buffer = rw stopped refl
+
+    pub refusal_answered : ◌≡◌ {A = Answer} (Err cause) (answer_of file runs share)
     unfolding answer_of answered_by
-    refusal_answered = rw (sym judged_is ∙ stops) refl
+    refusal_answered = rw stopped refl
 
   -- not stopped: the text of the figures is the sheet
-  module _ (passes : r.judgement ≡ Passes) where
-    judged_passes : judged file runs share ≡ Passes
-    judged_passes = sym judged_is ∙ passes
+  module _ {f : Figures} (passes : x ≡ Ok f) where
+    judged_passes : judged file runs share ≡ Ok tt
+    unfolding charged_of
+    judged_passes = (let_through _ _ made passes).0
 
-    figures_are : r.figures ≡ figures_of (basis (grid_of (study_of file)) runs) (sharing (grid_of (study_of file)) share)
-    unfolding charged_of figures_by
-    figures_are = ap (λ (x : Charged). x.figures) made ∙ rw judged_passes refl
+    figures_are : f ≡ figures_of (basis (grid_of (study_of file)) runs) (sharing (grid_of (study_of file)) share)
+    unfolding charged_of
+    figures_are = (let_through _ _ made passes).1
 
     acceptable : Acceptable file runs share
     acceptable = (judged_pass file runs share).0 judged_passes
 
     abbrev text : List ℕ
-    text = text_of r.figures file (section_in file 1)
+    text = text_of f file (section_in file 1)
 
-    figures_sized : Sized r.figures file (section_in file 1)
+    figures_sized : Sized f file (section_in file 1)
     figures_sized = rw figures_are (case_sized file runs share acceptable.whole acceptable.study.tables.settings)
 
     figures_text : text ≡ sheet_of file runs share
     figures_text =
-        text_sized r.figures file (section_in file 1) ((says_sized r.figures file (section_in file 1)).1 figures_sized)
+        text_sized f file (section_in file 1) ((says_sized f file (section_in file 1)).1 figures_sized)
         ∙ rw figures_are (case_sheet file runs share acceptable.whole acceptable.study.tables.settings)
 
     pub sheet_settled : (before : List ℕ) (s : Settled) → s ≡ settled_by (buffer_stage text before) text before → s ≡ settle file runs share before
     unfolding settle ◌or_else◌
     sheet_settled before s e = e ∙ rw (figures_text, judged_passes) refl
 
-    pub sheet_answered : {n : ℕ} → n ≡ length text → Accepted n ≡ answer_of file runs share
+    pub sheet_answered : {n : ℕ} → n ≡ length text → ◌≡◌ {A = Answer} (Ok n) (answer_of file runs share)
     unfolding answer_of answered_by
-    sheet_answered e = ap Accepted (e ∙ ap length figures_text) ∙ rw judged_passes refl
+    sheet_answered e = ap Ok (e ∙ ap length figures_text) ∙ rw judged_passes refl

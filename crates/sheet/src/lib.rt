@@ -2,13 +2,13 @@
 #![tactic(auto)]
 
 ghost use Rattle.std.specs.Prelude.{◌≡◌, length};
-ghost use Rattle.meaning.specs.Study.{runs_of};
+ghost use Rattle.meaning.specs.Study.{lent};
 ghost use Rattle.meaning.specs.Outcome.{Settled, buffer_stage, settled_by, answer_of};
 ghost use Rattle.meaning.specs.Calls.{Kept};
 ghost use Rattle.layout.specs.Readable.{section_in};
 ghost use Rattle.text.specs.SheetText.{text_of};
 
-use meaning::{Answer, Figures, Judgement, Refusal};
+use meaning::{Answer, Figures, Refusal, Solutions};
 
 // Writes the text of figures where the buffer holds it, and refuses a shorter buffer as 12.
 fn written(figures: Figures, file: &[u8], out: &mut [u8]) -> Answer
@@ -17,30 +17,20 @@ fn written(figures: Figures, file: &[u8], out: &mut [u8]) -> Answer
     let nodes = layout::section(file, layout::NODES);
     let length = text::write_figures(figures, file, nodes, out);
     if out.len() < length {
-        return Answer::Refused(Refusal::ShortBuffer);
+        return Err(Refusal::ShortBuffer);
     }
-    Answer::Accepted(length)
+    Ok(length)
 }
 
 // Judges a case and writes its sheet: the answer, and the buffer afterwards, of any bytes, runs, share file (no bytes for none) and buffer. Nothing is written before all is judged
 // and the sheet's length known.
-pub fn write(
-    file: &[u8],
-    base: &[i64],
-    wider: &[i64],
-    local: &[i64],
-    peak_base: &[i64],
-    peak_wider: &[i64],
-    share: &[u8],
-    out: &mut [u8],
-) -> Answer
-    ensures { Kept (record { file = file.now; runs = runs_of base.now wider.now local.now peak_base.now peak_wider.now; share = share.now; before = out.old; answer = result; after = out.new }) }
+pub fn write(file: &[u8], runs: &Solutions, share: &[u8], out: &mut [u8]) -> Answer
+    ensures { Kept (record { file = file.now; runs = lent runs.now; share = share.now; before = out.old; answer = result; after = out.new }) }
 {
-    let charged = charges::charge(file, base, wider, local, peak_base, peak_wider, share);
-    let judgement = charged.judgement;
-    match judgement {
-        Judgement::Stops(cause) => Answer::Refused(cause),
-        Judgement::Passes => written(charged.figures, file, out),
+    // Matched where they stand: `?` copies what it lets through, and figures are large.
+    match charges::charge(file, runs, share) {
+        Err(cause) => Err(cause),
+        Ok(figures) => written(figures, file, out),
     }
 }
 
@@ -54,21 +44,11 @@ fn text_length(figures: Figures, file: &[u8]) -> usize
 }
 
 // Judges a case for a caller without a buffer: what `write` answers with room enough, the sheet's length included.
-pub fn judge(
-    file: &[u8],
-    base: &[i64],
-    wider: &[i64],
-    local: &[i64],
-    peak_base: &[i64],
-    peak_wider: &[i64],
-    share: &[u8],
-) -> Answer
-    ensures { result ≡ answer_of file.now (runs_of base.now wider.now local.now peak_base.now peak_wider.now) share.now }
+pub fn judge(file: &[u8], runs: &Solutions, share: &[u8]) -> Answer
+    ensures { result ≡ answer_of file.now (lent runs.now) share.now }
 {
-    let charged = charges::charge(file, base, wider, local, peak_base, peak_wider, share);
-    let judgement = charged.judgement;
-    match judgement {
-        Judgement::Stops(cause) => Answer::Refused(cause),
-        Judgement::Passes => Answer::Accepted(text_length(charged.figures, file)),
+    match charges::charge(file, runs, share) {
+        Err(cause) => Err(cause),
+        Ok(figures) => Ok(text_length(figures, file)),
     }
 }

@@ -2,11 +2,11 @@
 use mathlib.Core.Path.{◌≡◌, refl}
 use mathlib.Core.List.{List}
 use mathlib.Core.Bool.{not, ◌||◌}
-use Prim.Native.Nat.{ℕ, ◌+◌, ◌-◌, ◌^◌, ◌≤◌, ◌<◌}
+use Prim.Native.Nat.{ℕ, ◌+◌, ◌≤◌, ◌<◌}
 use native.Mathlib.Omega.{arith}
 use lib.ListN.{get_or}
 use Rattle.meaning.specs.declared.Refusal.TheVariants.{BadStation}
-use Rattle.meaning.specs.declared.Judgement.TheVariants.{Passes, Stops}
+use Rattle.std.specs.Prelude.{Ok, Err}
 use Rattle.meaning.specs.declared.Section.{Section}
 use Rattle.meaning.specs.Study.{station, no_station}
 use Rattle.meaning.specs.File.{row_at, station_at}
@@ -38,9 +38,9 @@ module _ (file : List ℕ) {n : ℕ} {t : Section} {k : List ℕ} (told : ToldSt
   node_is i h = rw told.column (rows_at 0 512 _ i (omega (arith, few)))
 
   -- the column is the node of the row at its place
-  pub node_at : (i : ℕ) → i < t.count → row_at t i ≤ 2 ^ 64 - 2 ^ 32 → ToldNode file (row_at t i) n (get_or k i 0)
+  pub node_at : (i : ℕ) → i < t.count → ToldNode file (row_at t i) n (get_or k i 0)
   unfolding station_at
-  node_at i h near = record { near = near; nodes = told.nodes; node = rw (from.at i h) at (node_is i h) }
+  node_at i h = record { nodes = told.nodes; node = rw (from.at i h) at (node_is i h) }
 
   -- a row's test, read at its place
   station_test : (i : ℕ) → i < t.count → (unsound_station file t i || seen_earlier (name_row file t) i) ≡ not (sound_station (readable file) i)
@@ -50,14 +50,14 @@ module _ (file : List ℕ) {n : ℕ} {t : Section} {k : List ℕ} (told : ToldSt
       (not-and (sound_station_row (readable file).nodes (station_at file (row_at t i))) (seen_earlier (name_row file t) i))
 
   module _ {r s : ℕ} (f : IsFirst (unsound_station file t) t.count r) (g : IsFirst (seen_earlier (name_row file t)) t.count s) where
-    pub station_unsound : r < s → Stops (BadStation (r + 1)) ≡ stations_stage (readable file)
+    pub station_unsound : r < s → Err (BadStation (r + 1)) ≡ stations_stage (readable file)
     unfolding stations_stage
     station_unsound h = rw from.count (at_first BadStation (first_as station_test (lower_first f g (omega arith))) (omega (arith, g.within)))
 
-    pub station_repeated : s ≤ r → s < t.count → Stops (BadStation (s + 1)) ≡ stations_stage (readable file)
+    pub station_repeated : s ≤ r → s < t.count → Err (BadStation (s + 1)) ≡ stations_stage (readable file)
     unfolding stations_stage
     station_repeated h l = rw from.count (at_first BadStation (first_as station_test (lower_second f g h)) l)
 
-    pub stations_sound : s ≤ r → t.count ≤ s → Passes ≡ stations_stage (readable file)
+    pub stations_sound : s ≤ r → t.count ≤ s → Ok tt ≡ stations_stage (readable file)
     unfolding stations_stage
     stations_sound h l = rw from.count (at_none BadStation (first_as station_test (lower_second f g h)) l)

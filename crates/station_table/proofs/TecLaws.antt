@@ -16,7 +16,6 @@ use Rattle.meaning.specs.File.{u32, station_at}
 use Rattle.meaning.specs.Grid.{plant_of, place, tec_at, capacity_of, grid_of, over_types}
 use Rattle.meaning.specs.declared.Kw.{Kw}
 use Rattle.meaning.specs.declared.Plant.{Plant}
-use Rattle.meaning.specs.declared.Plant.TheVariants.{Intermittent, NuclearAndCcs, Interconnector, Hydro, PumpedStorage, Peaking, Other}
 use Rattle.meaning.proofs.Rows.{rows_at, rows_past, rows_same, rows_set, rows_none}
 use Rattle.meaning.proofs.Plants.{capacity_at, capacity_at_lem, capacity_past}
 use Rattle.meaning.proofs.Says.{Says, says_as, ◌also◌, says_eq, says_lt, says_between, agree}
@@ -117,9 +116,6 @@ module _ (nodes : ℕ) (node plant : List ℕ) (tec : List Kw) where
             let z : kw_at sums cell ≡ 0 = rw e (ap (λ w. w.0) (rows_past (kilowatts 0) 1792 (λ c. kilowatts (cell_tec nodes node plant tec k c)) cell (omega arith))) in
             omega arith
 
-    pub cells_done : (count : ℕ) → k ≤ count → count ≤ k → sums ≡ cells count
-    cells_done count h l = let q : k ≡ count = omega arith in rw q at e
-
 -- ---- through the types of each node
 -- a cell that a file can have, and one that none has
 pub possible_is : (kw : ℕ) → kw ≤ 2199023255040 → possible_kw kw ≡ kw
@@ -141,28 +137,20 @@ possible_low kw = go (dec_le kw 2199023255040)
 pub cell_low : (counted : Counted) (plant : Plant) (kw : ℕ) → part_of counted plant (possible_kw kw) ≤ 2199023255040
 cell_low counted plant kw = omega (arith, part_low counted plant (possible_kw kw), possible_low kw)
 
--- what counts of seven types, in their order
-pub seven : (counted : Counted) (types : List Kw) (a b c d e f g : ℕ)
-    → a ≡ part_of counted Intermittent (possible_kw (kw_at types 0)) → b ≡ part_of counted NuclearAndCcs (possible_kw (kw_at types 1))
-    → c ≡ part_of counted Interconnector (possible_kw (kw_at types 2)) → d ≡ part_of counted Hydro (possible_kw (kw_at types 3))
-    → e ≡ part_of counted PumpedStorage (possible_kw (kw_at types 4)) → f ≡ part_of counted Peaking (possible_kw (kw_at types 5))
-    → g ≡ part_of counted Other (possible_kw (kw_at types 6))
-    → a + b + c + d + e + f + g ≡ sum 7 (λ t. part_of counted (plant_of (suc t)) (possible_kw (kw_at types t)))
-unfolding sum plant_of
-seven counted types a b c d e f g ea eb ec ed ee ef eg = omega (arith, ea, eb, ec, ed, ee, ef, eg)
+-- type by type
+module _ (counted : Counted) (by : List Kw) (v : ℕ) where
+  pub types_none : 0 ≡ types_tec counted by 0 v
+  unfolding types_tec
+  types_none = sym (sum-zero _)
 
--- a node's cells are its types
-pub node_types : (counted : Counted) (by types : List Kw) (v : ℕ) → ((t : ℕ) → t < 7 → kw_at types t ≡ kw_at by (7 * v + t))
-    → sum 7 (λ t. part_of counted (plant_of (suc t)) (possible_kw (kw_at types t))) ≡ types_tec counted by 7 v
-unfolding types_tec
-node_types counted by types v h = sum_same 7 _ _ (λ t l. ap (λ kw. part_of counted (plant_of (suc t)) (possible_kw kw)) (h t l))
+  pub types_more : (t : ℕ) {sums more : ℕ} {plant : Plant} → sums ≡ types_tec counted by t v → plant ≡ plant_of (suc t)
+      → more ≡ part_of counted plant (possible_kw (kw_at by (7 * v + t))) → sums + more ≡ types_tec counted by (t + 1) v
+  unfolding types_tec
+  types_more t e p m = rw (e, m, p) (sym (sum_more t _))
 
-pub nodes_done : {sums : List Kw} (counted : Counted) (by : List Kw) (v : ℕ) → sums ≡ column (kilowatts 0) 256 v (λ v. kilowatts (types_tec counted by 7 v)) → v ≤ 256 → 256 ≤ v
-    → sums ≡ by_node by counted
-unfolding by_node column
-nodes_done counted by v e h l =
-    let q : v ≡ 256 = omega arith in
-    (rw q at e) ∙ rows_same 256 _ _ (λ v l. simp (lt-ltb v 256 l))
+  pub types_low : (t : ℕ) → types_tec counted by t v ≤ t * 2199023255040
+  unfolding types_tec
+  types_low t = sum_bound 2199023255040 t _ (λ i l. cell_low counted (plant_of (suc i)) (kw_at by (7 * v + i)))
 
 -- ---- of a study
 module _ (S : Study) where

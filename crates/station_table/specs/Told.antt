@@ -1,5 +1,5 @@
 -- What the judge of the stations' table is told of the file.
-use Rattle.std.specs.Prelude.{◌≡◌, Bool, not, List, ℕ, ◌+◌, ◌-◌, ◌^◌, ◌≤◌, length}
+use Rattle.std.specs.Prelude.{◌≡◌, Bool, not, List, ℕ, ◌+◌, length}
 use Rattle.meaning.specs.declared.Section.{Section}
 use Rattle.meaning.specs.File.{name_at, row_at, station_at}
 use Rattle.meaning.specs.Tables.{sound_station_row}
@@ -9,7 +9,6 @@ use Rattle.station_table.specs.Columns.{stations_of}
 
 -- the node of a station's row at a place, as its name has it
 pub record ToldNode (file : List ℕ) (at n v : ℕ) : Type 0 where
-  pub near : at ≤ 2 ^ 64 - 2 ^ 32
   pub nodes : n ≡ length (readable file).nodes
   pub node : v ≡ place (readable file).nodes (name_at file (at + 12))
 

@@ -4,13 +4,14 @@
 mod row;
 mod tec;
 
-ghost use Rattle.std.specs.Prelude.{◌≡◌};
+ghost use Rattle.std.specs.Prelude.{◌≡◌, IfOk};
+ghost use Rattle.meaning.specs.Answers.{yields};
 ghost use Rattle.meaning.specs.Tables.{stations_stage};
 ghost use Rattle.layout.specs.Readable.{readable};
 ghost use Rattle.station_table.specs.Columns.{stations_of};
 ghost use Rattle.station_table.specs.Tec.{types_of, Possible, by_node};
 
-use meaning::{Judgement, Kw};
+use meaning::{Kw, Refusal};
 use plants::Counted;
 
 // The number of each station's node, its plant type and TEC.
@@ -21,13 +22,6 @@ pub struct StationColumns {
     pub tec: [Kw; 512],
 }
 
-// The table judged, and its TEC added up by node and plant type, type t of node v at 7 v + t - 1: names are resolved once for all.
-#[derive(Clone, Copy)]
-pub struct JudgedStations {
-    pub judgement: Judgement,
-    pub by_type: [Kw; 1792],
-}
-
 // The columns of the stations.
 fn columns(file: &[u8]) -> StationColumns
     ensures { result ≡ stations_of (readable file.now) }
@@ -36,21 +30,23 @@ fn columns(file: &[u8]) -> StationColumns
     let rows = layout::section(file, layout::STATIONS);
     let node = names::places(file, nodes, rows, 12);
     let plant = fields::column(file, rows, 24);
-    let tec = tec::by_station(file, rows, 28);
+    let tec = fields::column(file, rows, 28);
     StationColumns { node, plant, tec }
 }
 
-// 5: the lowest station that is not sound; and the TEC of each node by plant type.
-pub fn judge(file: &[u8]) -> JudgedStations
-    ensures { (result.judgement ≡ stations_stage (readable file.now)) × (result.by_type ≡ types_of (readable file.now)) × Possible result.by_type }
+// 5: the lowest station that is not sound; else the TEC of each node by plant type, type t of node v at 7 v + t - 1. Names are resolved once for both.
+pub fn judge(file: &[u8]) -> Result<[Kw; 1792], Refusal>
+    ensures judged { result ≡ yields (stations_stage (readable file.now)) (types_of (readable file.now)) }
+    ensures possible { IfOk result Possible }
 {
     let nodes = layout::section(file, layout::NODES).count as usize;
     let rows = layout::section(file, layout::STATIONS);
     let columns = columns(file);
-    let node = columns.node;
-    let judgement = row::stage(file, nodes, rows, node);
-    let by_type = tec::by_type(columns, nodes, rows.count as usize);
-    JudgedStations { judgement, by_type }
+    // No `?` where columns are answered: it keeps room for them on the stack.
+    match row::stage(file, nodes, rows, &columns.node) {
+        Err(cause) => Err(cause),
+        Ok(()) => Ok(tec::by_type(&columns, nodes, rows.count as usize)),
+    }
 }
 
 // What counts of the TEC of each node, its types added up. A cell above what 512 stations can have, which no file has, counts as none.
@@ -58,20 +54,8 @@ pub fn by_node(by_type: [Kw; 1792], counted: Counted) -> [Kw; 256]
     ensures { result ≡ by_node by_type counted }
 {
     let mut sums = [Kw(0); 256];
-    let mut v = 0;
-    while v < 256 {
-        let at = 7 * v;
-        let types = [
-            by_type[at],
-            by_type[at + 1],
-            by_type[at + 2],
-            by_type[at + 3],
-            by_type[at + 4],
-            by_type[at + 5],
-            by_type[at + 6],
-        ];
-        sums[v] = tec::of_types(counted, types);
-        v += 1;
+    for v in 0..256 {
+        sums[v] = tec::of_node(counted, &by_type, v);
     }
     sums
 }

@@ -25,7 +25,7 @@ pub fn distance(side: Side, potential: i64) -> Metres
     let rounded = metres(potential);
     match side {
         Side::Generation => rounded,
-        Side::Demand => Metres(0 - rounded.0),
+        Side::Demand => Metres(-rounded.0),
     }
 }
 
@@ -87,13 +87,12 @@ pub fn no_local() -> LocalFigures
 fn no_side() -> SideFigures
     ensures { result ≡ no_side }
 {
-    let line = no_line();
     SideFigures {
         form: Form::OneBackground,
         zones: 0,
         residual: MicroPerKw(0),
         remainder: 0,
-        zone: [line; 32],
+        zone: [no_line(); 32],
     }
 }
 
@@ -102,7 +101,6 @@ pub fn no_figures() -> Figures
     ensures { result ≡ no_figures }
 {
     let side = no_side();
-    let node = no_local();
     let none = Metres(0);
     Figures {
         edition: Edition::First,
@@ -111,6 +109,6 @@ pub fn no_figures() -> Figures
         generation: side,
         demand: side,
         nodes: 0,
-        local: [node; 256],
+        local: [no_local(); 256],
     }
 }

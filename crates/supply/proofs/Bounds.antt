@@ -4,10 +4,8 @@ use mathlib.Core.Bool.{true, false}
 use mathlib.Core.List.{List}
 use Prim.Native.Nat.{ℕ, ◌+◌, ◌-◌, ◌≤◌, ◌<◌}
 use native.Mathlib.Omega.{arith}
-use lib.Dec.{leb}
 use lib.IntN.{ℤ, pos, ◌-ℤ◌}
 use lib.ListN.{get_or, replicate}
-use borrow.Author.Tests.{lt-leb, le-leb}
 use mir.Syntax.{w64}
 use mir.Val.{SFits}
 use Rattle.integers.proofs.Core.{Z}
@@ -41,24 +39,6 @@ module _ (fixed variable demand : ℕ) where
   says_runs =
       says_as (says_le also says_le also says_le also says_le)
       (λ t. record { demand_most = t.0.0.0; variable_most_lem = t.0.0.1; below = t.0.1; enough = t.1 }, λ r. (((r.demand_most, r.variable_most_lem), r.below), r.enough))
-
-  pub demand_high : 100000000 < demand → false ≡ runnable fixed variable demand
-  unfolding runnable
-  demand_high h = rw (lt-leb demand 100000000 h) refl
-
-  module _ (d : demand ≤ 100000000) where
-    pub variable_high : 100000000 < variable → false ≡ runnable fixed variable demand
-    unfolding runnable
-    variable_high h = rw (le-leb demand 100000000 d, lt-leb variable 100000000 h) refl
-
-    module _ (v : variable ≤ 100000000) where
-      pub fixed_high : demand < fixed → false ≡ runnable fixed variable demand
-      unfolding runnable
-      fixed_high h = rw (le-leb demand 100000000 d, le-leb variable 100000000 v, lt-leb fixed demand h) refl
-
-      pub rest_decides : fixed ≤ demand → leb demand (fixed + variable) ≡ runnable fixed variable demand
-      unfolding runnable
-      rest_decides h = rw (le-leb demand 100000000 d, le-leb variable 100000000 v, le-leb fixed demand h) refl
 
 -- ---- the supply of each node, by the totals that were tested
 module _ (n : ℕ) (fixed variable demand : List Kw) where

@@ -13,16 +13,10 @@ use meaning::{Background, Kw, System};
 fn runnable(fixed: Kw, variable: Kw, demand: Kw) -> bool
     ensures { result ≡ runnable_by fixed.0 variable.0 demand.0 }
 {
-    if demand.0 > 100000000 {
-        return false;
-    }
-    if variable.0 > 100000000 {
-        return false;
-    }
-    if fixed.0 > demand.0 {
-        return false;
-    }
-    demand.0 <= fixed.0 + variable.0
+    demand.0 <= 100000000
+        && variable.0 <= 100000000
+        && fixed.0 <= demand.0
+        && demand.0 <= fixed.0 + variable.0
 }
 
 // The supply of each of n nodes in a background, by what is fixed, its variable TEC and its demand; nothing where 7 or 14 refuses their totals.
@@ -34,14 +28,10 @@ pub fn base_supply(n: usize, fixed: [Kw; 256], variable: [Kw; 256], demand: [Kw;
     let wanted = totals::total(n, demand);
     if runnable(least, most, wanted) {
         let remaining = Kw(wanted.0 - least.0);
-        return nodes::supplies(
-            n,
-            fixed,
-            scaled::shared(n, variable, remaining, most),
-            demand,
-        );
+        let shared = scaled::shared(n, &variable, remaining, most);
+        return nodes::supplies(n, &fixed, &shared, &demand);
     }
-    [0i64; 256]
+    [0; 256]
 }
 
 // The supply of each node in a system, by that in the two bases: nothing in the others.
@@ -49,11 +39,8 @@ pub fn in_system(system: System, year_round: [i64; 256], peak: [i64; 256]) -> [i
     ensures { result ≡ supply_in system year_round peak }
 {
     match system {
-        System::Base(background) => match background {
-            Background::YearRound => year_round,
-            Background::Peak => peak,
-        },
-        System::Wider(_) => [0i64; 256],
-        System::Local => [0i64; 256],
+        System::Base(Background::YearRound) => year_round,
+        System::Base(Background::Peak) => peak,
+        System::Wider(_) | System::Local => [0; 256],
     }
 }

@@ -14,15 +14,13 @@ pub fn net_supply(fixed: Kw, scaled: Kw, demand: Kw) -> i64
 }
 
 // The supply of each node, by what is fixed, what it runs of its variable TEC, and its demand.
-pub fn supplies(n: usize, fixed: [Kw; 256], scaled: [Kw; 256], demand: [Kw; 256]) -> [i64; 256]
-    requires { (n ≤ 256) × Small n fixed × Small n scaled × Small n demand }
-    ensures { result ≡ column (pos 0) 256 n (λ v. net_supply (kw_at fixed v + kw_at scaled v) (kw_at demand v)) }
+pub fn supplies(n: usize, fixed: &[Kw; 256], scaled: &[Kw; 256], demand: &[Kw; 256]) -> [i64; 256]
+    requires { (n ≤ 256) × Small n fixed.now × Small n scaled.now × Small n demand.now }
+    ensures { result ≡ column (pos 0) 256 n (λ v. net_supply (kw_at fixed.now v + kw_at scaled.now v) (kw_at demand.now v)) }
 {
-    let mut supply = [0i64; 256];
-    let mut v: usize = 0;
-    while v < n {
+    let mut supply = [0; 256];
+    for v in 0..n {
         supply[v] = net_supply(fixed[v], scaled[v], demand[v]);
-        v += 1;
     }
     supply
 }

@@ -19,10 +19,7 @@ pub fn over(tec: Kw, demand: Kw, total: Kw) -> u64
     requires { (tec.0 ≤ 100000000) × (demand.0 ≤ 100000000) × (1 ≤ total.0) }
     ensures { result ≡ cond (eqb (tec.0 * demand.0 % total.0) 0) 0 1 }
 {
-    if tec.0 * demand.0 % total.0 == 0 {
-        return 0;
-    }
-    1
+    u64::from(tec.0 * demand.0 % total.0 != 0)
 }
 
 // One kilowatt more where something is left over, while fewer nodes before had something over than are missing.
@@ -37,42 +34,38 @@ pub fn with_over(share: Kw, over: u64, before: u64, missing: Kw) -> Kw
 }
 
 // The kilowatts still missing: total demand less the shares.
-pub fn missing_kw(n: usize, tec: [Kw; 256], demand: Kw, total: Kw) -> Kw
-    requires { Scalable n tec demand total }
-    ensures { result.0 ≡ missing n (kw_at tec) demand.0 }
+pub fn missing_kw(n: usize, tec: &[Kw; 256], demand: Kw, total: Kw) -> Kw
+    requires { Scalable n tec.now demand total }
+    ensures { result.0 ≡ missing n (kw_at tec.now) demand.0 }
 {
     let mut missing = demand.0;
-    let mut v: usize = 0;
-    while v < n {
+    for v in 0..n {
         missing -= share(tec[v], demand, total).0;
-        v += 1;
     }
     Kw(missing)
 }
 
 // Scaled generation of each node: its share, and the missing kilowatts one each to the first nodes with something over.
-pub fn scaled(n: usize, tec: [Kw; 256], demand: Kw, total: Kw) -> [Kw; 256]
-    requires { Scalable n tec demand total }
-    ensures { result ≡ column (kilowatts 0) 256 n (λ v. kilowatts (scaled_by n tec demand v)) }
+pub fn scaled(n: usize, tec: &[Kw; 256], demand: Kw, total: Kw) -> [Kw; 256]
+    requires { Scalable n tec.now demand total }
+    ensures { result ≡ column (kilowatts 0) 256 n (λ v. kilowatts (scaled_by n tec.now demand v)) }
 {
     let missing = missing_kw(n, tec, demand, total);
     let mut scaled = [Kw(0); 256];
-    let mut before: u64 = 0;
-    let mut v: usize = 0;
-    while v < n {
+    let mut before = 0;
+    for v in 0..n {
         let kw = tec[v];
         let more = over(kw, demand, total);
         scaled[v] = with_over(share(kw, demand, total), more, before, missing);
         before += more;
-        v += 1;
     }
     scaled
 }
 
 // The same, also of no demand: where none remains a node runs nothing, and nothing is divided.
-pub fn shared(n: usize, tec: [Kw; 256], demand: Kw, total: Kw) -> [Kw; 256]
-    requires { Sharable n tec demand total }
-    ensures { result ≡ column (kilowatts 0) 256 n (λ v. kilowatts (scaled_by n tec demand v)) }
+pub fn shared(n: usize, tec: &[Kw; 256], demand: Kw, total: Kw) -> [Kw; 256]
+    requires { Sharable n tec.now demand total }
+    ensures { result ≡ column (kilowatts 0) 256 n (λ v. kilowatts (scaled_by n tec.now demand v)) }
 {
     if demand.0 == 0 {
         return [Kw(0); 256];

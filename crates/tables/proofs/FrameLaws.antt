@@ -1,18 +1,22 @@
 -- 1 and 2: a file that is not whole, runs of another length, and the settings of a whole file.
-use mathlib.Core.Path.{◌≡◌, refl, ◌∙◌}
+use mathlib.Core.Path.{◌≡◌, refl, ◌∙◌, ap, ap₂}
 use mathlib.Core.Bool.{Bool, true, false, cond, ◌&&◌}
 use mathlib.Core.List.{List}
 use Prim.Native.Nat.{ℕ, ◌+◌, ◌≤◌}
 use native.Mathlib.Omega.{arith}
 use lib.Dec.{eqb, leb}
+use lib.ListN.{length}
+use Rattle.meaning.specs.declared.Solutions.{Solutions}
+use Rattle.meaning.specs.Study.{lent}
+use Rattle.meaning.proofs.Systems.{by_system_lem}
 use Rattle.meaning.specs.declared.Edition.{Edition}
 use Rattle.meaning.specs.declared.Edition.TheVariants.{First, Second}
 use Rattle.meaning.specs.declared.Background.TheVariants.{YearRound, Peak}
 use Rattle.meaning.specs.declared.System.{System}
 use Rattle.meaning.specs.declared.System.TheVariants.{Base, Wider, Local}
 use Rattle.meaning.specs.declared.Refusal.TheVariants.{BadFile, BadSetting}
-use Rattle.meaning.specs.declared.Judgement.{Judgement}
-use Rattle.meaning.specs.declared.Judgement.TheVariants.{Stops}
+use Rattle.meaning.specs.Answers.{Judgement}
+use Rattle.std.specs.Prelude.{Err}
 use Rattle.meaning.specs.declared.Settings.{Settings}
 use Rattle.meaning.specs.Rows.{every}
 use Rattle.meaning.specs.Editions.{by_edition, by_system, system_number, all_systems, HasSystem}
@@ -29,11 +33,11 @@ use Rattle.layout.proofs.Rows.{readable_whole, counts_are, few}
 use Rattle.tables.specs.Order.{frame_stage}
 
 module _ (file : List ℕ) (long : System → ℕ) where
-  pub file_stops : file_whole file ≡ false → Stops BadFile ≡ frame_stage file long
+  pub file_stops : file_whole file ≡ false → Err BadFile ≡ frame_stage file long
   unfolding frame_stage file_stage unless ◌or_else◌
   file_stops e = rw e refl
 
-  pub runs_stop : file_whole file ≡ true → runs_whole file long ≡ false → Stops BadFile ≡ frame_stage file long
+  pub runs_stop : file_whole file ≡ true → runs_whole file long ≡ false → Err BadFile ≡ frame_stage file long
   unfolding frame_stage file_stage runs_stage unless ◌or_else◌
   runs_stop e f = rw (e, f) refl
 
@@ -79,6 +83,17 @@ module _ (file : List ℕ) {r : RowCounts} (t : r ≡ counts_of (readable file))
       go Second =
           five (eqb base (solution_count file)) (eqb wider (solution_count file)) (eqb local (solution_count file)) (eqb peak_base (solution_count file))
           (eqb peak_wider (solution_count file))
+
+  -- the same of the solutions that are lent, as code asks it
+  pub runs_asked : file_whole file ≡ true → {s : Settings} → s ≡ (readable file).settings → (l : Solutions) {peak : ℕ} {y p : Bool}
+      → let k = r.nodes + r.circuits in
+      y ≡ (eqb (length l.base.now) k && eqb (length l.wider.now) k && eqb (length l.local.now) k)
+      → peak ≡ by_edition 0 k s.edition → p ≡ (eqb (length l.peak_base.now) peak && eqb (length l.peak_wider.now) peak)
+      → (y && p) ≡ runs_whole file (λ s. length (lent l s))
+  runs_asked whole q l ey ek ep =
+      ap₂ ◌&&◌ ey (rw ek at ep)
+      ∙ runs_are whole q (length l.base.now) (length l.wider.now) (length l.local.now) (length l.peak_base.now) (length l.peak_wider.now)
+      ∙ ap (runs_whole file) (by_system_lem length l.base.now l.wider.now l.local.now l.peak_base.now l.peak_wider.now)
 
 -- the run of a system of the file's edition
 pub run_length_lem : (file : List ℕ) (s : System) → HasSystem (edition_at file) s → run_length file s ≡ solution_count file

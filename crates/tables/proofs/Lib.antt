@@ -3,6 +3,7 @@ pub mod ReadLaws
 pub mod NetworkLaws
 pub mod NodeLaws
 pub mod ScalingLaws
-pub mod GridLaws
+pub mod Lent
+mod GridLaws
 pub mod FrameLaws
 pub mod Sound

@@ -6,7 +6,10 @@ use Prim.Native.Nat.{ℕ, ◌+◌, ◌≤◌}
 use native.Mathlib.Omega.{arith}
 use lib.ListN.{length}
 use Rattle.meaning.specs.declared.System.{System}
-use Rattle.meaning.specs.declared.Judgement.TheVariants.{Passes}
+use Rattle.std.specs.Prelude.{Result, Ok}
+use Rattle.meaning.specs.declared.Refusal.{Refusal}
+use Rattle.station_table.specs.Tec.{Possible}
+use Rattle.layout.specs.Readable.{readable}
 use Rattle.meaning.specs.declared.Edition.{Edition}
 use Rattle.meaning.specs.Editions.{HasSystem}
 use Rattle.meaning.specs.Study.{Study}
@@ -14,7 +17,7 @@ use Rattle.meaning.specs.File.{file_whole, run_length, runs_whole, study_of, run
 use Rattle.meaning.specs.Conditions.{InRange, SoundTables, SoundStudy}
 use Rattle.meaning.specs.Grid.{grid_of}
 use Rattle.meaning.specs.Outcome.{file_stage, runs_stage, rows_stage, grid_stage, tables_stage}
-use Rattle.meaning.proofs.Answers.{passes_or_else, passes-unless}
+use Rattle.meaning.proofs.Answers.{passes_or_else, passes-unless, let_through}
 use Rattle.meaning.proofs.Says.{says_eq}
 use Rattle.meaning.proofs.Systems.{says_systems}
 use Rattle.meaning.proofs.Frame as frame
@@ -23,15 +26,13 @@ use Rattle.layout.specs.Frame.{counts_of}
 use Rattle.meaning.proofs.Whole.{whole_file}
 use Rattle.layout.proofs.Rows.{readable_whole}
 use Rattle.tables.specs.declared.Opened.{Opened}
-use Rattle.tables.specs.Order.{frame_stage}
-use Rattle.tables.specs.Opens.{Columns, Opens}
-use Rattle.tables.proofs.OrderLaws.{rows_passed, chain_is}
+use Rattle.tables.specs.Opens.{opened_of, Opens}
 use Rattle.tables.proofs.FrameLaws.{run_length_lem}
-use Rattle.tables.proofs.ReadLaws.{StudyColumns, columns_shown}
+use Rattle.tables.proofs.ReadLaws.{StudyColumns, columns_opened}
 
 -- ---- of a file and the lengths of the runs
-module _ (file : List ℕ) (long : System → ℕ) (p : tables_stage file long ≡ Passes) where
-  parts : (file_stage file ≡ Passes) × (runs_stage file long ≡ Passes) × ((rows_stage (study_of file) ≡ Passes) × (grid_stage (grid_of (study_of file)) ≡ Passes))
+module _ (file : List ℕ) (long : System → ℕ) (p : tables_stage file long ≡ Ok tt) where
+  parts : (file_stage file ≡ Ok tt) × (runs_stage file long ≡ Ok tt) × ((rows_stage (study_of file) ≡ Ok tt) × (grid_stage (grid_of (study_of file)) ≡ Ok tt))
   unfolding tables_stage
   parts =
       let a = (passes_or_else _ _).0 p in
@@ -50,11 +51,9 @@ module _ (file : List ℕ) (long : System → ℕ) (p : tables_stage file long �
   passes_runs = (says_systems (λ s. says_eq)).0 ((passes-unless _ _).0 parts.1)
 
 -- ---- of a file that was opened: its columns are those of its study, which is sound
-pub study_columns : (file : List ℕ) (long : System → ℕ) {o : Opened} → Columns (frame_stage file long) file o → tables_stage file long ≡ Passes
+pub study_columns : (file : List ℕ) (long : System → ℕ) {o : Opened} → o ≡ opened_of (readable file) → Possible o.by_type → tables_stage file long ≡ Ok tt
     → StudyColumns (study_of file) o
-study_columns file long {o} t p =
-    let r = rows_passed (frame_stage file long) file ((passes_or_else _ _).0 (chain_is file long ∙ p)).0 in
-    subst (λ (S : Study). StudyColumns S o) (readable_whole file (passes_whole file long p)) (columns_shown t r)
+study_columns file long {o} e q p = subst (λ (S : Study). StudyColumns S o) (readable_whole file (passes_whole file long p)) (columns_opened e q)
 
 pub record SoundOpened (file : List ℕ) (long : System → ℕ) (o : Opened) : Type 0 where
   pub whole : file_whole file ≡ true
@@ -69,15 +68,16 @@ pub record SoundOpened (file : List ℕ) (long : System → ℕ) (o : Opened) : 
   pub stations_few : o.counts.stations ≤ 512
   pub lengths : (system : System) → HasSystem (study_of file).settings.edition system → long system ≡ o.counts.nodes + o.counts.circuits
 
-pub opened_sound : {file : List ℕ} {long : System → ℕ} {o : Opened} → Opens file long o → o.judgement ≡ Passes
+pub opened_sound : {file : List ℕ} {long : System → ℕ} {r : Result Opened Refusal} {o : Opened} → Opens file long r → r ≡ Ok o
     → SoundOpened file long o
 unfolding counts_of
-opened_sound {file} {long} {o} t q =
-    let p : tables_stage file long ≡ Passes = sym t.judgement ∙ q in
+opened_sound {file} {long} {r} {o} t q =
+    let (p, e) = let_through _ _ t.judged q in
+    let possible = rw q at t.possible in
     let h = passes_whole file long p in
     let w = whole_file file h in
     let l = frame.counts file (runs_in file) w in
-    let s = study_columns file long t.columns p in
+    let s = study_columns file long e possible p in
     let c = s.counts in
     let n : o.counts.nodes ≡ length (study_of file).nodes = rw c refl in
     let m : o.counts.circuits ≡ length (study_of file).circuits = rw c refl in

@@ -1,7 +1,10 @@
--- What a case file opened says: what stops it first, and the columns that were read on the way.
-use Rattle.std.specs.Prelude.{◌≡◌, List, ℕ}
+-- What a case file opened says: its columns, or what stops it first.
+use Rattle.std.specs.Prelude.{◌≡◌, List, [], replicate, ℕ, Result, IfOk}
 use Rattle.meaning.specs.declared.System.{System}
-use Rattle.meaning.specs.declared.Judgement.{Judgement}
+use Rattle.meaning.specs.declared.Refusal.{Refusal}
+use Rattle.meaning.specs.Answers.{yields}
+use Rattle.meaning.specs.Columns.{kilowatts}
+use Rattle.meaning.specs.Study.{Study}
 use Rattle.meaning.specs.Outcome.{tables_stage}
 use Rattle.layout.specs.Readable.{readable}
 use Rattle.layout.specs.Frame.{counts_of}
@@ -9,22 +12,29 @@ use Rattle.node_table.specs.Columns.{nodes_of}
 use Rattle.circuit_table.specs.Columns.{circuits_of}
 use Rattle.station_table.specs.Tec.{types_of, Possible}
 use Rattle.tables.specs.declared.Opened.{Opened}
-use Rattle.tables.specs.Order.{frame_stage, read_after, then_nodes, then_circuits}
+use Rattle.tables.specs.Order.{rows_after}
 
--- of a file whose frame was judged so: a table is read where nothing among the refusals before it stops the file, and is else without rows
-pub record Columns (frame : Judgement) (file : List ℕ) (o : Opened) : Type 0 where
-  pub counts : o.counts ≡ counts_of (readable file)
-  pub settings : o.settings ≡ (readable file).settings
-  pub nodes : o.nodes ≡ nodes_of (read_after (then_nodes frame file) file)
-  pub circuits : o.circuits ≡ circuits_of (read_after (then_nodes frame file) file)
-  pub by_type : o.by_type ≡ types_of (read_after (then_circuits frame file) file)
-  pub possible : Possible o.by_type
+-- the columns of a study
+unfoldable pub opened_of : Study → Opened
+opened_of S = record { counts = counts_of S; settings = S.settings; nodes = nodes_of S; circuits = circuits_of S; by_type = types_of S }
 
--- of a file, and the lengths of the runs: 1 to 7, 13 and 14
-pub record Opens (file : List ℕ) (long : System → ℕ) (o : Opened) : Type 0 where
-  pub judgement : o.judgement ≡ tables_stage file long
-  pub columns : Columns (frame_stage file long) file o
+-- what is read of a file: its columns where 3, 4 and 5 pass
+pub record Reads (file : List ℕ) (r : Result Opened Refusal) : Type 0 where
+  pub judged : r ≡ yields (rows_after (readable file)) (opened_of (readable file))
+  pub possible : IfOk r (λ o. Possible o.by_type)
 
--- the same columns with another judgement
-abbrev pub with_judgement : Opened → Judgement → Opened
-with_judgement o judgement = record { judgement = judgement; counts = o.counts; settings = o.settings; nodes = o.nodes; circuits = o.circuits; by_type = o.by_type }
+-- of a file, and the lengths of the runs: its columns where 1 to 7, 13 and 14 pass
+pub record Opens (file : List ℕ) (long : System → ℕ) (r : Result Opened Refusal) : Type 0 where
+  pub judged : r ≡ yields (tables_stage file long) (opened_of (readable file))
+  pub possible : IfOk r (λ o. Possible o.by_type)
+
+-- room for columns before anything is read: those of an empty file, its circuits and its TEC by type all zero
+unfoldable pub nothing_read : Opened
+nothing_read =
+    record {
+      counts = counts_of (readable []);
+      settings = (readable []).settings;
+      nodes = nodes_of (readable []);
+      circuits = record { first = replicate 512 0; second = replicate 512 0; x = replicate 512 0; length = replicate 512 0; mark = replicate 512 0 };
+      by_type = replicate 1792 (kilowatts 0);
+    }

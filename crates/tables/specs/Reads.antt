@@ -1,12 +1,11 @@
--- What 6, 7, 13 and 14 are told: a file whose rows were read and judged.
-use Rattle.std.specs.Prelude.{◌≡◌, Bool, ◌&&◌, List, ℕ, ◌+◌, ◌-◌, leb}
+-- What 6, 7, 13 and 14 are told: the columns of a file whose rows are sound.
+use Rattle.std.specs.Prelude.{Bool, ◌&&◌, List, ℕ, ◌+◌, ◌-◌, leb}
 use Rattle.meaning.specs.declared.Edition.{Edition}
 use Rattle.meaning.specs.declared.Background.{Background}
 use Rattle.meaning.specs.declared.Background.TheVariants.{YearRound, Peak}
-use Rattle.meaning.specs.declared.Judgement.{Judgement}
 use Rattle.meaning.specs.declared.Refusal.TheVariants.{BadTotal, NoChargeableTec, Unscalable}
 use Rattle.meaning.specs.declared.Kw.{Kw}
-use Rattle.meaning.specs.Answers.{◌or_else◌, unless, in_second}
+use Rattle.meaning.specs.Answers.{Judgement, ◌or_else◌, unless, in_second}
 use Rattle.meaning.specs.Grid.{sound_totals}
 use Rattle.meaning.specs.Network.{reach_stage}
 use Rattle.plants.specs.declared.Counted.TheVariants.{All, Paying, Fixed, Variable}
@@ -14,13 +13,6 @@ use Rattle.station_table.specs.Tec.{by_node}
 use Rattle.totals.specs.Totals.{total_of}
 use Rattle.walk.specs.Walk.{walked}
 use Rattle.tables.specs.declared.Opened.{Opened}
-use Rattle.tables.specs.Order.{then_stations}
-use Rattle.tables.specs.Opens.{Columns}
-
--- where the frame was judged so: what stops the file first among 1 to 5
-pub record Reads (frame : Judgement) (file : List ℕ) (o : Opened) : Type 0 where
-  pub rows : o.judgement ≡ then_stations frame file
-  pub columns : Columns frame file o
 
 -- 7, of the columns of n nodes
 abbrev pub totals_of : (n : ℕ) (demand tec : List Kw) → Judgement

@@ -1,11 +1,9 @@
-// The stages in 01's order: what stops first is the judgement.
+// The stages in 01's order: what stops first is answered.
 ghost use Rattle.std.specs.Prelude.{◌≡◌, ◌&&◌, ◌-◌, eqb};
-ghost use Rattle.meaning.specs.Answers.{◌or_else◌};
 ghost use Rattle.meaning.specs.Editions.{by_edition};
-ghost use Rattle.tables.specs.Reads.{totals_of, chargeable_of, scaling_of, background_in, both_in, grid_in};
+ghost use Rattle.tables.specs.Reads.{totals_of, chargeable_of, scaling_of, background_in, scaling_in, grid_in};
 
 use crate::Opened;
-use answers::or_else;
 use meaning::{Background, Edition, Judgement, Kw, Refusal};
 use plants::Counted;
 use station_table::by_node;
@@ -49,9 +47,9 @@ pub fn totals_stage(n: usize, demand: [Kw; 256], tec: [Kw; 256]) -> Judgement
     ensures { result ≡ totals_of n demand tec }
 {
     if totals::sound(totals::total(n, demand), totals::total(n, tec)) {
-        return Judgement::Passes;
+        return Ok(());
     }
-    Judgement::Stops(Refusal::BadTotal)
+    Err(Refusal::BadTotal)
 }
 
 // 13: no TEC that pays.
@@ -59,9 +57,9 @@ pub fn chargeable_stage(n: usize, paying: [Kw; 256]) -> Judgement
     ensures { result ≡ chargeable_of n paying }
 {
     if totals::chargeable(totals::total(n, paying)) {
-        return Judgement::Passes;
+        return Ok(());
     }
-    Judgement::Stops(Refusal::NoChargeableTec)
+    Err(Refusal::NoChargeableTec)
 }
 
 // 14 of the columns of a background: fixed generation above demand, or variable generation too small.
@@ -72,9 +70,9 @@ fn scaling_stage(n: usize, fixed: [Kw; 256], variable: [Kw; 256], demand: [Kw; 2
     let variable = totals::total(n, variable).0;
     let demand = totals::total(n, demand).0;
     if (fixed <= demand) & (demand <= fixed + variable) {
-        return Judgement::Passes;
+        return Ok(());
     }
-    Judgement::Stops(Refusal::Unscalable)
+    Err(Refusal::Unscalable)
 }
 
 // 14 in a background, from TEC by node and plant type.
@@ -94,45 +92,35 @@ fn background_stage(
 
 // 14 of both backgrounds, which edition 2 alone asks.
 fn scaling(edition: Edition, n: usize, by_type: [Kw; 1792], demand: [Kw; 256]) -> Judgement
-    ensures { result ≡ both_in edition n by_type demand }
+    ensures { result ≡ scaling_in edition n by_type demand }
 {
-    or_else(
-        background_stage(edition, Background::YearRound, n, by_type, demand),
-        background_stage(edition, Background::Peak, n, by_type, demand),
-    )
+    match edition {
+        Edition::First => Ok(()),
+        Edition::Second => {
+            background_stage(edition, Background::YearRound, n, by_type, demand)?;
+            background_stage(edition, Background::Peak, n, by_type, demand)
+        }
+    }
 }
 
 // 6, 7, 13 and 14.
-pub fn grid_stage(all: Opened) -> Judgement
-    ensures { result ≡ grid_in all }
+pub fn grid_stage(all: &Opened) -> Judgement
+    ensures { result ≡ grid_in all.now }
 {
-    let counts = all.counts;
-    let settings = all.settings;
-    let edition = settings.edition;
-    let nodes = all.nodes;
-    let circuits = all.circuits;
-    let by_type = all.by_type;
-    let first = circuits.first;
-    let second = circuits.second;
-    let reference = from_zero(settings.reference);
-    let demand = nodes.demand;
-    let reached = walk::stage(counts.nodes, reference, counts.circuits, &first, &second);
-    let totalled = totals_stage(counts.nodes, demand, by_node(by_type, Counted::All));
-    let charged = chargeable_stage(counts.nodes, by_node(by_type, Counted::Paying));
-    let asked = or_else(reached, or_else(totalled, charged));
-    match edition {
-        Edition::First => asked,
-        Edition::Second => or_else(asked, scaling(edition, counts.nodes, by_type, demand)),
-    }
-}
-
-// 1 to 7, 13 and 14: what stops the rows that were read, else 6, 7, 13 and 14.
-pub fn judgement(all: Opened) -> Judgement
-    ensures { result ≡ (all.judgement or_else grid_in all) }
-{
-    let rows = all.judgement;
-    match rows {
-        Judgement::Stops(cause) => Judgement::Stops(cause),
-        Judgement::Passes => grid_stage(all),
-    }
+    let n = all.counts.nodes;
+    let demand = all.nodes.demand;
+    let reference = from_zero(all.settings.reference);
+    let circuits = all.counts.circuits;
+    walk::stage(
+        n,
+        reference,
+        circuits,
+        &all.circuits.first,
+        &all.circuits.second,
+    )?;
+    let tec = by_node(all.by_type, Counted::All);
+    totals_stage(n, demand, tec)?;
+    let paying = by_node(all.by_type, Counted::Paying);
+    chargeable_stage(n, paying)?;
+    scaling(all.settings.edition, n, all.by_type, demand)
 }

@@ -5,20 +5,20 @@ mod chain;
 mod read;
 mod settings;
 
-ghost use Rattle.std.specs.Prelude.{◌≡◌};
-ghost use Rattle.meaning.specs.Editions.{by_system};
+ghost use Rattle.std.specs.Prelude.{◌≡◌, length};
+ghost use Rattle.meaning.specs.Answers.{yields};
+ghost use Rattle.meaning.specs.Study.{lent};
 ghost use Rattle.tables.specs.Order.{frame_stage};
-ghost use Rattle.tables.specs.Opens.{Opens, with_judgement};
+ghost use Rattle.tables.specs.Opens.{Opens, nothing_read};
 
 use circuit_table::CircuitColumns;
 use layout::RowCounts;
-use meaning::{Judgement, Kw, Refusal, Settings};
+use meaning::{Judgement, Kw, Refusal, Settings, Solutions};
 use node_table::NodeColumns;
 
-// A case file opened: what stops it first among 1 to 7, 13 and 14, and its columns; TEC by node and plant type as `station_table` has it.
+// A case file opened: the columns of a case that nothing among 1 to 7, 13 and 14 stops; TEC by node and plant type as `station_table` has it.
 #[derive(Clone, Copy)]
 pub struct Opened {
-    pub judgement: Judgement,
     pub counts: RowCounts,
     pub settings: Settings,
     pub nodes: NodeColumns,
@@ -26,63 +26,49 @@ pub struct Opened {
     pub by_type: [Kw; 1792],
 }
 
-// 1 and 2, before any table is read: a file that is not whole, a run of another length, a setting out of its range.
-pub fn frame(
-    file: &[u8],
-    base: usize,
-    wider: usize,
-    local: usize,
-    peak_base: usize,
-    peak_wider: usize,
-) -> Judgement
-    ensures { result ≡ frame_stage file.now (by_system base wider local peak_base peak_wider) }
+// Room for the columns of a case: nothing is read.
+pub fn nothing_read() -> Opened
+    ensures { result ≡ nothing_read }
 {
-    if layout::whole(file) {
-        let counts = layout::counts(file);
-        let settings = layout::settings(file);
-        let edition = settings.edition;
-        let count = counts.nodes + counts.circuits;
-        let peak = chain::peak_count(edition, count);
-        if chain::year_round_runs(count, base, wider, local)
-            & chain::peak_runs(peak, peak_base, peak_wider)
-        {
-            return settings::stage(settings, counts.nodes);
-        }
-        return Judgement::Stops(Refusal::BadFile);
-    }
-    Judgement::Stops(Refusal::BadFile)
-}
-
-// The same columns with another judgement.
-pub fn with_judgement(opened: Opened, judgement: Judgement) -> Opened
-    ensures { result ≡ with_judgement opened judgement }
-{
-    let counts = opened.counts;
-    let settings = opened.settings;
-    let nodes = opened.nodes;
-    let circuits = opened.circuits;
-    let by_type = opened.by_type;
     Opened {
-        judgement,
-        counts,
-        settings,
-        nodes,
-        circuits,
-        by_type,
+        counts: layout::counts(&[]),
+        settings: layout::settings(&[]),
+        nodes: node_table::columns(&[]),
+        circuits: CircuitColumns {
+            first: [0; 512],
+            second: [0; 512],
+            x: [0; 512],
+            length: [0; 512],
+            mark: [0; 512],
+        },
+        by_type: [Kw(0); 1792],
     }
 }
 
-// The judgement of a file with the lengths of the five runs, its tables read in their order and its names resolved once; and its columns.
-pub fn open(
-    file: &[u8],
-    base: usize,
-    wider: usize,
-    local: usize,
-    peak_base: usize,
-    peak_wider: usize,
-) -> Opened
-    ensures { Opens file.now (by_system base wider local peak_base peak_wider) result }
+// 1 and 2, before any table is read: a file that is not whole, a run of another length, a setting out of its range.
+pub fn frame(file: &[u8], runs: &Solutions) -> Judgement
+    ensures { result ≡ frame_stage file.now (λ s. length (lent runs.now s)) }
 {
-    let all = read::tables(frame(file, base, wider, local, peak_base, peak_wider), file);
-    with_judgement(all, chain::judgement(all))
+    if !layout::whole(file) {
+        return Err(Refusal::BadFile);
+    }
+    let counts = layout::counts(file);
+    let settings = layout::settings(file);
+    let count = counts.nodes + counts.circuits;
+    let peak = chain::peak_count(settings.edition, count);
+    if chain::year_round_runs(count, runs.base.len(), runs.wider.len(), runs.local.len())
+        & chain::peak_runs(peak, runs.peak_base.len(), runs.peak_wider.len())
+    {
+        return settings::stage(settings, counts.nodes);
+    }
+    Err(Refusal::BadFile)
+}
+
+// The columns of a file, by the lengths of the five runs, or what stops it first: its tables are read in their order, and its names resolved once.
+pub fn open(file: &[u8], runs: &Solutions, opened: &mut Opened) -> Judgement
+    ensures { Opens file.now (λ s. length (lent runs.now s)) (yields result opened.new) }
+{
+    frame(file, runs)?;
+    read::tables(file, opened)?;
+    chain::grid_stage(opened)
 }

@@ -45,7 +45,7 @@ pub fn stage(s: Settings, nodes: usize) -> Judgement
     ensures { result ≡ unless (sound_settings nodes s) Refusal.BadSetting }
 {
     if sound(s, nodes) {
-        return Judgement::Passes;
+        return Ok(());
     }
-    Judgement::Stops(Refusal::BadSetting)
+    Err(Refusal::BadSetting)
 }

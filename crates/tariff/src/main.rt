@@ -22,6 +22,7 @@ fn read_input<R: Read>(from: &mut R, buffer: &mut [u8]) -> Input
     ensures whole { IsNone result.failure → result.count < length buffer.new → IsAtEnd (R.remaining from.new) }
 {
     let mut count = 0;
+    // No `for`: how much a read gives is not known before.
     while count < buffer.len() {
         match from.read(&mut buffer[count..]) {
             Ok(0) => break,

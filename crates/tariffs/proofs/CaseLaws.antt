@@ -47,9 +47,7 @@ use Rattle.boundaries.specs.Boundaries.{sharing_in, splits}
 use Rattle.tariffs.specs.declared.over.Over.{Over}
 use Rattle.tariffs.specs.declared.zonal.Zonal.{Zonal}
 use Rattle.tariffs.specs.declared.zonal.Backgrounds.{Backgrounds}
-use Rattle.tariffs.specs.declared.wider.Wider.{Wider}
-use Rattle.tariffs.specs.declared.shared.Shared.{Shared}
-use Rattle.tariffs.specs.declared.nodes.Local.{Local}
+use Rattle.tariffs.specs.declared.priced.Priced.{Priced as PricedLines}
 use Rattle.tariffs.specs.Sides.{sums_in, pays_in, over_from, metres_over, parts_in, not_shared_over, shared_zones, shares_fit, tariff_from, wider_from, wider_over, wider_at, shared_tariff_from, shared_over, shared_at, line_from, form_in, side_from, side_figures, AllFit, Ready, TermsFit, ZonalFits, SharesFit, SideFits}
 use Rattle.tariffs.specs.Case.{local_from, node_from, local_of, by_side, zonal_in, shares_on, terms_of, basis_in, figures_of, settings_fit, totals_fit, figures_in, at_peak, backgrounds_over, figures_over, SettingsFit, NodesFit, SidesFit, CaseFits}
 use Rattle.tariffs.proofs.Laws.{sums_fit, over_near, metres_at_lem, c_near, price_most, local_priceable, shares_say, year_round_lem, at_peak_lem, shared, left_holds}
@@ -201,7 +199,7 @@ module _ (s : Settings) (z : Backgrounds) (payers load : Kw) (n : ℕ) (tec payi
   }
 
   -- what is left when the local tariffs are taken off
-  module _ {g : Rest} {nodal : Local} (eg : g ≡ start_of (pos (target_of Generation s.p s.revenue)) payers.0) (el : nodal ≡ local_of n tec paying local s.constant s.local_factor g payers.0) where
+  module _ {g : Rest} {nodal : PricedLines LocalFigures 256} (eg : g ≡ start_of (pos (target_of Generation s.p s.revenue)) payers.0) (el : nodal ≡ local_of n tec paying local s.constant s.local_factor g payers.0) where
     pub generation_left : Holds nodal.rest (pos (target_of Generation s.p s.revenue) -ℤ local_income B Generation) payers.0 96
     unfolding local_of local_income local_tariff basis_in target
     generation_left = rw (el, eg) (all_hold n 96 (holds_fewer (n + 96) (omega (arith, f.few)) (start Generation 352 (omega arith))) local_charges)
@@ -298,13 +296,13 @@ module _ (s : Settings) (z : Backgrounds) (payers load : Kw) (n : ℕ) (tec payi
       rest_is = rw (income_is YearRound ec, income_is Peak ep, shared_brings)
           (left_is s.edition (target_of side s.p s.revenue) (local_income B side) (income_in S) (shared_income S) none_at_peak)
 
-      abbrev made : Wider
+      abbrev made : PricedLines WiderFigures 32
       made = year_round_lem own (of YearRound side) (of Peak side) (terms_of s side c) (terms_of s side pc) left (payers_of side)
 
-      abbrev made_at_peak : Wider
+      abbrev made_at_peak : PricedLines WiderFigures 32
       made_at_peak = at_peak_lem own (of YearRound side) (of Peak side) (terms_of s side c) (terms_of s side pc) left (payers_of side)
 
-      abbrev made_shared : Shared
+      abbrev made_shared : PricedLines SharedFigures 32
       made_shared = shared own (of YearRound side) (of Peak side) (terms_of s side c) (terms_of s side pc) left (payers_of side)
 
       each_is : made_shared.rest.each ≡ residual S

@@ -2,6 +2,11 @@
 use mathlib.Core.Path.{◌≡◌, refl, ap}
 use mathlib.Core.Bool.{Bool, true, false}
 use mathlib.Core.List.{List}
+use mathlib.Core.Logic.{◌↔◌}
+use lib.ListN.{length, take, length-take, get_or-eq_default}
+use Rattle.std.specs.List.{All}
+use Rattle.std.proofs.lemmas.List.{get_or-take}
+use Rattle.std.proofs.lemmas.List.Elements.{All-get_or, All-from_get_or}
 use Prim.Native.Nat.{ℕ, zero, suc, ◌+◌, ◌*◌, ◌-◌, ◌≤◌, ◌<◌}
 use native.Mathlib.Decide.{dec_lt}
 use native.Mathlib.Nat.{le_refl, le_trans}
@@ -42,8 +47,9 @@ use Rattle.boundaries.proofs.Exact.{splits_most, near_is}
 use Rattle.tariffs.specs.declared.over.Over.{Over}
 use Rattle.tariffs.specs.declared.zonal.Zonal.{Zonal}
 use Rattle.tariffs.specs.declared.wider.Terms.{Terms}
-use Rattle.tariffs.specs.declared.wider.Wider.{Wider}
-use Rattle.tariffs.specs.declared.shared.Shared.{Shared}
+use Rattle.tariffs.specs.declared.priced.Priced.{Priced as PricedLines}
+use Rattle.meaning.specs.declared.WiderFigures.{WiderFigures}
+use Rattle.meaning.specs.declared.SharedFigures.{SharedFigures}
 use Rattle.tariffs.specs.Sides.{metres_from, sums_in, sums_of, pays_in, over_from, with_zone, metres_over, no_parts, parts_in, not_shared_over, shared_zones, shares_fit, tariff_from, wider_from, wider_over, wider_at, shared_tariff_from, shared_over, shared_at, line_from, form_in, side_from, AllFit, OverFits, Ready, Prices, MetresFit, PartsFit, TermsFit, LinesFit, ZonalFits, SharesFit, SideFits}
 use Rattle.tariffs.specs.Case.{local_from}
 
@@ -212,24 +218,26 @@ module _ {m : List Metres} {z : Zonal} {payers : ℕ} {t : Terms} (fm : MetresFi
   taken_off n h = all_hold z.count n (holds_fewer (z.count + n) (omega (arith, f.few)) h) charges
 
 -- ---- the kilowatts of the shared tariffs, as they are tested
-pub more_fit : (kw : List Kw) (payers k : ℕ) → ((j : ℕ) → j < k → kw_at kw j ≤ payers) → kw_at kw k ≤ payers → (j : ℕ) → j < k + 1 → kw_at kw j ≤ payers
-more_fit kw payers k h l j b = go (dec_lt j k)
-  where
-    go : Dec (j < k) → kw_at kw j ≤ payers
-    go (yes s) = h j s
-    go (no s) = let e : j ≡ k = omega arith in rw e l
-
 module _ (shares : Shares) (count payers : ℕ) where
   pub shares_say : Says (shares_fit shares count payers) (SharesFit shares count payers)
   unfolding shares_fit
   shares_say = says_as (says_all (shared_zones shares.in_force count) (λ k. says_le {m = kw_at shares.kw k} {n = payers})) (λ t. record { each = t }, λ r. r.each)
 
-  pub shares_fail : (k : ℕ) → k < shared_zones shares.in_force count → payers < kw_at shares.kw k → false ≡ shares_fit shares count payers
-  shares_fail k h l = go (shares_fit shares count payers) refl
+  -- the same of a list of them
+  pub each_within : All (λ (x : Kw). x.0 ≤ payers) (take (shared_zones shares.in_force count) shares.kw) ↔ SharesFit shares count payers
+  each_within =
+      let kw = shares.kw in
+      let n = shared_zones shares.in_force count in
+      let within : Kw → Type 0 = λ x. x.0 ≤ payers in (
+        λ h. record { each = λ k l. here h k l (dec_lt k (length kw)) },
+        λ f. All-from_get_or within (take n kw) (kilowatts 0) (λ k l. rw (get_or-take n kw k (kilowatts 0) (omega (arith, length-take n kw))) (f.each k (omega (arith, length-take n kw)))),
+      )
     where
-      go : (b : Bool) → shares_fit shares count payers ≡ b → false ≡ b
-      go true e = absurd (omega (arith, (shares_say.0 e).each k h))
-      go false e = refl
+      here : All (λ (x : Kw). x.0 ≤ payers) (take (shared_zones shares.in_force count) shares.kw) → (k : ℕ) → k < shared_zones shares.in_force count → Dec (k < length shares.kw) → kw_at shares.kw k ≤ payers
+      here h k l (yes i) =
+          let n = shared_zones shares.in_force count in
+          rw (get_or-take n shares.kw k (kilowatts 0) l) at (All-get_or (λ (x : Kw). x.0 ≤ payers) (take n shares.kw) k (kilowatts 0) (omega (arith, length-take n shares.kw)) h)
+      here h k l (no i) = let past : length shares.kw ≤ k = omega arith in omega (arith, ap (λ (x : Kw). x.0) (get_or-eq_default shares.kw (kilowatts 0) past))
 
 -- ---- the shared tariffs
 pub shared_few : (in_force : Bool) (count : ℕ) → count ≤ 32 → shared_zones in_force count ≤ 32
@@ -266,13 +274,13 @@ module _ (shares : Shares) (y p : Zonal) (t u : Terms) (rest : Rest) (payers : �
   abbrev parts : List Split
   parts = parts_of shares y
 
-  abbrev pub year_round_lem : Wider
+  abbrev pub year_round_lem : PricedLines WiderFigures 32
   year_round_lem = wider_over (not_shared_over parts) y.sums y.count t rest payers
 
-  abbrev pub at_peak_lem : Wider
+  abbrev pub at_peak_lem : PricedLines WiderFigures 32
   at_peak_lem = wider_over (metres_over p.sums) p.sums p.count u year_round_lem.rest payers
 
-  abbrev pub shared : Shared
+  abbrev pub shared : PricedLines SharedFigures 32
   shared = shared_over parts shares.kw (shared_zones shares.in_force y.count) t at_peak_lem.rest payers
 
   pub left_holds : (f : SideFits shares y p t u rest payers) → Holds shared.rest
@@ -284,7 +292,7 @@ module _ (shares : Shares) (y p : Zonal) (t u : Terms) (rest : Rest) (payers : �
       (taken_off (own_fit p.sums f.peak.all) f.peak f.peak_terms 32 (taken_off (not_shared_fit parts (own_parts_fit shares y)) f.year_round f.terms 64 f.holds))
 
   -- what the code prices, one after the other, is that
-  pub priced : {own ms ps : List Metres} {split : List Split} {n : ℕ} {a b : Wider} {s : Shared}
+  pub priced : {own ms ps : List Metres} {split : List Split} {n : ℕ} {a b : PricedLines WiderFigures 32} {s : PricedLines SharedFigures 32}
       → ms ≡ metres_over y.sums → split ≡ splits shares y.count ms → own ≡ not_shared_over split → a ≡ wider_over own y.sums y.count t rest payers
       → ps ≡ metres_over p.sums → b ≡ wider_over ps p.sums p.count u a.rest payers
       → n ≡ shared_zones shares.in_force y.count → s ≡ shared_over split shares.kw n t b.rest payers
@@ -293,14 +301,14 @@ module _ (shares : Shares) (y p : Zonal) (t u : Terms) (rest : Rest) (payers : �
       let second : b ≡ at_peak_lem = rw (eb, ep, first) refl in
       (first, second, rw (es, ex, em, en, second) refl)
 
-  pub told_residual_near : {s : Shared} → s ≡ shared → SideFits shares y p t u rest payers → nat_abs s.rest.each ≤ 9000000000000000000
+  pub told_residual_near : {s : PricedLines SharedFigures 32} → s ≡ shared → SideFits shares y p t u rest payers → nat_abs s.rest.each ≤ 9000000000000000000
   told_residual_near e f = rw e (residual_near (left_holds f))
 
-  pub told_remainder_near : {s : Shared} → s ≡ shared → SideFits shares y p t u rest payers → s.rest.over < 100000000
+  pub told_remainder_near : {s : PricedLines SharedFigures 32} → s ≡ shared → SideFits shares y p t u rest payers → s.rest.over < 100000000
   told_remainder_near e f = rw e (remainder_near (left_holds f))
 
   -- its figures, as the code puts them together
-  pub side_from_lem : (e : Edition) {a b : Wider} {s : Shared} {form : Form} {r : MicroPerKw} {left : ℤ} {zone : List ZoneFigures}
+  pub side_from_lem : (e : Edition) {a b : PricedLines WiderFigures 32} {s : PricedLines SharedFigures 32} {form : Form} {r : MicroPerKw} {left : ℤ} {zone : List ZoneFigures}
       → a ≡ year_round_lem → b ≡ at_peak_lem → s ≡ shared → form ≡ form_in e shares.in_force → r.0 ≡ s.rest.each → left ≡ pos s.rest.over
       → zone ≡ column no_line 32 y.count (λ k. line_from (sums_in y.sums k).weight (wider_at a.lines k) (wider_at b.lines k) (shared_at s.lines k) r)
       → ◌≡◌ {A = SideFigures} (record { form = form; zones = y.count; residual = r; remainder = left; zone = zone }) (side_from e shares y p t u rest payers)

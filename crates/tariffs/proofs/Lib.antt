@@ -1,3 +1,4 @@
+pub mod Mapped
 pub mod Laws
 pub mod SharedLaws
 pub mod CaseLaws

@@ -30,8 +30,9 @@ use Rattle.tariffs.specs.declared.zonal.Zonal.{Zonal}
 use Rattle.tariffs.specs.declared.zonal.Sides.{Sides}
 use Rattle.tariffs.specs.declared.zonal.Backgrounds.{Backgrounds}
 use Rattle.tariffs.specs.declared.wider.Terms.{Terms}
-use Rattle.tariffs.specs.declared.nodes.Local.{Local}
-use Rattle.tariffs.specs.Sides.{zones_in, over_from, zonal_from, no_shares, side_figures, shares_fit, AllFit, SharesFit}
+use Rattle.tariffs.specs.declared.priced.Priced.{Priced}
+use Rattle.tariffs.specs.Sides.{zones_in, over_from, zonal_from, side_figures, shares_fit, AllFit, SharesFit}
+use Rattle.boundaries.specs.Boundaries.{no_shares}
 
 -- 01, The sheet: the figures of a case as one value, all that is printed but the names; 02, request 6: with what a share file in force says
 unfoldable pub figures_of : Basis → Option Sharing → Figures
@@ -55,7 +56,7 @@ unfoldable pub node_from : (tec : ℕ) → (potential : ℤ) → (constant facto
 node_from tec u constant factor = record { tec = kilowatts tec; metres = distance (local_from u); tariff = price (tariff (local_from u) constant factor) }
 
 -- the local lines of the nodes, and what their tariffs leave of a rest
-unfoldable pub local_of : (n : ℕ) → (tec paying : List Kw) → (local : List ℤ) → (constant factor : ℕ) → Rest → (payers : ℕ) → Local
+unfoldable pub local_of : (n : ℕ) → (tec paying : List Kw) → (local : List ℤ) → (constant factor : ℕ) → Rest → (payers : ℕ) → Priced LocalFigures 256
 local_of n tec paying local constant factor rest payers =
     record {
       lines =

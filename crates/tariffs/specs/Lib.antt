@@ -1,2 +1,3 @@
+pub mod Pricing
 pub mod Sides
 pub mod Case

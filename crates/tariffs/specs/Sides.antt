@@ -26,8 +26,7 @@ use Rattle.boundaries.specs.Boundaries.{splits}
 use Rattle.tariffs.specs.declared.over.Over.{Over}
 use Rattle.tariffs.specs.declared.zonal.Zonal.{Zonal}
 use Rattle.tariffs.specs.declared.wider.Terms.{Terms}
-use Rattle.tariffs.specs.declared.wider.Wider.{Wider}
-use Rattle.tariffs.specs.declared.shared.Shared.{Shared}
+use Rattle.tariffs.specs.declared.priced.Priced.{Priced as PricedLines}
 
 -- step 7: a zone's metres
 unfoldable pub metres_from : ZoneSums → ℤ
@@ -81,17 +80,6 @@ parts_in parts k = get_or parts k no_parts
 unfoldable pub not_shared_over : List Split → List Metres
 not_shared_over parts = column (distance (pos 0)) 32 32 (λ k. (parts_in parts k).not_shared)
 
--- of a side that shares nothing
-abbrev pub no_shares : Shares
-no_shares =
-    record {
-      in_force = false;
-      next = replicate 32 0;
-      low = replicate 32 (kilowatts 0);
-      carbon = replicate 32 (kilowatts 0);
-      kw = replicate 32 (kilowatts 0);
-    }
-
 -- how many zones have a shared tariff: none where no file is in force
 unfoldable pub shared_zones : (in_force : Bool) → (count : ℕ) → ℕ
 shared_zones in_force count = cond in_force count 0
@@ -109,7 +97,7 @@ tariff_from t m = tariff (with_c t.side t.c.0 m) t.constant t.factor
 unfoldable pub wider_from : Terms → (metres : ℤ) → WiderFigures
 wider_from t m = wider_of m (with_c t.side t.c.0 m) (tariff_from t m)
 
-unfoldable pub wider_over : List Metres → List ZoneSums → (count : ℕ) → Terms → Rest → (payers : ℕ) → Wider
+unfoldable pub wider_over : List Metres → List ZoneSums → (count : ℕ) → Terms → Rest → (payers : ℕ) → PricedLines WiderFigures 32
 wider_over metres sums count t rest payers =
     record {
       lines = column no_wider 32 count (λ k. wider_from t (metres_at metres k));
@@ -126,7 +114,7 @@ shared_tariff_from t m = tariff m t.constant t.factor
 unfoldable pub shared_from : Terms → (metres : ℤ) → SharedFigures
 shared_from t m = shared_by m (shared_tariff_from t m)
 
-unfoldable pub shared_over : List Split → (kw : List Kw) → (count : ℕ) → Terms → Rest → (payers : ℕ) → Shared
+unfoldable pub shared_over : List Split → (kw : List Kw) → (count : ℕ) → Terms → Rest → (payers : ℕ) → PricedLines SharedFigures 32
 shared_over parts kw count t rest payers =
     record {
       lines = column no_shared 32 count (λ k. shared_from t (parts_in parts k).shared.0);

@@ -1,17 +1,17 @@
 // Steps 8 to 10 of a case, from the sums of the zones of its two sides in each background.
 ghost use Rattle.std.specs.Prelude.{◌≡◌, ◌≤◌, pos, length};
-ghost use Rattle.meaning.specs.declared.Side.TheVariants.{Generation, Demand};
+ghost use Rattle.meaning.specs.declared.Background.TheVariants.{YearRound, Peak};
 ghost use Rattle.meaning.specs.Charging.{target_of};
 ghost use Rattle.rests.specs.Rests.{start_of};
 ghost use Rattle.boundaries.specs.Boundaries.{sharing_in};
-ghost use Rattle.tariffs.specs.Sides.{no_shares, side_from, SideFits};
-ghost use Rattle.tariffs.specs.Case.{settings_fit, totals_fit, terms_of, basis_in, figures_of, figures_in, SettingsFit, CaseFits, SidesFit};
+ghost use Rattle.tariffs.specs.Sides.{side_from, SideFits};
+ghost use Rattle.tariffs.specs.Case.{settings_fit, totals_fit, terms_of, zonal_in, basis_in, figures_of, figures_in, SettingsFit, CaseFits, SidesFit};
 
 use crate::nodes::local_figures;
 use crate::over::{Over, c_of};
-use crate::shared::{no_shares, shares_fit};
+use crate::shared::shares_fit;
 use crate::side::side_figures;
-use crate::wider::Terms;
+use crate::wider::{Terms, Zoned};
 use crate::zonal::Backgrounds;
 use boundaries::Shares;
 use meaning::{Figures, Kw, Metres, Settings, Side, SideFigures};
@@ -34,9 +34,8 @@ pub fn settings_fit(settings: Settings) -> bool
 pub fn totals_fit(payers: Kw, year_round: Over, peak: Over) -> bool
     ensures { result ≡ totals_fit payers year_round peak }
 {
-    let zones = year_round.total;
-    let at_peak = peak.total;
-    ((1 <= payers.0) & (payers.0 <= 100000000)) & (zones.0 <= payers.0) & (at_peak.0 <= payers.0)
+    let k = payers.0;
+    (1 <= k) & (k <= 100000000) & (year_round.total.0 <= k) & (peak.total.0 <= k)
 }
 
 // What prices the zones of a side in a background.
@@ -44,8 +43,8 @@ pub fn terms_of(settings: Settings, side: Side, c: Metres) -> Terms
     ensures { result ≡ terms_of settings side c }
 {
     Terms {
-        side: side,
-        c: c,
+        side,
+        c,
         constant: settings.constant,
         factor: settings.wider_factor,
     }
@@ -63,92 +62,75 @@ pub fn target_of(settings: Settings, side: Side, payers: Kw) -> Rest
     }
 }
 
-// Generation, from a rest that has the local tariffs taken off.
-pub fn generation_of(
+// A side, from a rest that has its local tariffs taken off.
+fn side_of(
     settings: Settings,
-    sides: Backgrounds,
-    shares: Shares,
+    side: Side,
+    sides: &Backgrounds,
+    shares: &Shares,
     c: Metres,
     peak_c: Metres,
     rest: Rest,
     payers: Kw,
 ) -> SideFigures
-    requires { SideFits shares sides.year_round.generation sides.peak.generation (terms_of settings Generation c) (terms_of settings Generation peak_c) rest payers.0 }
-    ensures { result ≡ side_from settings.edition shares sides.year_round.generation sides.peak.generation (terms_of settings Generation c) (terms_of settings Generation peak_c) rest payers.0 }
+    requires { SideFits shares.now (zonal_in sides.now YearRound side) (zonal_in sides.now Peak side) (terms_of settings side c) (terms_of settings side peak_c) rest payers.0 }
+    ensures { result ≡ side_from settings.edition shares.now (zonal_in sides.now YearRound side) (zonal_in sides.now Peak side) (terms_of settings side c) (terms_of settings side peak_c) rest payers.0 }
 {
-    let terms = terms_of(settings, Side::Generation, c);
-    let peak_terms = terms_of(settings, Side::Generation, peak_c);
-    let zones = sides.year_round.generation;
-    let at_peak = sides.peak.generation;
-    let edition = settings.edition;
-    side_figures(
-        edition, shares, zones, at_peak, terms, peak_terms, rest, payers,
-    )
+    let year_round = Zoned {
+        zonal: sides.year_round.of(side),
+        terms: terms_of(settings, side, c),
+    };
+    let peak = Zoned {
+        zonal: sides.peak.of(side),
+        terms: terms_of(settings, side, peak_c),
+    };
+    side_figures(settings.edition, shares, &year_round, &peak, rest, payers)
 }
 
-// Demand, which shares nothing.
-pub fn demand_of(
+// Steps 8 to 10 of a case whose numbers are in range. Demand shares nothing.
+fn figures_from(
     settings: Settings,
-    sides: Backgrounds,
-    c: Metres,
-    peak_c: Metres,
-    rest: Rest,
-    payers: Kw,
-) -> SideFigures
-    requires { SideFits no_shares sides.year_round.demand sides.peak.demand (terms_of settings Demand c) (terms_of settings Demand peak_c) rest payers.0 }
-    ensures { result ≡ side_from settings.edition no_shares sides.year_round.demand sides.peak.demand (terms_of settings Demand c) (terms_of settings Demand peak_c) rest payers.0 }
-{
-    let terms = terms_of(settings, Side::Demand, c);
-    let peak_terms = terms_of(settings, Side::Demand, peak_c);
-    let zones = sides.year_round.demand;
-    let at_peak = sides.peak.demand;
-    let edition = settings.edition;
-    side_figures(
-        edition,
-        no_shares(),
-        zones,
-        at_peak,
-        terms,
-        peak_terms,
-        rest,
-        payers,
-    )
-}
-
-// Steps 8 to 10 of a case whose numbers are in range.
-pub fn figures_from(
-    settings: Settings,
-    sides: Backgrounds,
+    sides: &Backgrounds,
     payers: Kw,
     load: Kw,
     nodes: usize,
-    tec: [Kw; 256],
-    paying: [Kw; 256],
+    tec: &[Kw; 256],
+    paying: &[Kw; 256],
     local: &[i64],
-    shares: Shares,
+    shares: &Shares,
 ) -> Figures
-    requires { CaseFits settings sides payers load nodes paying local.now shares }
-    ensures { result ≡ figures_of (basis_in settings sides payers.0 load.0 nodes tec paying local.now) (sharing_in shares sides.year_round.generation.count) }
+    requires { CaseFits settings sides.now payers load nodes paying.now local.now shares.now }
+    ensures { result ≡ figures_of (basis_in settings sides.now payers.0 load.0 nodes tec.now paying.now local.now) (sharing_in shares.now sides.now.year_round.generation.count) }
 {
     let k = settings.constant;
     let f = settings.local_factor;
     let g = target_of(settings, Side::Generation, payers);
     let d = target_of(settings, Side::Demand, load);
     let nodal = local_figures(nodes, tec, paying, local, k, f, g, payers);
-    let lines = nodal.lines;
     let p = settings.p as u64;
-    let year_round = sides.year_round;
-    let peak = sides.peak;
+    let year_round = &sides.year_round;
+    let peak = &sides.peak;
     let c = c_of(p, year_round.generation.over, year_round.demand.over);
     let peak_c = c_of(p, peak.generation.over, peak.demand.over);
-    let edition = settings.edition;
+    let lines = nodal.lines;
+    let rest = nodal.rest;
+    let none = Shares::none();
     Figures {
-        edition: edition,
-        c: c,
-        peak_c: peak_c,
-        generation: generation_of(settings, sides, shares, c, peak_c, nodal.rest, payers),
-        demand: demand_of(settings, sides, c, peak_c, d, load),
-        nodes: nodes,
+        edition: settings.edition,
+        c,
+        peak_c,
+        generation: side_of(
+            settings,
+            Side::Generation,
+            sides,
+            shares,
+            c,
+            peak_c,
+            rest,
+            payers,
+        ),
+        demand: side_of(settings, Side::Demand, sides, &none, c, peak_c, d, load),
+        nodes,
         local: lines,
     }
 }
@@ -156,21 +138,21 @@ pub fn figures_from(
 // Steps 6 to 10 of a case of that many nodes, with settings in range; no figures where a total is out of range.
 pub fn ranged_figures(
     settings: Settings,
-    sides: Backgrounds,
+    sides: &Backgrounds,
     nodes: usize,
-    tec: [Kw; 256],
-    paying: [Kw; 256],
-    demand: [Kw; 256],
+    tec: &[Kw; 256],
+    paying: &[Kw; 256],
+    demand: &[Kw; 256],
     local: &[i64],
-    shares: Shares,
+    shares: &Shares,
 ) -> Figures
-    requires { SidesFit settings sides × (nodes ≤ 256) × (nodes ≤ length local.now) }
-    ensures { result ≡ figures_in settings sides nodes tec paying demand local.now shares }
+    requires { SidesFit settings sides.now × (nodes ≤ 256) × (nodes ≤ length local.now) }
+    ensures { result ≡ figures_in settings sides.now nodes tec.now paying.now demand.now local.now shares.now }
 {
-    let year_round = sides.year_round;
-    let peak = sides.peak;
-    let payers = totals::total(nodes, paying);
-    let load = totals::total(nodes, demand);
+    let year_round = &sides.year_round;
+    let peak = &sides.peak;
+    let payers = totals::total(nodes, *paying);
+    let load = totals::total(nodes, *demand);
     let generation = totals_fit(payers, year_round.generation.over, peak.generation.over);
     let served = totals_fit(load, year_round.demand.over, peak.demand.over);
     let shared = shares_fit(shares, year_round.generation.count, payers);

@@ -7,6 +7,7 @@ mod metres;
 mod nodes;
 mod over;
 mod price;
+mod priced;
 mod shared;
 mod side;
 mod wider;
@@ -17,6 +18,7 @@ ghost use Rattle.tariffs.specs.Case.{figures_over};
 
 use boundaries::Shares;
 use meaning::{Figures, Kw, Settings};
+use zonal::Nodes;
 
 // The figures of a case, by each node's zones, TEC that weighs, TEC that pays, in all and in peak, and demand, by its wider and local potentials,
 // and by what a share file says of its zones. Edition 1 has no peak: nothing of it is looked at.
@@ -36,21 +38,30 @@ pub fn figures(
 ) -> Figures
     ensures { result ≡ figures_over nodes settings generation_zone tec paying paying_at_peak demand_zone demand wider.now peak_wider.now local.now shares }
 {
-    if case::settings_fit(settings) {
-        let sides = zonal::backgrounds_of(
-            settings,
-            nodes,
-            generation_zone,
-            tec,
-            paying,
-            paying_at_peak,
-            demand_zone,
-            demand,
-            wider,
-            peak_wider,
-        );
-        let count = zones::nodes_in(nodes, local.len());
-        return case::ranged_figures(settings, sides, count, tec, paying, demand, local, shares);
+    if !case::settings_fit(settings) {
+        return steps::no_figures();
     }
-    steps::no_figures()
+    let generation = Nodes {
+        zone: &generation_zone,
+        weight: &tec,
+        paying: &paying,
+    };
+    let demand_side = Nodes {
+        zone: &demand_zone,
+        weight: &demand,
+        paying: &demand,
+    };
+    let sides = zonal::backgrounds_of(
+        settings,
+        nodes,
+        &generation,
+        &paying_at_peak,
+        &demand_side,
+        wider,
+        peak_wider,
+    );
+    let count = zones::nodes_in(nodes, local.len());
+    case::ranged_figures(
+        settings, &sides, count, &tec, &paying, &demand, local, &shares,
+    )
 }

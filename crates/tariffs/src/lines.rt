@@ -26,32 +26,29 @@ pub fn zone_line(
     ensures { result ≡ line_from weight year_round peak shared residual }
 {
     ZoneFigures {
-        weight: weight,
-        year_round: year_round,
-        peak: peak,
-        shared: shared,
+        weight,
+        year_round,
+        peak,
+        shared,
         total: total_of(year_round.tariff, peak.tariff, residual),
     }
 }
 
 // The lines of zones 1 to count.
 pub fn zone_lines(
-    sums: [ZoneSums; 32],
+    sums: &[ZoneSums; 32],
     count: usize,
-    year_round: [WiderFigures; 32],
-    peak: [WiderFigures; 32],
-    shared: [SharedFigures; 32],
+    year_round: &[WiderFigures; 32],
+    peak: &[WiderFigures; 32],
+    shared: &[SharedFigures; 32],
     residual: MicroPerKw,
 ) -> [ZoneFigures; 32]
-    requires { (count ≤ 32) × LinesFit year_round × LinesFit peak × (nat_abs residual.0 ≤ 9000000000000000000) }
-    ensures { result ≡ column no_line 32 count (λ k. line_from (sums_in sums k).weight (wider_at year_round k) (wider_at peak k) (shared_at shared k) residual) }
+    requires { (count ≤ 32) × LinesFit year_round.now × LinesFit peak.now × (nat_abs residual.0 ≤ 9000000000000000000) }
+    ensures { result ≡ column no_line 32 count (λ k. line_from (sums_in sums.now k).weight (wider_at year_round.now k) (wider_at peak.now k) (shared_at shared.now k) residual) }
 {
     let mut all = [steps::no_line(); 32];
-    let mut k = 0;
-    while k < count {
-        let zone = sums[k];
-        all[k] = zone_line(zone.weight, year_round[k], peak[k], shared[k], residual);
-        k += 1;
+    for k in 0..count {
+        all[k] = zone_line(sums[k].weight, year_round[k], peak[k], shared[k], residual);
     }
     all
 }

@@ -8,29 +8,15 @@ use meaning::Metres;
 use zones::ZoneSums;
 
 // The zonal metres of all 32 zones.
-pub fn zone_metres(sums: [ZoneSums; 32]) -> [Metres; 32]
-    ensures { result ≡ metres_over sums }
+pub fn zone_metres(sums: &[ZoneSums; 32]) -> [Metres; 32]
+    ensures { result ≡ metres_over sums.now }
 {
-    let mut all = [Metres(0); 32];
-    let mut k = 0;
-    while k < 32 {
-        all[k] = metres_of(sums[k]);
-        k += 1;
-    }
-    all
+    sums.map(metres_of)
 }
 
 // Those that are not shared.
-pub fn not_shared(parts: [Split; 32]) -> [Metres; 32]
-    ensures { result ≡ not_shared_over parts }
+pub fn not_shared(parts: &[Split; 32]) -> [Metres; 32]
+    ensures { result ≡ not_shared_over parts.now }
 {
-    let mut all = [Metres(0); 32];
-    let mut k = 0;
-    while k < 32 {
-        let zone = parts[k];
-        let metres = zone.not_shared;
-        all[k] = metres;
-        k += 1;
-    }
-    all
+    parts.map(|part| part.not_shared)
 }

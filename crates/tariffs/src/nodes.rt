@@ -3,15 +3,9 @@ ghost use Rattle.std.specs.Prelude.{◌≡◌, ◌≤◌};
 ghost use Rattle.tariffs.specs.Case.{local_from, node_from, local_of, NodesFit};
 
 use crate::price::price;
+use crate::priced::{Charge, Priced, price_places};
 use meaning::{Kw, LocalFigures, Metres};
 use rests::Rest;
-
-// The local lines of the nodes, and the rest without what their tariffs bring in.
-#[derive(Clone, Copy)]
-pub struct Local {
-    pub lines: [LocalFigures; 256],
-    pub rest: Rest,
-}
 
 // Step 6: local metres; 0 past their range.
 pub fn local_metres(potential: i64) -> Metres
@@ -31,8 +25,8 @@ pub fn node_line(tec: Kw, potential: i64, constant: usize, factor: usize) -> Loc
 {
     let metres = local_metres(potential);
     LocalFigures {
-        tec: tec,
-        metres: metres,
+        tec,
+        metres,
         tariff: price(metres, constant, factor),
     }
 }
@@ -40,28 +34,23 @@ pub fn node_line(tec: Kw, potential: i64, constant: usize, factor: usize) -> Loc
 // Those of the first nodes, their tariffs taken off the rest.
 pub fn local_figures(
     nodes: usize,
-    tec: [Kw; 256],
-    paying: [Kw; 256],
+    tec: &[Kw; 256],
+    paying: &[Kw; 256],
     local: &[i64],
     constant: usize,
     factor: usize,
     rest: Rest,
     payers: Kw,
-) -> Local
+) -> Priced<LocalFigures, 256>
     requires { NodesFit nodes local.now constant factor }
-    ensures { result ≡ local_of nodes tec paying local.now constant factor rest payers.0 }
+    ensures { result ≡ local_of nodes tec.now paying.now local.now constant factor rest payers.0 }
 {
-    let mut lines = [steps::no_local(); 256];
-    let mut left = rest;
-    let mut v = 0;
-    while v < nodes {
+    price_places(steps::no_local(), nodes, rest, payers, |v| {
         let line = node_line(tec[v], local[v], constant, factor);
-        left = rests::less(left, payers, line.tariff, paying[v]);
-        lines[v] = line;
-        v += 1;
-    }
-    Local {
-        lines: lines,
-        rest: left,
-    }
+        Charge {
+            line,
+            tariff: line.tariff,
+            kw: paying[v],
+        }
+    })
 }

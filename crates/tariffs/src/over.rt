@@ -26,30 +26,24 @@ pub fn with_zone(over: Over, zone: ZoneSums) -> Over
     requires { OverFits over × SumsFit zone }
     ensures { result ≡ with_zone over zone }
 {
-    let metres = metres_of(zone);
-    let total = over.total;
-    let paying = zone.paying;
-    let sum = over.metres + metres.0 * (paying.0 as i64);
-    let kw = total.0 + paying.0;
+    let paying = zone.paying.0;
     Over {
-        metres: sum,
-        total: Kw(kw),
+        metres: over.metres + metres_of(zone).0 * (paying as i64),
+        total: Kw(over.total.0 + paying),
     }
 }
 
 // What zones 1 to count come to.
-pub fn over_zones(sums: [ZoneSums; 32], count: usize) -> Over
-    requires { AllFit sums × (count ≤ 32) }
-    ensures { result ≡ over_from sums count }
+pub fn over_zones(sums: &[ZoneSums; 32], count: usize) -> Over
+    requires { AllFit sums.now × (count ≤ 32) }
+    ensures { result ≡ over_from sums.now count }
 {
     let mut over = Over {
         metres: 0,
         total: Kw(0),
     };
-    let mut k = 0;
-    while k < count {
+    for k in 0..count {
         over = with_zone(over, sums[k]);
-        k += 1;
     }
     over
 }
@@ -60,9 +54,7 @@ pub fn c_of(p: u64, generation: Over, demand: Over) -> Metres
     ensures { result.0 ≡ centre p generation.metres demand.metres generation.total.0 demand.total.0 }
 {
     let q = 1000 - p;
-    let tec = generation.total;
-    let load = demand.total;
     let above = (q as i64) * demand.metres - (p as i64) * generation.metres;
-    let below = p * tec.0 + q * load.0;
+    let below = p * generation.total.0 + q * demand.total.0;
     Metres(integers::nearest(above, below))
 }

@@ -4,9 +4,10 @@ ghost use Rattle.meaning.specs.Charging.{with_c};
 ghost use Rattle.tariffs.specs.Sides.{wider_from, wider_over, MetresFit, TermsFit};
 
 use crate::price::price;
+use crate::priced::{Charge, Priced, price_places};
+use crate::zonal::Zonal;
 use meaning::{Kw, Metres, Side, WiderFigures};
 use rests::Rest;
-use zones::ZoneSums;
 
 // What prices the zones of a side: C, expansion constant and security factor.
 #[derive(Clone, Copy)]
@@ -17,11 +18,11 @@ pub struct Terms {
     pub factor: usize,
 }
 
-// The zones' figures, and the rest without what their tariffs bring in.
+// A side in a background, and what prices its zones.
 #[derive(Clone, Copy)]
-pub struct Wider {
-    pub lines: [WiderFigures; 32],
-    pub rest: Rest,
+pub struct Zoned<'a> {
+    pub zonal: &'a Zonal,
+    pub terms: Terms,
 }
 
 // Step 8: metres after C.
@@ -29,11 +30,9 @@ pub fn after_c(metres: Metres, terms: Terms) -> Metres
     requires { (nat_abs metres.0 ≤ 650000000) × TermsFit terms }
     ensures { result.0 ≡ with_c terms.side terms.c.0 metres.0 }
 {
-    let c = terms.c;
-    let side = terms.side;
-    match side {
-        Side::Generation => Metres(metres.0 + c.0),
-        Side::Demand => Metres(metres.0 - c.0),
+    match terms.side {
+        Side::Generation => Metres(metres.0 + terms.c.0),
+        Side::Demand => Metres(metres.0 - terms.c.0),
     }
 }
 
@@ -42,39 +41,31 @@ pub fn wider_line(metres: Metres, terms: Terms) -> WiderFigures
     requires { (nat_abs metres.0 ≤ 650000000) × TermsFit terms }
     ensures { result ≡ wider_from terms metres.0 }
 {
-    let after = after_c(metres, terms);
-    let tariff = price(after, terms.constant, terms.factor);
+    let after_c = after_c(metres, terms);
     WiderFigures {
-        metres: metres,
-        after_c: after,
-        tariff: tariff,
+        metres,
+        after_c,
+        tariff: price(after_c, terms.constant, terms.factor),
     }
 }
 
-// The same of zones 1 to count, their tariffs taken off the rest.
+// The same of all its zones, their tariffs taken off the rest.
 pub fn wider_lines(
-    metres: [Metres; 32],
-    sums: [ZoneSums; 32],
-    count: usize,
-    terms: Terms,
+    metres: &[Metres; 32],
+    zoned: &Zoned,
     rest: Rest,
     payers: Kw,
-) -> Wider
-    requires { MetresFit metres × (count ≤ 32) × TermsFit terms }
-    ensures { result ≡ wider_over metres sums count terms rest payers.0 }
+) -> Priced<WiderFigures, 32>
+    requires { MetresFit metres.now × (zoned.now.zonal.now.count ≤ 32) × TermsFit zoned.now.terms }
+    ensures { result ≡ wider_over metres.now zoned.now.zonal.now.sums zoned.now.zonal.now.count zoned.now.terms rest payers.0 }
 {
-    let mut lines = [steps::no_wider(); 32];
-    let mut left = rest;
-    let mut k = 0;
-    while k < count {
-        let zone = sums[k];
-        let line = wider_line(metres[k], terms);
-        left = rests::less(left, payers, line.tariff, zone.paying);
-        lines[k] = line;
-        k += 1;
-    }
-    Wider {
-        lines: lines,
-        rest: left,
-    }
+    let sums = &zoned.zonal.sums;
+    price_places(steps::no_wider(), zoned.zonal.count, rest, payers, |k| {
+        let line = wider_line(metres[k], zoned.terms);
+        Charge {
+            line,
+            tariff: line.tariff,
+            kw: sums[k].paying,
+        }
+    })
 }

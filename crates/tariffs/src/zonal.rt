@@ -2,7 +2,8 @@
 ghost use Rattle.std.specs.Prelude.{◌≡◌, ◌≤◌};
 ghost use Rattle.zones.specs.Sums.{zone_sums};
 ghost use Rattle.tariffs.specs.Sides.{zonal_from};
-ghost use Rattle.tariffs.specs.Case.{at_peak, sides_over, backgrounds_over, SettingsFit};
+ghost use Rattle.meaning.specs.declared.Side.TheVariants.{Generation, Demand};
+ghost use Rattle.tariffs.specs.Case.{at_peak, backgrounds_over, by_side, SettingsFit};
 
 use crate::over::{Over, over_zones};
 use meaning::{Edition, Kw, Settings, Side};
@@ -23,6 +24,18 @@ pub struct Sides {
     pub demand: Zonal,
 }
 
+impl Sides {
+    // The zones of a side.
+    pub fn of(&self, side: Side) -> &Zonal
+        ensures { result.now ≡ by_side self.now.generation self.now.demand side }
+    {
+        match side {
+            Side::Generation => &self.generation,
+            Side::Demand => &self.demand,
+        }
+    }
+}
+
 // The sides of both backgrounds.
 #[derive(Clone, Copy)]
 pub struct Backgrounds {
@@ -40,62 +53,43 @@ pub fn at_peak(edition: Edition, count: usize) -> usize
     }
 }
 
-// A side, by each node's zone, kilowatts that weigh, kilowatts that pay and wider potential.
-pub fn side_of(
-    side: Side,
-    count: usize,
-    nodes: usize,
-    zone: [usize; 256],
-    weight: [Kw; 256],
-    paying: [Kw; 256],
-    wider: &[i64],
-) -> Zonal
+// Of each node the zone on a side, the kilowatts that weigh, and those that pay.
+#[derive(Clone, Copy)]
+pub struct Nodes<'a> {
+    pub zone: &'a [usize; 256],
+    pub weight: &'a [Kw; 256],
+    pub paying: &'a [Kw; 256],
+}
+
+// A side of that many nodes, by their wider potentials.
+fn side_of(side: Side, count: usize, nodes: usize, of: &Nodes, wider: &[i64]) -> Zonal
     requires { count ≤ 32 }
-    ensures { result ≡ zonal_from (zone_sums side nodes zone weight paying wider.now) count }
+    ensures { result ≡ zonal_from (zone_sums side nodes of.now.zone.now of.now.weight.now of.now.paying.now wider.now) count }
 {
-    let sums = zones::sums_by_zone(side, nodes, zone, weight, paying, wider);
+    let sums = zones::sums_by_zone(side, nodes, *of.zone, *of.weight, *of.paying, wider);
     Zonal {
-        count: count,
-        sums: sums,
-        over: over_zones(sums, count),
+        count,
+        over: over_zones(&sums, count),
+        sums,
     }
 }
 
-// Both: generation weighs by TEC, demand by demand, all of which pays.
-pub fn sides_of(
+// Both sides: generation weighs by TEC, demand by demand, all of which pays.
+fn sides_of(
     generation_zones: usize,
     demand_zones: usize,
     nodes: usize,
-    generation_zone: [usize; 256],
-    tec: [Kw; 256],
-    paying: [Kw; 256],
-    demand_zone: [usize; 256],
-    demand: [Kw; 256],
+    generation: &Nodes,
+    demand: &Nodes,
     wider: &[i64],
 ) -> Sides
     requires { (generation_zones ≤ 32) × (demand_zones ≤ 32) }
-    ensures { result ≡ sides_over generation_zones demand_zones nodes generation_zone tec paying demand_zone demand wider.now }
+    ensures generation { result.generation ≡ zonal_from (zone_sums Generation nodes generation.now.zone.now generation.now.weight.now generation.now.paying.now wider.now) generation_zones }
+    ensures demand { result.demand ≡ zonal_from (zone_sums Demand nodes demand.now.zone.now demand.now.weight.now demand.now.paying.now wider.now) demand_zones }
 {
-    let generation = side_of(
-        Side::Generation,
-        generation_zones,
-        nodes,
-        generation_zone,
-        tec,
-        paying,
-        wider,
-    );
     Sides {
-        generation: generation,
-        demand: side_of(
-            Side::Demand,
-            demand_zones,
-            nodes,
-            demand_zone,
-            demand,
-            demand,
-            wider,
-        ),
+        generation: side_of(Side::Generation, generation_zones, nodes, generation, wider),
+        demand: side_of(Side::Demand, demand_zones, nodes, demand, wider),
     }
 }
 
@@ -103,32 +97,29 @@ pub fn sides_of(
 pub fn backgrounds_of(
     settings: Settings,
     nodes: usize,
-    zone: [usize; 256],
-    tec: [Kw; 256],
-    paying: [Kw; 256],
-    paying_at_peak: [Kw; 256],
-    demand_zone: [usize; 256],
-    demand: [Kw; 256],
+    generation: &Nodes,
+    paying_at_peak: &[Kw; 256],
+    demand: &Nodes,
     wider: &[i64],
     peak_wider: &[i64],
 ) -> Backgrounds
-    requires { SettingsFit settings }
-    ensures { result ≡ backgrounds_over settings nodes zone tec paying paying_at_peak demand_zone demand wider.now peak_wider.now }
+    requires { SettingsFit settings × (demand.now.paying.now ≡ demand.now.weight.now) }
+    ensures { result ≡ backgrounds_over settings nodes generation.now.zone.now generation.now.weight.now generation.now.paying.now paying_at_peak.now demand.now.zone.now demand.now.weight.now wider.now peak_wider.now }
 {
     let g = settings.generation_zones;
     let d = settings.demand_zones;
     let edition = settings.edition;
-    let sides = sides_of(g, d, nodes, zone, tec, paying, demand_zone, demand, wider);
+    let generation_at_peak = Nodes {
+        paying: paying_at_peak,
+        ..*generation
+    };
     Backgrounds {
-        year_round: sides,
+        year_round: sides_of(g, d, nodes, generation, demand, wider),
         peak: sides_of(
             at_peak(edition, g),
             at_peak(edition, d),
             at_peak(edition, nodes),
-            zone,
-            tec,
-            paying_at_peak,
-            demand_zone,
+            &generation_at_peak,
             demand,
             peak_wider,
         ),

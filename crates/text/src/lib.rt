@@ -9,6 +9,7 @@ ghost use Rattle.text.specs.Writing.{Fitted};
 ghost use Rattle.text.specs.Refusing.{Refuses};
 
 use meaning::{Figures, Refusal, Section};
+use sections::Names;
 
 // Writes the text of figures, with the names that begin the rows of a section, at the front of a buffer that holds it; a shorter one is left as it is. The length is that of the text.
 // These are any figures, whether or not a case has them: that they are those of the case in the file is what `sheet::write` promises.
@@ -16,13 +17,14 @@ use meaning::{Figures, Refusal, Section};
 pub fn write_figures(figures: Figures, file: &[u8], rows: Section, out: &mut [u8]) -> usize
     ensures { Fitted (text_of figures file.now rows) out.old out.new result }
 {
-    if sections::sized(figures, file, rows) {
+    let names = Names { file, rows };
+    if sections::sized(&figures, &names) {
         let mut aside = [0u8; sections::ROOM];
-        let length = sections::put_figures(&mut aside, figures, file, rows);
+        let length = sections::put_figures(&mut aside, &figures, &names);
         if out.len() < length {
             return length;
         }
-        return put::put_bytes(out, 0, &aside[0..length]);
+        return put::put_bytes(out, 0, &aside[..length]);
     }
     0
 }
@@ -37,6 +39,6 @@ pub fn refuse(cause: Refusal, out: &mut [u8]) -> usize
     if out.len() < REFUSAL_ROOM {
         return 0;
     }
-    let carried = answers::of_refusal(cause);
-    put::put_line(out, 0, lines::refused_line(carried))
+    let line = lines::refused_line(answers::of_refusal(cause));
+    put::put_line(out, 0, &line)
 }

@@ -9,23 +9,15 @@ pub fn put_bytes(out: &mut [u8], at: usize, text: &[u8]) -> usize
     requires { at + length text.now ≤ length out.old }
     ensures { Put (length text.now) out.old at text.now out.new result }
 {
-    let mut i = 0;
-    while i < text.len() {
-        out[at + i] = text[i];
-        i += 1;
-    }
-    at + i
+    let end = at + text.len();
+    out[at..end].copy_from_slice(text);
+    end
 }
 
 // Copies a line.
-pub fn put_line(out: &mut [u8], at: usize, line: Line) -> usize
-    requires { (line.len ≤ width) × (line.len ≤ length line.bytes) × (at + line.len ≤ length out.old) }
-    ensures { Put line.len out.old at (take line.len line.bytes) out.new result }
+pub fn put_line(out: &mut [u8], at: usize, line: &Line) -> usize
+    requires { (line.now.len ≤ width) × (at + line.now.len ≤ length out.old) }
+    ensures { Put line.now.len out.old at (take line.now.len line.now.bytes) out.new result }
 {
-    let mut i: usize = 0;
-    while i < line.len {
-        out[at + i] = line.bytes[i];
-        i += 1;
-    }
-    at + i
+    put_bytes(out, at, &line.bytes[..line.len])
 }

@@ -2,12 +2,15 @@
 use mathlib.Core.Path.{◌≡◌, refl, sym, ap}
 use mathlib.Core.Bool.{true}
 use mathlib.Core.List.{List}
-use Prim.Native.Nat.{ℕ, ◌≤◌, ◌<◌}
+use Prim.Native.Nat.{ℕ, ◌+◌, ◌≤◌, ◌<◌}
 use native.Mathlib.Decide.{dec_le}
 use native.Mathlib.Omega.{arith}
 use borrow.Author.Tests.{le-leb, lt-leb}
 use lib.Dec.{leb}
+use lib.ListN.{take}
+use Rattle.std.proofs.lemmas.List.{get_or-take}
 use Rattle.integers.specs.Numbers.{sum}
+use Rattle.integers.proofs.Sum.{sum_more}
 use Rattle.meaning.specs.declared.Kw.{Kw}
 use Rattle.meaning.specs.Grid.{sound_totals}
 use Rattle.meaning.specs.Columns.{kilowatts, kw_at}
@@ -27,6 +30,10 @@ module _ (n : ℕ) (column : List Kw) where
   pub added_up : n ≤ 256 → sum n (kw_at column) ≤ 100000000 → kilowatts (sum n (kw_at column)) ≡ total_of n column
   unfolding total_of
   added_up few h = rw (le-leb n 256 few, le-leb (sum n (kw_at column)) 100000000 h) refl
+
+  -- one more of the first n
+  pub one_more : {total : ℕ} (i : ℕ) → total ≡ sum i (kw_at column) → i < n → total + kw_at (take n column) i ≡ sum (i + 1) (kw_at column)
+  one_more i e h = omega (arith, e, sum_more i (kw_at column), ap (λ (k : Kw). k.0) (get_or-take n column i (kilowatts 0) h))
 
   -- a total in the range of 7 is the sum
   pub total_is : (total_of n column).0 ≤ 100000000 → (n ≤ 256) × ((total_of n column).0 ≡ sum n (kw_at column))

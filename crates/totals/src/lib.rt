@@ -14,15 +14,12 @@ pub fn total(n: usize, column: [Kw; 256]) -> Kw
     if n > 256 {
         return Kw(100000001);
     }
-    let mut total: u64 = 0;
-    let mut v: usize = 0;
-    while v < n {
-        let kw = column[v].0;
-        if kw > 100000000 - total {
+    let mut total = 0;
+    for kw in &column[..n] {
+        if kw.0 > 100000000 - total {
             return Kw(100000001);
         }
-        total += kw;
-        v += 1;
+        total += kw.0;
     }
     Kw(total)
 }

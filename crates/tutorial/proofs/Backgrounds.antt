@@ -9,7 +9,7 @@ use Rattle.meaning.specs.Rows.{rows}
 use Rattle.meaning.specs.declared.Edition.TheVariants.{Second}
 use Rattle.meaning.specs.declared.Background.{Background}
 use Rattle.meaning.specs.declared.Background.TheVariants.{YearRound, Peak}
-use Rattle.meaning.specs.declared.Judgement.TheVariants.{Stops}
+use Rattle.std.specs.Prelude.{Err}
 use Rattle.meaning.specs.declared.Refusal.TheVariants.{Unscalable}
 use Rattle.meaning.specs.Study.{Station, Runs, Metres, runs_of}
 use Rattle.meaning.specs.File.{study_of}
@@ -161,6 +161,6 @@ closed_metres = (refl, refl)
 abbrev windy : List ℕ
 windy = file_with (stations_with 7 1 peaking) example_runs
 
-windy_refused : (total_fixed (grid_of (study_of windy)) YearRound ≡ 329000) × (judged windy example_runs [] ≡ Stops Unscalable) × (prints windy [] ≡ text "refused 14 0 0\n")
+windy_refused : (total_fixed (grid_of (study_of windy)) YearRound ≡ 329000) × (judged windy example_runs [] ≡ Err Unscalable) × (prints windy [] ≡ text "refused 14 0 0\n")
 unfolding opened
 windy_refused = (refl, refl, refl)

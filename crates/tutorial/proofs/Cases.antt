@@ -12,7 +12,7 @@ use Rattle.meaning.specs.Study.{Node, Circuit, Station, Study, Runs, three_runs}
 use Rattle.meaning.specs.declared.Background.TheVariants.{YearRound}
 use Rattle.meaning.specs.declared.System.TheVariants.{Wider}
 use Rattle.meaning.specs.declared.Refusal.TheVariants.{MissesTooHigh}
-use Rattle.meaning.specs.declared.Judgement.TheVariants.{Stops}
+use Rattle.std.specs.Prelude.{Err}
 use Rattle.meaning.specs.Outcome.{judged}
 use Rattle.meaning.specs.Conditions.{Acceptable}
 use Rattle.meaning.proofs.Write.{name, file_of}
@@ -301,6 +301,6 @@ exchanged_acceptable = (judged_pass exchanged exchanged_runs []).0 refl
 abbrev pub flat_runs : Runs
 flat_runs = runs_with tut_base (replicate 8 (pos 0))
 
-pub flat_refused : judged tut flat_runs [] ≡ Stops (MissesTooHigh (Wider YearRound))
+pub flat_refused : judged tut flat_runs [] ≡ Err (MissesTooHigh (Wider YearRound))
 unfolding opened
 flat_refused = refl

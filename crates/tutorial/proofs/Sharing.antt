@@ -8,7 +8,7 @@ use Prim.Native.Nat.{ℕ, suc}
 use lib.IntN.{pos, neg_ℤ}
 use Rattle.meaning.specs.Text.{text}
 use Rattle.meaning.specs.Rows.{rows}
-use Rattle.meaning.specs.declared.Judgement.TheVariants.{Stops}
+use Rattle.std.specs.Prelude.{Err}
 use Rattle.meaning.specs.declared.Refusal.TheVariants.{BadShare}
 use Rattle.meaning.specs.declared.Side.TheVariants.{Generation}
 use Rattle.meaning.specs.declared.Background.TheVariants.{YearRound}
@@ -72,7 +72,7 @@ shared_centre : OneCentre example_grid share
 shared_centre = chains_end_at_one_centre example example_runs share shared_acceptable in_force_lem
 
 -- without the file, and with an empty one, the sheet is as before; A and D both as centres are refused at D, and C's zone, which has no TEC, may not be named
-without : (prints example [] ≡ example_sheet) × (judged example example_runs (share_with 2 0 0 0) ≡ Stops (BadShare 4)) × (judged example example_runs (share_with 3 4 0 0) ≡ Stops (BadShare 1))
+without : (prints example [] ≡ example_sheet) × (judged example example_runs (share_with 2 0 0 0) ≡ Err (BadShare 4)) × (judged example example_runs (share_with 3 4 0 0) ≡ Err (BadShare 1))
     × (prints example (1 ∷ []) ≡ text "refused 16 0 0\n")
 unfolding opened
 without = (refl, refl, refl, refl)

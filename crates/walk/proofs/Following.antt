@@ -12,7 +12,7 @@ use Rattle.meaning.specs.Network.{Network}
 use Rattle.meaning.proofs.Walk.{Joins}
 use Rattle.meaning.proofs.Rows.{below_suc}
 use Rattle.bits.specs.Sets.{has, in_word, SetOf}
-use Rattle.walk.specs.Walk.{waits_in, NextFrom, Followed}
+use Rattle.walk.specs.Walk.{waits_in, LowestFrom, Followed}
 use Rattle.meaning.proofs.Tests.{or_elim, or_left, or_right, and_elim, and_intro}
 
 -- ---- a search from a row on, as far as c
@@ -20,29 +20,6 @@ pub record Sought (test : ℕ → Bool) (from m c : ℕ) : Type 0 where
   pub after : from ≤ c
   pub within : c ≤ m
   pub none : (j : ℕ) → from ≤ j → j < c → test j ≡ false
-
-module _ {test : ℕ → Bool} {from m : ℕ} where
-  pub sought_none : from ≤ m → Sought test from m from
-  sought_none h = record { after = omega arith; within = h; none = λ j k l. absurd (omega arith) }
-
-  pub sought_more : {c : ℕ} → Sought test from m c → c < m → test c ≡ false → Sought test from m (c + 1)
-  sought_more {c} s h e = record { after = omega (arith, s.after); within = omega arith; none = λ j k l. go j k (below_suc c j (omega arith)) }
-    where
-      go : (j : ℕ) → from ≤ j → (j < c) ⊎ (j ≡ c) → test j ≡ false
-      go j k (inl l) = s.none j k l
-      go j k (inr q) = rw q e
-
-  pub sought_here : {c : ℕ} → Sought test from m c → test c ≡ true → NextFrom test from m c
-  sought_here s e = record { after = s.after; within = s.within; between = s.none; here = λ _. e }
-
-  pub sought_end : {c : ℕ} → Sought test from m c → m ≤ c → NextFrom test from m m
-  sought_end s h =
-      record {
-        after = omega (arith, s.after, s.within);
-        within = omega arith;
-        between = λ j k l. s.none j k (omega arith);
-        here = λ k. absurd (omega arith);
-      }
 
 -- ---- the circuits that have an end among some nodes
 module _ (N : Network) where
@@ -58,7 +35,7 @@ module _ (N : Network) where
     followed_none old = record { kept = λ v e. e; full = λ j u v h. absurd (omega arith); sound = λ P h on. h }
 
     -- circuits without an end among the nodes visited, or among more nodes than these, lead nowhere
-    followed_over : {old new : List ℕ} {more : ℕ → Bool} {c r m : ℕ} → ((v : ℕ) → visits v ≡ true → more v ≡ true) → Followed N visits c old new → NextFrom (ends more) c m r → Followed N visits r old new
+    followed_over : {old new : List ℕ} {more : ℕ → Bool} {c r m : ℕ} → ((v : ℕ) → visits v ≡ true → more v ≡ true) → Followed N visits c old new → LowestFrom (ends more) c m r → Followed N visits r old new
     followed_over {old} {new} {more} {c} {r} grow s n = record { kept = s.kept; full = λ j u v h e l i. go j u v h e l i (dec_lt j c); sound = s.sound }
       where
         go : (j u v : ℕ) → j < r → visits u ≡ true → v < N.nodes → Joins N j u v → Dec (j < c) → has new v ≡ true
@@ -151,14 +128,14 @@ module _ (N : Network) (visited : List ℕ) (w : ℕ) where
       go (inr p) = or_right (has set (N.first c)) (has set (N.second c)) (waits_reached set (N.second c) p)
 
   -- the search goes by the word of what waits
-  next_waits : (set : List ℕ) (word : ℕ) {from m r : ℕ} → ((v : ℕ) → in_word w word v ≡ waits set v) → NextFrom (ends N (in_word w word)) from m r → NextFrom (ends N (waits set)) from m r
+  next_waits : (set : List ℕ) (word : ℕ) {from m r : ℕ} → ((v : ℕ) → in_word w word v ≡ waits set v) → LowestFrom (ends N (in_word w word)) from m r → LowestFrom (ends N (waits set)) from m r
   next_waits set word e n =
       record { after = n.after; within = n.within; between = λ j h k. sym (same j) ∙ n.between j h k; here = λ h. sym (same _) ∙ n.here h }
     where
       same : (j : ℕ) → ends N (in_word w word) j ≡ ends N (waits set) j
       same j = ap₂ ◌||◌ (e (N.first j)) (e (N.second j))
 
-  pub following_begins : {old : List ℕ} (word : ℕ) {m r : ℕ} → ((v : ℕ) → in_word w word v ≡ waits old v) → NextFrom (ends N (in_word w word)) 0 m r → Following m r old old
+  pub following_begins : {old : List ℕ} (word : ℕ) {m r : ℕ} → ((v : ℕ) → in_word w word v ≡ waits old v) → LowestFrom (ends N (in_word w word)) 0 m r → Following m r old old
   following_begins {old} word {m} {r} e k =
       let n = next_waits old word e k in
       record { followed = followed_over N (waits old) (λ v p. p) (followed_none N (waits old) old) n; within = n.within; here = λ h. ends_reached old r (n.here h) }
@@ -166,7 +143,7 @@ module _ (N : Network) (visited : List ℕ) (w : ℕ) where
   pub following_on : (old new middle more : List ℕ) (word : ℕ) {c r : ℕ} → Following N.circuits c old new → c < N.circuits
       → SetOf middle (λ m. has new m || (eqb m (N.first c) && ltb m N.nodes))
       → SetOf more (λ m. has middle m || (eqb m (N.second c) && ltb m N.nodes))
-      → ((v : ℕ) → in_word w word v ≡ waits more v) → NextFrom (ends N (in_word w word)) (c + 1) N.circuits r → Following N.circuits r old more
+      → ((v : ℕ) → in_word w word v ≡ waits more v) → LowestFrom (ends N (in_word w word)) (c + 1) N.circuits r → Following N.circuits r old more
   following_on old new middle more word {c} {r} s h first second e k =
       let n = next_waits more word e k in
       let f = followed_more N (waits old) old new middle more s.followed h (s.here h) first second in

@@ -11,7 +11,7 @@ use borrow.Author.Tests.{eq-eqb, eqb-true, ltb-true, lt-ltb}
 use Rattle.integers.specs.Numbers.{count}
 use Rattle.integers.proofs.Count.{count-le, count_more, count_full}
 use Rattle.meaning.specs.declared.Refusal.TheVariants.{Unreached}
-use Rattle.meaning.specs.declared.Judgement.TheVariants.{Passes, Stops}
+use Rattle.std.specs.Prelude.{Ok, Err}
 use Rattle.meaning.specs.First.{IsFirst}
 use Rattle.meaning.specs.Network.{Network, marked, reached_nodes, reach_stage}
 use Rattle.meaning.proofs.First.{first_as, at_first, at_none}
@@ -108,10 +108,10 @@ module _ (reached visited waiting : List ℕ) (holds : SetOf waiting (λ m. has 
 
 -- ---- the stage
 module _ (N : Network) (reached : List ℕ) (holds : SetOf reached (marked (reached_nodes N))) where
-  pub node_unreached : {r : ℕ} → IsFirst (λ v. not (has reached v)) N.nodes r → r < N.nodes → Stops (Unreached (r + 1)) ≡ reach_stage N
+  pub node_unreached : {r : ℕ} → IsFirst (λ v. not (has reached v)) N.nodes r → r < N.nodes → Err (Unreached (r + 1)) ≡ reach_stage N
   unfolding reach_stage
   node_unreached f h = at_first Unreached (first_as (λ v k. ap not (holds v)) f) h
 
-  pub all_reached : {r : ℕ} → IsFirst (λ v. not (has reached v)) N.nodes r → N.nodes ≤ r → Passes ≡ reach_stage N
+  pub all_reached : {r : ℕ} → IsFirst (λ v. not (has reached v)) N.nodes r → N.nodes ≤ r → Ok tt ≡ reach_stage N
   unfolding reach_stage
   all_reached f h = at_none Unreached (first_as (λ v k. ap not (holds v)) f) h

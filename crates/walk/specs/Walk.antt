@@ -1,5 +1,5 @@
 -- 6, and 02, request 4: what is walked, and what a visit finds.
-use Rattle.std.specs.Prelude.{◌≡◌, Bool, true, false, not, ◌&&◌, ◌||◌, List, [], ℕ, ◌/◌, ◌≤◌, ◌<◌, min, eqb}
+use Rattle.std.specs.Prelude.{◌≡◌, Bool, true, false, not, ◌&&◌, ◌||◌, List, [], ℕ, ◌/◌, ◌≤◌, ◌<◌, min, eqb, Option, Some, unwrap_or}
 use Rattle.meaning.specs.Network.{Network}
 use Rattle.meaning.specs.Columns.{network_in, number_at}
 use Rattle.meaning.proofs.Walk.{Joins}
@@ -18,11 +18,16 @@ abbrev pub waits_in : (reached visited : List ℕ) (w v : ℕ) → Bool
 waits_in reached visited w v = eqb (v / 64) w && (has reached v && not (has visited v))
 
 -- r is the lowest number, of those from `from` to m − 1, that passes the test; m where there is none
-pub record NextFrom (test : ℕ → Bool) (from m r : ℕ) : Type 0 where
+pub record LowestFrom (test : ℕ → Bool) (from m r : ℕ) : Type 0 where
   pub after : from ≤ r
   pub within : r ≤ m
   pub between : (j : ℕ) → from ≤ j → j < r → test j ≡ false
   pub here : r < m → test r ≡ true
+
+-- the same as a search answers it
+pub record NextFrom (test : ℕ → Bool) (from m : ℕ) (r : Option ℕ) : Type 0 where
+  pub lowest : LowestFrom test from m (unwrap_or r m)
+  pub below : (c : ℕ) → r ≡ Some c → c < m
 
 -- a visit of these nodes has followed the first c circuits: what was reached stays; of a circuit that has an end among the nodes visited the other is reached;
 -- and nothing else is: a test that all passed before, and that circuits lead on, is passed by all

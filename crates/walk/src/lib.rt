@@ -21,10 +21,11 @@ pub fn reached(
 ) -> [u64; 4]
     ensures { SetOf result (marked (reached_nodes (walked nodes reference circuits first.now second.now))) }
 {
-    let n = circuits::least(nodes, 256);
-    let m = circuits::least(circuits, 512);
-    let mut reached = circuits::with_node([0u64; 4], reference, n);
-    let mut visited = [0u64; 4];
+    let n = nodes.min(256);
+    let m = circuits.min(512);
+    let mut reached = circuits::with_node([0; 4], reference, n);
+    let mut visited = [0; 4];
+    // No `for`: trailing zeros choose the next node, and counts of ones end the walk (01's form).
     loop {
         if bits::size(reached) == n {
             return reached;
@@ -52,10 +53,10 @@ pub fn stage(
 ) -> Judgement
     ensures { result ≡ reach_stage (walked nodes reference circuits first.now second.now) }
 {
-    let n = circuits::least(nodes, 256);
+    let n = nodes.min(256);
     let row = bits::first_missing(reached(nodes, reference, circuits, first, second), n);
     if row < n {
-        return Judgement::Stops(Refusal::Unreached(row + 1));
+        return Err(Refusal::Unreached(row + 1));
     }
-    Judgement::Passes
+    Ok(())
 }

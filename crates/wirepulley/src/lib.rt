@@ -1,4 +1,5 @@
-// The library as C and Rust call it: a slice is a pointer and a count there, and an answer is four numbers. The crate wirepulley_c exports these functions.
+// The library as C and Rust call it: a slice is a pointer and a count there, and an answer is four numbers. The crate wirepulley_c exports these functions:
+// six and not two with optional runs, since the C interface has these names and parameters.
 #![tactic(auto)]
 
 ghost use Rattle.std.specs.Prelude.{[]};
@@ -6,7 +7,7 @@ ghost use Rattle.meaning.specs.Study.{runs_of, three_runs};
 ghost use Rattle.meaning.specs.Outcome.{answer_of};
 ghost use Rattle.meaning.specs.Calls.{Tells, ToldKept};
 
-use meaning::Answer;
+use meaning::{Answer, Solutions};
 
 // Tells an answer in four numbers, and gives the first of them.
 fn tell(answer: Answer, numbers: &mut [u64; 4]) -> u64
@@ -35,8 +36,7 @@ pub fn wirepulley_write(
 ) -> u64
     ensures { ToldKept (record { file = file.now; runs = three_runs base.now wider.now local.now; share = []; before = out.old; result = result; after = out.new; numbers = numbers.new }) }
 {
-    let answer = sheet::write(file, base, wider, local, &[], &[], &[], out);
-    tell(answer, numbers)
+    wirepulley_write_five(file, base, wider, local, &[], &[], out, numbers)
 }
 
 // The same for a case of either edition: peak's runs are empty in edition 1.
@@ -52,8 +52,17 @@ pub fn wirepulley_write_five(
 ) -> u64
     ensures { ToldKept (record { file = file.now; runs = runs_of base.now wider.now local.now peak_base.now peak_wider.now; share = []; before = out.old; result = result; after = out.new; numbers = numbers.new }) }
 {
-    let answer = sheet::write(file, base, wider, local, peak_base, peak_wider, &[], out);
-    tell(answer, numbers)
+    wirepulley_write_shared(
+        file,
+        base,
+        wider,
+        local,
+        peak_base,
+        peak_wider,
+        &[],
+        out,
+        numbers,
+    )
 }
 
 // The same with the bytes of a share file (02, request 6), none for no file; it counts in edition 2 alone.
@@ -70,7 +79,14 @@ pub fn wirepulley_write_shared(
 ) -> u64
     ensures { ToldKept (record { file = file.now; runs = runs_of base.now wider.now local.now peak_base.now peak_wider.now; share = share.now; before = out.old; result = result; after = out.new; numbers = numbers.new }) }
 {
-    let answer = sheet::write(file, base, wider, local, peak_base, peak_wider, share, out);
+    let runs = Solutions {
+        base,
+        wider,
+        local,
+        peak_base,
+        peak_wider,
+    };
+    let answer = sheet::write(file, &runs, share, out);
     tell(answer, numbers)
 }
 
@@ -84,8 +100,7 @@ pub fn wirepulley_judge(
 ) -> u64
     ensures { Tells (answer_of file.now (three_runs base.now wider.now local.now) []) numbers.new result }
 {
-    let answer = sheet::judge(file, base, wider, local, &[], &[], &[]);
-    tell(answer, numbers)
+    wirepulley_judge_five(file, base, wider, local, &[], &[], numbers)
 }
 
 // The same for a case of either edition.
@@ -100,8 +115,16 @@ pub fn wirepulley_judge_five(
 ) -> u64
     ensures { Tells (answer_of file.now (runs_of base.now wider.now local.now peak_base.now peak_wider.now) []) numbers.new result }
 {
-    let answer = sheet::judge(file, base, wider, local, peak_base, peak_wider, &[]);
-    tell(answer, numbers)
+    wirepulley_judge_shared(
+        file,
+        base,
+        wider,
+        local,
+        peak_base,
+        peak_wider,
+        &[],
+        numbers,
+    )
 }
 
 // The same with a share file.
@@ -117,6 +140,13 @@ pub fn wirepulley_judge_shared(
 ) -> u64
     ensures { Tells (answer_of file.now (runs_of base.now wider.now local.now peak_base.now peak_wider.now) share.now) numbers.new result }
 {
-    let answer = sheet::judge(file, base, wider, local, peak_base, peak_wider, share);
+    let runs = Solutions {
+        base,
+        wider,
+        local,
+        peak_base,
+        peak_wider,
+    };
+    let answer = sheet::judge(file, &runs, share);
     tell(answer, numbers)
 }

@@ -1,5 +1,5 @@
 -- TEC times load factor, added up plant type by plant type.
-use mathlib.Core.Path.{◌≡◌, refl, sym, ◌∙◌, ap}
+use mathlib.Core.Path.{◌≡◌, refl, sym, ◌∙◌, ap, ap₂}
 use mathlib.Core.Bool.{Bool, true, false, cond}
 use mathlib.Core.List.{List}
 use Prim.Native.Nat.{ℕ, suc, ◌+◌, ◌*◌, ◌/◌, ◌≤◌, ◌<◌}
@@ -7,15 +7,18 @@ use native.Mathlib.Nat.{mul-le-mul}
 use native.Mathlib.Numerals.{add-one}
 use native.Mathlib.Decide.{dec_lt}
 use native.Mathlib.Omega.{arith}
-use borrow.Author.Tests.{lt-ltb}
-use lib.ListN.{replicate}
+use lib.ListN.{replicate, get_or}
+use denote.Param.Members.{Mut}
+use Rattle.std.proofs.lemmas.List.{ext_get_or}
+use Rattle.std.specs.Array.{IsMapOf}
+use Rattle.std.specs.Fn.{Called}
 use Rattle.integers.proofs.Sum.{sum-zero, sum-suc, sum_bound}
 use Rattle.meaning.specs.declared.Kw.{Kw}
 use Rattle.meaning.specs.declared.Plant.{Plant}
-use Rattle.meaning.specs.Columns.{kilowatts, number_at, kw_at, column}
+use Rattle.meaning.specs.Columns.{kilowatts, number_at, kw_at}
 use Rattle.meaning.specs.Grid.{plant_of, pays}
 use Rattle.meaning.specs.Rows.{rows}
-use Rattle.meaning.proofs.Rows.{rows_at, rows_past, rows_same, rows_none}
+use Rattle.meaning.proofs.Rows.{rows_at, rows_past, rows_same, rows_none, length_rows}
 use Rattle.plants.specs.declared.Counted.TheVariants.{Paying, Of}
 use Rattle.plants.specs.Counted.{part_of}
 use Rattle.station_table.specs.Tec.{by_node}
@@ -25,13 +28,16 @@ use Rattle.zone_kw.proofs.ZoneLaws.{kept_low, zone_low}
 
 -- ---- one plant type
 module _ (plant : Plant) (kw factor : ℕ) where
-  pub load_is : part_of Paying plant kw * kept 1000 factor ≡ load_of plant kw factor
+  load_is : part_of Paying plant kw * kept 1000 factor ≡ load_of plant kw factor
   unfolding part_of load_of
   load_is = go (pays plant)
     where
       go : (b : Bool) → cond b kw 0 * kept 1000 factor ≡ cond b (kw * kept 1000 factor) 0
       go true = refl
       go false = omega arith
+
+  pub load_made : {pays scaled : ℕ} → pays ≡ part_of Paying plant kw → scaled ≡ kept 1000 factor → pays * scaled ≡ load_of plant kw factor
+  load_made e f = ap₂ ◌*◌ e f ∙ load_is
 
   pub load_low : kw ≤ 25600000000 → load_of plant kw factor ≤ 25600000000000
   unfolding load_of
@@ -46,12 +52,6 @@ module _ (sums : List ℕ) (plant : Plant) (kw : List Kw) (factor : ℕ) where
   -- zone k + 1 with a plant type more
   abbrev pub more : (k : ℕ) → ℕ
   more k = number_at sums k + load_of plant (kw_at kw k) factor
-
-  pub more_done : (k : ℕ) {all : List ℕ} → all ≡ column 0 32 k more → k ≤ 32 → 32 ≤ k → all ≡ with_type sums plant kw factor
-  unfolding with_type column
-  more_done k e h l =
-      let q : k ≡ 32 = omega arith in
-      (rw q at e) ∙ rows_same 32 _ _ (λ k l. simp (lt-ltb k 32 l))
 
 -- ---- a loop over the plant types
 module _ (n : ℕ) (zone : List ℕ) (by_type : List Kw) (factors : List ℕ) where
@@ -80,16 +80,13 @@ module _ (n : ℕ) (zone : List ℕ) (by_type : List Kw) (factors : List ℕ) wh
             omega arith
 
     -- one plant type more
-    pub loaded_more : {plant : Plant} {at kw : List Kw} {r : List ℕ} → plant ≡ plant_of (t + 1) → at ≡ by_node by_type (Of plant) → kw ≡ by_zone n zone at
+    pub loaded_more : {plant : Plant} {at kw : List Kw} {r : List ℕ} → plant ≡ plant_of (suc t) → at ≡ by_node by_type (Of plant) → kw ≡ by_zone n zone at
         → r ≡ with_type sums plant kw (number_at factors t) → r ≡ sums_to (t + 1)
     unfolding with_type loaded
     loaded_more p a b q =
         q ∙ rw (b, a, p, add-one t) (rows_same 32 _ _ (λ k l. rw (loaded_at k l) (sym (sum-suc t _))))
 
   -- and then kilowatts, rounded down once
-  pub shared_done : (k : ℕ) {all : List Kw} {sums : List ℕ} → sums ≡ sums_to 7 → all ≡ column (kilowatts 0) 32 k (λ k. kilowatts (number_at sums k / 1000)) → k ≤ 32 → 32 ≤ k
-      → all ≡ shared_kw n zone by_type factors
-  unfolding shared_kw column
-  shared_done k s e h l =
-      let q : k ≡ 32 = omega arith in
-      (rw q at e) ∙ rows_same 32 _ _ (λ k l. simp (lt-ltb k 32 l) (ap (λ (x : ℕ). kilowatts (x / 1000)) (loaded_at 7 s k l)))
+  pub shared_rows : {sums : List ℕ} → sums ≡ sums_to 7 → rows 32 (λ k. kilowatts (number_at sums k / 1000)) ≡ shared_kw n zone by_type factors
+  unfolding shared_kw
+  shared_rows e = rows_same 32 _ _ (λ k l. ap (λ (x : ℕ). kilowatts (x / 1000)) (loaded_at 7 e k l))

@@ -1,19 +1,19 @@
 -- Kilowatts by zone, node by node, and their sizes.
 use mathlib.Core.Path.{◌≡◌, refl, sym, ◌∙◌, ap}
-use mathlib.Core.Bool.{Bool, true, false, cond, ◌&&◌, true≢false}
+use mathlib.Core.Bool.{Bool, true, false, cond, ◌&&◌}
 use mathlib.Core.List.{List}
 use Prim.Native.Nat.{ℕ, suc, ◌+◌, ◌-◌, ◌*◌, ◌^◌, ◌≤◌, ◌<◌, min}
 use native.Mathlib.Decide.{dec_lt}
 use native.Mathlib.Omega.{arith}
 use borrow.Author.Tests.{eq-eqb, ne_eqb, le-leb, lt-leb}
-use lib.Dec.{eqb, leb, ltb}
+use lib.Dec.{eqb, leb}
 use lib.ListN.{set, replicate}
 use Rattle.integers.proofs.Sum.{sum-zero, sum_more, sum_bound}
 use Rattle.meaning.specs.declared.Kw.{Kw}
 use Rattle.meaning.specs.Columns.{kilowatts, number_at, kw_at}
 use Rattle.meaning.specs.Rows.{◌between◌and◌, rows}
 use Rattle.meaning.proofs.Rows.{rows_at, rows_past, rows_same, rows_set, rows_none}
-use Rattle.meaning.proofs.Says.{agree, says_as, says_eq, says_le, says_lt, ◌also◌}
+use Rattle.meaning.proofs.Says.{agree, says_as, says_eq, says_le, ◌also◌}
 use Rattle.zone_kw.specs.ByZone.{kept, slot_of, zone_sum, by_zone}
 
 -- ---- the row of a zone
@@ -90,14 +90,9 @@ module _ (zone : List ℕ) (kw : List Kw) where
     sums_fit w l h = omega (arith, w, sums_here h, sums_low v slot, kept_low 100000000 (kw_at kw v))
 
   -- the loop is over
-  pub sums_done : (n v : ℕ) {all : List Kw} → all ≡ sums v → v ≤ n → v ≤ 256 → (ltb v n && ltb v 256) ≡ false → all ≡ by_zone n zone kw
+  pub sums_done : (n v : ℕ) {all : List Kw} {end : ℕ} → all ≡ sums v → end ≡ min n 256 → v ≤ end → end ≤ v → all ≡ by_zone n zone kw
   unfolding by_zone
-  sums_done n v e h l t = let q : v ≡ min n 256 = go (dec_lt v n) (dec_lt v 256) in rw q at e
-    where
-      go : Dec (v < n) → Dec (v < 256) → v ≡ min n 256
-      go (yes a) (yes b) = absurd (true≢false (sym ((says_lt also says_lt).1 (a, b)) ∙ t))
-      go (yes a) (no b) = omega arith
-      go (no a) b = omega arith
+  sums_done n v e m h l = let q : v ≡ min n 256 = omega (arith, m) in rw q at e
 
   -- of n nodes and no more than 256: zone k + 1, and how much it is at most
   module _ (n k : ℕ) where

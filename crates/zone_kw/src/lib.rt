@@ -15,13 +15,9 @@ pub fn by_zone(nodes: usize, zone: [usize; 256], kw: [Kw; 256]) -> [Kw; 32]
     ensures { result ≡ by_zone nodes zone kw }
 {
     let mut sums = [Kw(0); 32];
-    let mut v = 0;
-    while (v < nodes) & (v < 256) {
-        let slot = range::slot_of(zone[v]);
-        let more = range::kept(100000000, kw[v].0);
-        v += 1;
-        if slot < 32 {
-            sums[slot].0 += more;
+    for v in 0..nodes.min(256) {
+        if let Some(slot) = range::slot_of(zone[v]) {
+            sums[slot].0 += range::kept(100000000, kw[v].0);
         }
     }
     sums
@@ -37,12 +33,5 @@ pub fn shared_kw(
 ) -> [Kw; 32]
     ensures { result ≡ shared_kw nodes zone by_type factors }
 {
-    let thousandths = load::thousandths(nodes, zone, by_type, factors);
-    let mut all = [Kw(0); 32];
-    let mut k = 0;
-    while k < 32 {
-        all[k].0 = thousandths[k] / 1000;
-        k += 1;
-    }
-    all
+    load::thousandths(nodes, &zone, &by_type, &factors).map(|load| Kw(load / 1000))
 }

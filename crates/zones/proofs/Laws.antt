@@ -22,7 +22,7 @@ use Rattle.meaning.proofs.Rows.{rows_at, rows_set, rows_none}
 use Rattle.meaning.proofs.Says.{agree, says_as, says_eq, says_le, ◌also◌}
 use Rattle.zones.specs.declared.ZoneSums.{ZoneSums}
 use Rattle.zones.specs.declared.node.Part.{Part}
-use Rattle.zones.specs.Sums.{no_part, part_at, far, counts, weighs, pays, sums_to, no_sums, nodes_in, zone_sums, with_part, PartFits, SumsFit}
+use Rattle.zones.specs.Sums.{no_part, part_at, far, counts, weighs, pays, sums_to, no_sums, nodes_in, zone_sums, plus, PartFits, SumsFit}
 use Rattle.zones.proofs.Parts.{counted, full, part_full, part_none, part_fits}
 
 -- the nodes that are passed
@@ -96,30 +96,30 @@ module _ (side : Side) (zone : List ℕ) (weight paying : List Kw) (wider : List
   abbrev weighed_of : (k v : ℕ) → ℤ
   weighed_of k v = cond (eqb (number_at zone v) (suc k)) (far side zone weight paying wider v *ℤ pos (weighs side zone weight paying wider v)) (pos 0)
 
-  weight_of_lem : (k v : ℕ) → weight_of k v ≡ cond (eqb (part v).slot k) (part v).weight.0 0
-  weight_of_lem k v = taken 0 (λ (p : Part). p.weight.0) (λ (b : Bool). cond b (kw_at weight v) 0) refl refl k v refl
+  weight_of_lem : (k v : ℕ) → weight_of k v ≡ cond (eqb (part v).slot k) (part v).adds.weight.0 0
+  weight_of_lem k v = taken 0 (λ (p : Part). p.adds.weight.0) (λ (b : Bool). cond b (kw_at weight v) 0) refl refl k v refl
 
-  paying_of_lem : (k v : ℕ) → paying_of k v ≡ cond (eqb (part v).slot k) (part v).paying.0 0
-  paying_of_lem k v = taken 0 (λ (p : Part). p.paying.0) (λ (b : Bool). cond b (kw_at paying v) 0) refl refl k v refl
+  paying_of_lem : (k v : ℕ) → paying_of k v ≡ cond (eqb (part v).slot k) (part v).adds.paying.0 0
+  paying_of_lem k v = taken 0 (λ (p : Part). p.adds.paying.0) (λ (b : Bool). cond b (kw_at paying v) 0) refl refl k v refl
 
-  weighed_of_lem : (k v : ℕ) → weighed_of k v ≡ cond (eqb (part v).slot k) (part v).weighed (pos 0)
+  weighed_of_lem : (k v : ℕ) → weighed_of k v ≡ cond (eqb (part v).slot k) (part v).adds.weighed (pos 0)
   weighed_of_lem k v =
-      taken (pos 0) (λ (p : Part). p.weighed) (λ (b : Bool). far side zone weight paying wider v *ℤ pos (cond b (kw_at weight v) 0)) refl
+      taken (pos 0) (λ (p : Part). p.adds.weighed) (λ (b : Bool). far side zone weight paying wider v *ℤ pos (cond b (kw_at weight v) 0)) refl
       (mul-zero (far side zone weight paying wider v)) k v refl
 
   -- one node more
   sums_more : (v k : ℕ)
       → sums (v + 1) k ≡ record {
-        weight = kilowatts ((sums v k).weight.0 + cond (eqb (part v).slot k) (part v).weight.0 0);
-        weighed = (sums v k).weighed +ℤ cond (eqb (part v).slot k) (part v).weighed (pos 0);
-        paying = kilowatts ((sums v k).paying.0 + cond (eqb (part v).slot k) (part v).paying.0 0);
+        weight = kilowatts ((sums v k).weight.0 + cond (eqb (part v).slot k) (part v).adds.weight.0 0);
+        weighed = (sums v k).weighed +ℤ cond (eqb (part v).slot k) (part v).adds.weighed (pos 0);
+        paying = kilowatts ((sums v k).paying.0 + cond (eqb (part v).slot k) (part v).adds.paying.0 0);
       }
   unfolding sums_to
   sums_more v k =
       rw (sum_more v (weight_of k), Σ-more v (weighed_of k), sum_more v (paying_of k), weight_of_lem k v, weighed_of_lem k v, paying_of_lem k v) refl
 
-  sums_here : (v : ℕ) → sums (v + 1) (part v).slot ≡ with_part (sums v (part v).slot) (part v)
-  unfolding with_part
+  sums_here : (v : ℕ) → sums (v + 1) (part v).slot ≡ plus (sums v (part v).slot) (part v).adds
+  unfolding plus
   sums_here v = sums_more v (part v).slot ∙ rw (eq-eqb (part v).slot (part v).slot refl) refl
 
   sums_other : (v k : ℕ) → (part v).slot ≢ k → sums (v + 1) k ≡ sums v k
@@ -138,23 +138,23 @@ module _ (side : Side) (zone : List ℕ) (weight paying : List Kw) (wider : List
   pub sums_start : replicate 32 no_sums ≡ rows 32 (sums 0)
   sums_start = rows_none 32 _ no_sums (λ k h. sums_none k)
 
-  pub sums_turn : (v : ℕ) {all : List ZoneSums} {z : ZoneSums} → all ≡ rows 32 (sums v) → z ≡ with_part (get_or all (part v).slot no_sums) (part v)
+  pub sums_turn : (v : ℕ) {all : List ZoneSums} {z : ZoneSums} → all ≡ rows 32 (sums v) → z ≡ plus (get_or all (part v).slot no_sums) (part v).adds
       → set all (part v).slot z ≡ rows 32 (sums (v + 1))
   sums_turn v {z = z} e q =
       let l = (fits_at v).slot in
       let at : get_or (rows 32 (sums v)) (part v).slot no_sums ≡ sums v (part v).slot = rows_at no_sums 32 (sums v) (part v).slot l in
-      let this : z ≡ sums (v + 1) (part v).slot = q ∙ ap (λ (x : ZoneSums). with_part x (part v)) (rw e at) ∙ sym (sums_here v) in
+      let this : z ≡ sums (v + 1) (part v).slot = q ∙ ap (λ (x : ZoneSums). plus x (part v).adds) (rw e at) ∙ sym (sums_here v) in
       rw e (rows_set 32 (sums v) (sums (v + 1)) (part v).slot z l this (λ j k d. sym (sums_other v j (λ i. d (sym i)))))
 
   -- sizes, whatever the columns are
   sums_fit : (n k : ℕ) → n ≤ 256 → SumsFit (sums n k)
   unfolding sums_to
   sums_fit n k few =
-      let w = sum_bound 100000000 n (weight_of k) (λ v l. rw (weight_of_lem k v) (kw_most (eqb (part v).slot k) (part v).weight.0 100000000 (fits_at v).weight)) in
-      let p = sum_bound 100000000 n (paying_of k) (λ v l. rw (paying_of_lem k v) (kw_most (eqb (part v).slot k) (part v).paying.0 100000000 (fits_at v).paying)) in
+      let w = sum_bound 100000000 n (weight_of k) (λ v l. rw (weight_of_lem k v) (kw_most (eqb (part v).slot k) (part v).adds.weight.0 100000000 (fits_at v).adds.weight)) in
+      let p = sum_bound 100000000 n (paying_of k) (λ v l. rw (paying_of_lem k v) (kw_most (eqb (part v).slot k) (part v).adds.paying.0 100000000 (fits_at v).adds.paying)) in
       record {
         weight = omega (arith, w);
-        weighed = Σ-within 10000000 n (weighed_of k) (weight_of k) (λ v l. rw (weighed_of_lem k v, weight_of_lem k v) (far_most (eqb (part v).slot k) (part v).weighed (part v).weight.0 (fits_at v).weighed));
+        weighed = Σ-within 10000000 n (weighed_of k) (weight_of k) (λ v l. rw (weighed_of_lem k v, weight_of_lem k v) (far_most (eqb (part v).slot k) (part v).adds.weighed (part v).adds.weight.0 (fits_at v).adds.weighed));
         paying = omega (arith, p);
       }
 

@@ -40,7 +40,7 @@ module _ (side : Side) (zone : ℕ) (w p : Kw) (u : ℤ) where
   m = turned side (metres u)
 
   abbrev pub full : Part
-  full = record { slot = zone - 1; weight = w; weighed = m *ℤ pos w.0; paying = p }
+  full = record { slot = zone - 1; adds = record { weight = w; weighed = m *ℤ pos w.0; paying = p } }
 
   pub part_full : in_ranges zone w.0 p.0 m ≡ true → part_of side zone w p u ≡ full
   unfolding part_of
@@ -56,8 +56,8 @@ module _ (side : Side) (zone : ℕ) (w p : Kw) (u : ℤ) where
       go : (b : Bool) → in_ranges zone w.0 p.0 m ≡ b → PartFits (part_of side zone w p u)
       go true h =
           let c = counted zone w.0 p.0 m h in
-          rw (part_full h) (record { slot = omega (arith, c.least, c.most); weight = c.weighs; weighed = abs-mul-le m (pos w.0) c.near (omega arith); paying = c.pays })
-      go false h = rw (part_none h) (record { slot = omega arith; weight = omega arith; weighed = omega arith; paying = omega arith })
+          rw (part_full h) (record { slot = omega (arith, c.least, c.most); adds = record { weight = c.weighs; weighed = abs-mul-le m (pos w.0) c.near (omega arith); paying = c.pays } })
+      go false h = rw (part_none h) (record { slot = omega arith; adds = record { weight = omega arith; weighed = omega arith; paying = omega arith } })
 
 pub times_fits : (m : ℤ) (k : ℕ) → nat_abs m ≤ 10000000 → k ≤ 100000000 → SFits w64 (m *ℤ pos k)
 times_fits m k h l = let a = abs-mul-le m (pos k) h l in simp Z (omega (arith, simp Z at a))

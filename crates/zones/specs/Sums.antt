@@ -14,15 +14,19 @@ unfoldable pub in_ranges : (zone weight paying : ℕ) (distance : ℤ) → Bool
 in_ranges zone weight paying distance =
     zone between 1 and 32 && leb weight 100000000 && leb paying 100000000 && leb (nat_abs distance) 10000000
 
+-- a zone without nodes
+abbrev pub no_sums : ZoneSums
+no_sums = record { weight = kilowatts 0; weighed = pos 0; paying = kilowatts 0 }
+
 -- what a node adds to its zone, counted from 0: kilowatts that weigh, its distance times those, kilowatts that pay; nothing where a number is out of range
 abbrev pub no_part : Part
-no_part = record { slot = 0; weight = kilowatts 0; weighed = pos 0; paying = kilowatts 0 }
+no_part = record { slot = 0; adds = no_sums }
 
 unfoldable pub part_of : Side → (zone : ℕ) (weight paying : Kw) (potential : ℤ) → Part
 part_of side zone weight paying potential =
     let m = turned side (metres potential) in
     cond (in_ranges zone weight.0 paying.0 m)
-    (record { slot = zone - 1; weight = weight; weighed = m *ℤ pos weight.0; paying = paying })
+    (record { slot = zone - 1; adds = record { weight = weight; weighed = m *ℤ pos weight.0; paying = paying } })
     no_part
 
 module _ (side : Side) (zone : List ℕ) (weight paying : List Kw) (wider : List ℤ) where
@@ -53,10 +57,6 @@ module _ (side : Side) (zone : List ℕ) (weight paying : List Kw) (wider : List
         paying = kilowatts (in_zone n (number_at zone) pays z);
       }
 
--- a zone without nodes
-abbrev pub no_sums : ZoneSums
-no_sums = record { weight = kilowatts 0; weighed = pos 0; paying = kilowatts 0 }
-
 -- the nodes that a run has a potential for; none where it has not for all, or where they are more than 256
 unfoldable pub nodes_in : (n run : ℕ) → ℕ
 nodes_in n run = cond (leb n 256 && leb n run) n 0
@@ -66,8 +66,8 @@ unfoldable pub zone_sums : Side → (n : ℕ) (zone : List ℕ) (weight paying :
 zone_sums side n zone weight paying wider = rows 32 (λ k. sums_to side zone weight paying wider (nodes_in n (length wider)) (suc k))
 
 -- the sums with one node more
-unfoldable pub with_part : ZoneSums → Part → ZoneSums
-with_part z p =
+unfoldable pub plus : (sums adds : ZoneSums) → ZoneSums
+plus z p =
     record {
       weight = kilowatts (z.weight.0 + p.weight.0);
       weighed = z.weighed +ℤ p.weighed;
@@ -75,11 +75,14 @@ with_part z p =
     }
 
 -- what a node adds, and what 256 of them come to
-pub record PartFits (p : Part) : Type 0 where
-  pub slot : p.slot < 32
+pub record AddsFit (p : ZoneSums) : Type 0 where
   pub weight : p.weight.0 ≤ 100000000
   pub weighed : nat_abs p.weighed ≤ 10000000 * p.weight.0
   pub paying : p.paying.0 ≤ 100000000
+
+pub record PartFits (p : Part) : Type 0 where
+  pub slot : p.slot < 32
+  pub adds : AddsFit p.adds
 
 pub record SumsFit (z : ZoneSums) : Type 0 where
   pub weight : z.weight.0 ≤ 25600000000

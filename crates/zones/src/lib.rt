@@ -38,19 +38,11 @@ pub fn sums_by_zone(
     ensures { result ≡ zone_sums side nodes zone weight paying wider.now }
 {
     let count = nodes_in(nodes, wider.len());
-    let none = Kw(0);
-    let nothing = ZoneSums {
-        weight: none,
-        weighed: 0,
-        paying: none,
-    };
-    let mut all = [nothing; 32];
-    let mut v = 0;
-    while v < count {
+    let mut all = [node::nothing(); 32];
+    for v in 0..count {
         let part = node::part_of(side, zone[v], weight[v], paying[v], wider[v]);
         let k = part.slot;
-        all[k] = node::with_part(all[k], part);
-        v += 1;
+        all[k] = node::plus(all[k], part.adds);
     }
     all
 }

@@ -1,6 +1,6 @@
 // One node: what it adds to its zone.
 ghost use Rattle.std.specs.Prelude.{◌≡◌, ◌≤◌, pos, nat_abs, ◌*ℤ◌};
-ghost use Rattle.zones.specs.Sums.{in_ranges, part_of, with_part, PartFits, SumsFit};
+ghost use Rattle.zones.specs.Sums.{no_sums, in_ranges, part_of, plus, AddsFit, SumsFit};
 
 use crate::ZoneSums;
 use meaning::{Kw, Metres, Side};
@@ -9,9 +9,18 @@ use meaning::{Kw, Metres, Side};
 #[derive(Clone, Copy)]
 pub struct Part {
     pub slot: usize,
-    pub weight: Kw,
-    pub weighed: i64,
-    pub paying: Kw,
+    pub adds: ZoneSums,
+}
+
+// The sums of a zone without nodes.
+pub fn nothing() -> ZoneSums
+    ensures { result ≡ no_sums }
+{
+    ZoneSums {
+        weight: Kw(0),
+        weighed: 0,
+        paying: Kw(0),
+    }
 }
 
 // Whether a node's numbers are in 01's ranges.
@@ -41,31 +50,30 @@ pub fn part_of(side: Side, zone: usize, weight: Kw, paying: Kw, potential: i64) 
     if in_ranges(zone, weight, paying, distance) {
         return Part {
             slot: zone - 1,
-            weight: weight,
-            weighed: times(distance, weight),
-            paying: paying,
+            adds: ZoneSums {
+                weight,
+                weighed: times(distance, weight),
+                paying,
+            },
         };
     }
-    let none = Kw(0);
     Part {
         slot: 0,
-        weight: none,
-        weighed: 0,
-        paying: none,
+        adds: nothing(),
     }
 }
 
-// The sums of a zone with one node more.
-pub fn with_part(sums: ZoneSums, part: Part) -> ZoneSums
-    requires { SumsFit sums × PartFits part }
-    ensures { result ≡ with_part sums part }
+// The sums of a zone with what one node more adds.
+pub fn plus(sums: ZoneSums, adds: ZoneSums) -> ZoneSums
+    requires { SumsFit sums × AddsFit adds }
+    ensures { result ≡ plus sums adds }
 {
-    let weight = sums.weight.0 + part.weight.0;
-    let weighed = sums.weighed + part.weighed;
-    let paying = sums.paying.0 + part.paying.0;
+    let weight = sums.weight.0 + adds.weight.0;
+    let weighed = sums.weighed + adds.weighed;
+    let paying = sums.paying.0 + adds.paying.0;
     ZoneSums {
         weight: Kw(weight),
-        weighed: weighed,
+        weighed,
         paying: Kw(paying),
     }
 }

@@ -1,9 +1,12 @@
-use mathlib.Core.Path.{sym, ◌∙◌}
-use Rattle.meaning.proofs.Answers.{or_else_passes, or_else_stops}
+use Rattle.std.proofs.Common.{refl, ◌∙◌}
+use Rattle.meaning.specs.Answers.{◌or_else◌}
+use Rattle.meaning.proofs.Answers.{refuses, or_else_stops, or_else_passes}
 use Rattle.answers.proofs.or_else.Goals as goal
 
-pub returns-in-Passes : goal.returns-in-Passes
-returns-in-Passes c = sym (or_else_passes _ c.in-Passes.is)
+pub returns-in_err-first : goal.returns-in_err-first
+unfolding ◌or_else◌
+returns-in_err-first c = refuses c.from_residual.ensures ∙ rw c.in_err-first.was refl
 
-pub returns-in-Stops : goal.returns-in-Stops
-returns-in-Stops c = let e = c.in-Stops.is in sym e ∙ sym (or_else_stops _ e)
+pub returns : goal.returns
+unfolding ◌or_else◌
+returns c = rw c.in_ok-first.was refl

@@ -2,9 +2,9 @@ use mathlib.Core.Path.{sym, ap, ◌∙◌}
 use Rattle.meaning.specs.Answers.{values}
 use Rattle.answers.proofs.values.Goals as goal
 
-pub returns-in-Accepted : goal.returns-in-Accepted
+pub returns-in-Ok : goal.returns-in-Ok
 unfolding values
-returns-in-Accepted c = sym (ap values c.in-Accepted.is)
+returns-in-Ok c = sym (ap values c.in-Ok.is)
 
-pub returns-in-Refused : goal.returns-in-Refused
-returns-in-Refused c = c.of_refusal.ensures ∙ sym (ap values c.in-Refused.is)
+pub returns-in-Err : goal.returns-in-Err
+returns-in-Err c = c.of_refusal.ensures ∙ sym (ap values c.in-Err.is)

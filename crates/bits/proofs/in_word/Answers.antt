@@ -10,5 +10,5 @@ returns-then-n-w c =
     let a = c.args in
     ap (λ (x : ℕ). eqb x 1) (and_one a.word (a.n % 64)) ∙ in_word_lem a.w a.word a.n c.if-n-w.true
 
-pub returns : goal.returns
-returns c = in_other c.args.w c.args.word c.args.n c.if-n-w.false
+pub returns-else-n-w : goal.returns-else-n-w
+returns-else-n-w c = in_other c.args.w c.args.word c.args.n c.if-n-w.false

@@ -1,8 +1,9 @@
 use native.Mathlib.Omega.{arith}
+use Rattle.std.proofs.Common.{rules}
 use Rattle.bits.proofs.Sets.{without_has}
 use Rattle.bits.proofs.without.Goals as goal
 
 pub returns : goal.returns
 returns c =
-    let a = c.args in
-    without_has a.a a.b (omega arith) (omega arith) _ _ _ _ c.less.ensures c.less-2.ensures c.less-3.ensures c.less-4.ensures
+    let items = c.from_fn.ensures.items in
+    without_has c.args.a c.args.b _ (omega arith) (omega arith) items.long (λ i k h. let (p, q, called) = items.at i 0 h in search rules)

@@ -5,4 +5,4 @@ pub returns-in-First : goal.returns-in-First
 returns-in-First c = not_in_first c.args.share.now c.in-First.is
 
 pub returns-in-Second : goal.returns-in-Second
-returns-in-Second c = in_second c.args.share.now c.in-Second.is
+returns-in-Second c = rw c.is_empty.ensures (in_second c.args.share.now c.in-Second.is)

@@ -1,10 +1,11 @@
 -- `charges::charge` meets its contract.
-use mathlib.Core.Path.{◌∙◌, ap}
-use lib.ListN.{length}
-use Rattle.meaning.proofs.Systems.{by_system_lem}
-use Rattle.tables.specs.Order.{frame_stage}
-use Rattle.charges.proofs.Charging.{frame_stopped}
+use Rattle.std.proofs.Common.{sym}
+use Rattle.meaning.proofs.Answers.{yields_stops, yields_passes}
+use Rattle.charges.proofs.Charging.{stopped, charged}
 use Rattle.charges.proofs.charge.Goals as goal
 
-pub returns-in-Stops : goal.returns-in-Stops
-returns-in-Stops c = frame_stopped _ _ _ (c.frame-frame.ensures ∙ ap (frame_stage _) (by_system_lem length _ _ _ _ _)) c.in-Stops.is c.no_figures.ensures
+pub returns-in-Err : goal.returns-in-Err
+returns-in-Err c = stopped _ _ _ c.open.ensures (sym (yields_stops _ c.in-Err.is))
+
+pub returns-in-Ok : goal.returns-in-Ok
+returns-in-Ok c = charged _ _ _ c.open.ensures (sym (yields_passes _ c.in-Ok.is)) c.figures_of.ensures

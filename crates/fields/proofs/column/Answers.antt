@@ -1,25 +1,14 @@
 use native.Mathlib.Omega.{arith}
-use Rattle.meaning.proofs.Columns.{filling_none, filling_on, filling_more, filling_done}
+use Rattle.meaning.proofs.Columns.{column_begun, column_turn, column_ended}
 use Rattle.fields.proofs.column.Goals as goal
 
 pub loop-i-init : goal.loop-i-init
-loop-i-init c = filling_none
-
-pub offset_bounds-all-i : goal.offset_bounds-all-i
-offset_bounds-all-i c = omega arith
-
-pub bounds-all-i : goal.bounds-all-i
-bounds-all-i c = (filling_on c.loop-i.invariant c.loop-i-test.true).1
-
-pub overflow_add-i : goal.overflow_add-i
-overflow_add-i c = omega arith
-
-pub loop-i-smaller : goal.loop-i-smaller
-loop-i-smaller c = omega (arith, (filling_on c.loop-i.invariant c.loop-i-test.true).1)
+loop-i-init g c = column_begun _ _ _ c.from_field-all.ensures
 
 pub loop-i-preserved : goal.loop-i-preserved
-loop-i-preserved c =
-    filling_more c.loop-i.invariant c.loop-i-test.true (rw c.field_at.ensures at c.u32_at.ensures.value)
+loop-i-preserved g c =
+    let read = rw c.field_at.ensures at c.u32_at.ensures.value in
+    column_turn _ _ _ c.loop-i.i (omega arith) c.loop-i.invariant (rw read at c.from_field.ensures)
 
 pub returns : goal.returns
-returns c = filling_done c.loop-i.invariant c.loop-i-test.false
+returns g c = column_ended _ _ _ c.args.rows.count c.loop-i.i c.min-i-end.ensures c.loop-i.invariant c.loop-i.auto.i-end c.loop-i-test.false

@@ -1,10 +1,7 @@
-use Prim.Native.Nat.{◌+◌, ◌-◌}
-use Rattle.meaning.proofs.Columns.{Filling}
+use Rattle.std.proofs.Common.{◌≡◌, ◌+◌}
+use Rattle.meaning.specs.Columns.{column}
 use Rattle.meaning.specs.File.{u32, row_at}
 use Rattle.fields.proofs.column.Given as goal
 
 abbrev pub invariant-loop-i : goal.invariant-loop-i
-invariant-loop-i l = Filling 0 512 l.rows.count (λ j. u32 l.file (row_at l.rows j + l.field)) l.all l.i
-
-abbrev pub decreases-loop-i : goal.decreases-loop-i
-decreases-loop-i l = 512 - l.i
+invariant-loop-i g l = l.all ≡ column (g.T.FromField.of_number 0) g.row.N l.i (λ j. g.T.FromField.of_number (u32 l.file (row_at l.rows j + l.field)))

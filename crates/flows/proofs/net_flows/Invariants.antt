@@ -1,10 +1,6 @@
-use Prim.Native.Nat.{◌-◌, ◌≤◌}
 use Rattle.meaning.specs.Columns.{number_at}
 use Rattle.flows.proofs.Net.{Netted, carried_in}
 use Rattle.flows.proofs.net_flows.Given as goal
 
 abbrev pub invariant-loop-c : goal.invariant-loop-c
-invariant-loop-c l = (l.c ≤ l.m) × Netted (number_at l.first) (number_at l.second) (carried_in l.n l.first l.second l.run) l.c l.net
-
-abbrev pub decreases-loop-c : goal.decreases-loop-c
-decreases-loop-c l = l.m - l.c
+invariant-loop-c l = Netted (number_at l.first) (number_at l.second) (carried_in l.n l.first l.second l.run) l.c l.net

@@ -1,12 +1,8 @@
 use mathlib.Core.Path.{◌≡◌}
-use Prim.Native.Nat.{◌-◌, ◌≤◌}
 use lib.IntN.{pos}
 use Rattle.meaning.specs.Columns.{column}
 use Rattle.flows.specs.Flows.{offset_at}
 use Rattle.flows.proofs.offsets.Given as goal
 
 abbrev pub invariant-loop-c : goal.invariant-loop-c
-invariant-loop-c l = (l.c ≤ 512) × (l.offset ≡ column (pos 0) 512 l.c (offset_at l.system l.length l.mark l.headings))
-
-abbrev pub decreases-loop-c : goal.decreases-loop-c
-decreases-loop-c l = 512 - l.c
+invariant-loop-c l = l.offset ≡ column (pos 0) 512 l.c (offset_at l.system l.length l.mark l.headings)

@@ -1,95 +1,59 @@
--- `integers::nearest` meets its contract: of the magnitude rounded, w, the number is w, or -w as -1 - (w - 1), which fits at w = 2^63 too.
-use mathlib.Core.Path.{◌≡◌, sym, ◌∙◌, ap}
-use Prim.Native.Nat.{ℕ, ◌-◌, ◌^◌, ◌≤◌, ◌<◌}
+-- `integers::nearest` meets its contract: of the magnitude rounded, w, the number is w, or -w, which fits at w = 2^63 too.
+use mathlib.Core.Path.{◌≡◌, refl, sym, ◌∙◌, ap}
+use Prim.Native.Nat.{ℕ, zero, suc, ◌-◌, ◌%◌, ◌^◌, ◌≤◌, ◌<◌}
+use native.Mathlib.Nat.{mod-eq_of_lt}
 use native.Mathlib.Omega.{arith}
-use lib.IntN.{ℤ, pos, negsuc, neg_ℤ, nat_abs, ◌-ℤ◌}
+use borrow.Author.Tests.{le-ltb}
+use lib.IntN.{ℤ, pos, negsuc, neg_ℤ, nat_abs}
 use lib.Signed.{◌≤ℤ◌, ◌<ℤ◌}
-use mir.Facts.{to_z-of_z}
 use mir.Syntax.{w64}
 use mir.Val.{SFits, to_z}
-use Rattle.integers.specs.Numbers.{rounded, nearest}
+use Rattle.std.proofs.lemmas.Int.{of_z-to_z}
+use Rattle.integers.specs.Numbers.{rounded}
 use Rattle.integers.proofs.Core.{Z}
 use Rattle.integers.proofs.Laws.{abs_of_nonneg, abs_of_neg}
-use Rattle.integers.proofs.Div.{rounded_most, nearest_fits}
+use Rattle.integers.proofs.Div.{rounded_most}
 use Rattle.integers.proofs.Half.{nearest_nonneg, nearest_neg}
-use Rattle.integers.proofs.Machine.{Back, fit_back, of_nat, le_true, le_false}
+use Rattle.integers.proofs.Machine.{Back, fit_back, back, of_nat, lt_true, lt_false}
 use Rattle.integers.proofs.nearest.Goals as goal
-use Rattle.integers.proofs.nearest.Goals.{After-rounded-whole, Else-whole-eq0, Else-z-ge0, Start, Then-z-ge0}
+use Rattle.integers.proofs.nearest.Goals.{After-cast_signed-whole, Else-z-lt0, Start, Then-z-lt0}
 
--- ---- the mathematics
+-- the negative of a number that is read as signed
+minus_bits : (n : ℕ) → n ≤ 2 ^ 63 → to_z w64 ((2 ^ 64 - n) % 2 ^ 64) ≡ neg_ℤ (pos n)
+minus_bits zero h = refl
+minus_bits (suc n) h =
+    rw (mod-eq_of_lt {n = 2 ^ 64 - suc n} {m = 2 ^ 64} (omega arith), le-ltb (2 ^ 64 - suc n) (2 ^ 63) (omega arith)) (ap negsuc (omega arith))
+
 module _ (z : ℤ) (d : ℕ) (f : SFits w64 z) where
-  abbrev w : ℕ
-  w = rounded (nat_abs z) d
+  above_fits : pos 0 ≤ℤ z → rounded (nat_abs z) d < 2 ^ 63
+  above_fits h = omega (arith, rounded_most (nat_abs z) d, simp Z at (abs_of_nonneg z h), simp Z at f)
 
-  above-fits : pos 0 ≤ℤ z → w < 2 ^ 63
-  above-fits h = omega (arith, rounded_most (nat_abs z) d, simp Z at (abs_of_nonneg z h), simp Z at f)
+  below_fits : z <ℤ pos 0 → rounded (nat_abs z) d ≤ 2 ^ 63
+  below_fits h = omega (arith, rounded_most (nat_abs z) d, simp Z at (abs_of_neg z (simp Z (omega (arith, simp Z at h)))), simp Z at f)
 
-  below-fits : z <ℤ pos 0 → w ≤ 2 ^ 63
-  below-fits h = omega (arith, rounded_most (nat_abs z) d, simp Z at (abs_of_neg z (simp Z (omega (arith, simp Z at h)))), simp Z at f)
-
-  minus : z <ℤ pos 0 → 0 < w → negsuc 0 -ℤ pos (w - 1) ≡ nearest z d
-  minus h s = turned w s ∙ sym (nearest_neg z d h)
-    where
-      turned : (w : ℕ) → 0 < w → negsuc 0 -ℤ pos (w - 1) ≡ neg_ℤ (pos w)
-      turned w s = simp Z (omega arith)
-
--- ---- the calls
 bz : (s : Start) → Back s.args.z
 bz s = fit_back s.ranges.z
 
-module _ (c : After-rounded-whole) where
-  abbrev s : Start
-  s = c.before.before
+called : (c : After-cast_signed-whole) → c.rounded.result ≡ rounded (nat_abs c.args.z) c.args.d
+called c = simp bz at (rw c.magnitude.ensures at c.rounded.ensures)
 
-  abbrev whole : ℕ
-  whole = w s.args.z s.args.d s.ranges.z
+neg : (c : Then-z-lt0) → c.args.z <ℤ pos 0
+neg c = lt_true (simp bz at c.if-z-lt0.true)
 
-  called : c.rounded-whole.result ≡ whole
-  called = c.rounded-whole.ensures ∙ ap (λ (a : ℕ). rounded a s.args.d) (simp bz at c.before.magnitude.ensures)
+nonneg : (c : Else-z-lt0) → pos 0 ≤ℤ c.args.z
+nonneg c = lt_false (simp bz at c.if-z-lt0.false)
 
--- ---- z is not negative
-nonneg : (c : Then-z-ge0) → pos 0 ≤ℤ (s c.before).args.z
-nonneg c = le_true (simp bz at c.if-z-ge0.true)
+pub returns-then-z-lt0 : goal.returns-then-z-lt0
+returns-then-z-lt0 c =
+    let a = c.args in
+    let whole = called c.before.before in
+    let turned = simp (of_z-to_z w64 _ c.rounded.type_inv) at (rw c.cast_signed-whole.ensures at c.wrapping_neg.ensures) in
+    back _ c.wrapping_neg.type_inv ∙ turned ∙ rw whole (minus_bits _ (below_fits a.z a.d c.ranges.z (neg c.before))) ∙ sym (nearest_neg a.z a.d (neg c.before))
 
-room : (c : Then-z-ge0) → whole c.before < 2 ^ 63
-room c = above-fits _ _ (s c.before).ranges.z (nonneg c)
-
-pub overflow_cast-result : goal.overflow_cast-result
-overflow_cast-result c = record { sfits = rw (called c.before) (room c) }
-
-pub returns-then-z-ge0 : goal.returns-then-z-ge0
-returns-then-z-ge0 c = ap (to_z w64) (called c.before) ∙ of_nat _ (room c) ∙ sym (nearest_nonneg _ _ (nonneg c))
-
--- ---- z is negative
-neg : (c : Else-z-ge0) → (s c.before).args.z <ℤ pos 0
-neg c = le_false (simp bz at c.if-z-ge0.false)
-
-pub returns-then-whole-eq0 : goal.returns-then-whole-eq0
-returns-then-whole-eq0 c =
-    let t = s c.before.before in
-    sym (nearest_neg t.args.z t.args.d (neg c.before) ∙ ap (λ (q : ℕ). neg_ℤ (pos q)) (sym (called c.before.before) ∙ c.if-whole-eq0.true))
-
-module _ (c : Else-whole-eq0) where
-  abbrev e : After-rounded-whole
-  e = c.before.before
-
-  some : 0 < whole e
-  some = omega (arith, called e)
-
-  lower : whole e - 1 < 2 ^ 63
-  lower = omega (arith, below-fits (s e).args.z (s e).args.d (s e).ranges.z (neg c.before), some)
-
-  less : to_z w64 (e.rounded-whole.result - 1) ≡ pos (whole e - 1)
-  less = ap (λ (q : ℕ). to_z w64 (q - 1)) (called e) ∙ of_nat _ lower
-
-  result : negsuc 0 -ℤ pos (whole e - 1) ≡ nearest (s e).args.z (s e).args.d
-  result = minus (s e).args.z (s e).args.d (s e).ranges.z (neg c.before) some
-
-pub overflow_cast-result-2 : goal.overflow_cast-result-2
-overflow_cast-result-2 c = record { sfits = rw (called (e c)) (lower c) }
-
-pub overflow_sub-result-2 : goal.overflow_sub-result-2
-overflow_sub-result-2 c = rw (less c, result c) (nearest_fits w64 _ _ (s (e c)).ranges.z)
-
-pub returns : goal.returns
-returns c = to_z-of_z (overflow_sub-result-2 c) ∙ rw (less c) (result c)
+pub returns-else-z-lt0 : goal.returns-else-z-lt0
+returns-else-z-lt0 c =
+    let a = c.args in
+    back _ c.cast_signed-whole.type_inv
+    ∙ c.cast_signed-whole.ensures
+    ∙ rw (called c.before) (of_nat _ (above_fits a.z a.d c.ranges.z (nonneg c)))
+    ∙ sym (nearest_nonneg a.z a.d (nonneg c))

@@ -7,11 +7,6 @@ use Rattle.layout.specs.Readable.{section_in}
 use Rattle.layout.proofs.Rows.{in_whole}
 use Rattle.layout.proofs.section.Goals as goal
 
-pub section-requires : goal.section-requires
-section-requires c =
-    let passed : let a = c.args in (a.number < sections (edition_at a.file.now)) × (file_whole a.file.now ≡ true) = (says_lt also says_true _).0 (rw (c.whole.ensures, c.sections.ensures.0) at c.if-number-sections.true) in
-    (passed.1, passed.0)
-
 pub returns-then-number-sections : goal.returns-then-number-sections
 returns-then-number-sections c =
     let passed : let a = c.args in (a.number < sections (edition_at a.file.now)) × (file_whole a.file.now ≡ true) = (says_lt also says_true _).0 (rw (c.whole.ensures, c.sections.ensures.0) at c.if-number-sections.true) in

@@ -1,4 +1,4 @@
--- `lines::refused_line` meets its contract: each call adds the next part of the text.
+-- Each call adds the next part of the text.
 use Rattle.meaning.specs.Text.{ends, line}
 use Rattle.meaning.specs.Outcome.{refused_fields}
 use Rattle.lines.proofs.Making.{both}
@@ -7,4 +7,4 @@ use Rattle.lines.proofs.refused_line.Goals as goal
 pub returns : goal.returns
 unfolding refused_fields line ends
 returns c =
-    both c.line_of-word.ensures (both c.with_count-l1.ensures (both c.with_count-l2.ensures (both c.with_count-l3.ensures c.with_byte.ensures)))
+    both c.line_of-line.ensures (both c.push_count.ensures (both c.push_count-2.ensures (both c.push_count-3.ensures c.push.ensures)))

@@ -1,18 +1,13 @@
-use mathlib.Core.Path.{sym, ◌∙◌, ap₂}
-use mathlib.Core.Bool.{◌&&◌}
+use mathlib.Core.Path.{◌≡◌, sym, ◌∙◌}
+use Prim.Native.Nat.{◌+◌, ◌-◌}
 use native.Mathlib.Omega.{arith}
-use Rattle.names.proofs.NameLaws.{formed_cut, formed_whole}
+use Rattle.meaning.specs.File.{name_at}
+use Rattle.names.proofs.NameLaws.{formed_cut}
 use Rattle.names.proofs.name_formed.Goals as goal
 
-pub bounds-file-at : goal.bounds-file-at
-bounds-file-at c = omega (arith, (c.inside.ensures.both c.if-inside.true).0)
-
-pub padded_tail-requires : goal.padded_tail-requires
-padded_tail-requires c = (c.inside.ensures.both c.if-inside.true).0
-
 pub returns-then-inside : goal.returns-then-inside
-returns-then-inside c =
-    ap₂ ◌&&◌ c.is_name_byte.ensures c.padded_tail.ensures ∙ sym (formed_whole _ _ (c.inside.ensures.both c.if-inside.true).0)
+unfolding name_at
+returns-then-inside c = let e : c.args.at + 12 - c.args.at ≡ 12 = omega arith in rw e at c.formed.ensures
 
-pub returns : goal.returns
-returns c = sym (formed_cut _ _ (omega (arith, c.inside.ensures.cut c.if-inside.false)))
+pub returns-else-inside : goal.returns-else-inside
+returns-else-inside c = c.if-inside.false ∙ sym (formed_cut _ _ (omega (arith, c.inside.ensures.cut c.if-inside.false)))

@@ -1,4 +1,3 @@
-use Prim.Native.Nat.{◌≤◌, ◌-◌}
 use Rattle.meaning.specs.Name.{same_name}
 use Rattle.meaning.specs.File.{name_at}
 use Rattle.meaning.proofs.Rows.{Passed}
@@ -6,7 +5,4 @@ use Rattle.names.specs.Search.{name_row}
 use Rattle.names.proofs.place.Given as goal
 
 abbrev pub invariant-loop-row : goal.invariant-loop-row
-invariant-loop-row l = (l.row ≤ l.count) × Passed (λ v. same_name (name_row l.file l.rows v) (name_at l.file l.at)) l.row
-
-abbrev pub decreases-loop-row : goal.decreases-loop-row
-decreases-loop-row l = l.count - l.row
+invariant-loop-row l = Passed (λ v. same_name (name_row l.file l.rows v) (name_at l.file l.at)) l.row

@@ -1,12 +1,16 @@
-use native.Mathlib.Omega.{arith}
-use Rattle.numbers.proofs.Doubt.{decided_short, decided_for, not_decided}
+use Rattle.std.proofs.Common.{rules, refl}
+use Rattle.meaning.specs.Direction.{is_doubtful}
+use Rattle.numbers.specs.Numbers.{decided_in}
 use Rattle.numbers.proofs.decided.Goals as goal
 
-pub returns-then-length-lt1 : goal.returns-then-length-lt1
-returns-then-length-lt1 c = decided_short _ _ c.if-length-lt1.true
+pub returns-then-length-eq0 : goal.returns-then-length-eq0
+unfolding decided_in
+returns-then-length-eq0 c = rw c.if-length-eq0.true refl
 
 pub returns-in-For : goal.returns-in-For
-returns-in-For c = decided_for _ _ (omega arith) c.in-For.is
+unfolding decided_in is_doubtful
+returns-in-For c = search rules
 
-pub returns-in-Doubtful : goal.returns-in-Doubtful
-returns-in-Doubtful c = not_decided _ _ (omega arith) c.in-Doubtful.is
+pub returns-in_default : goal.returns-in_default
+unfolding decided_in is_doubtful
+returns-in_default c = search rules

@@ -1,47 +1,21 @@
-use mathlib.Core.Path.{◌≡◌}
-use native.Mathlib.Omega.{arith}
+use mathlib.Core.Path.{◌∙◌}
 use lib.IntN.{pos, ◌-ℤ◌}
-use mir.Syntax.{w64}
-use mir.Val.{SFits, to_z}
-use Rattle.integers.proofs.Machine.{Back, fit_back, of_nat, lt_true, lt_false}
-use Rattle.numbers.proofs.Limit.{above_limit, below_limit, inside_limit, no_limit, minus_fits}
+use Rattle.integers.proofs.Machine.{Back, fit_back}
+use Rattle.numbers.proofs.Limit.{minus_fits, no_limit, below_limit, above_decides}
 use Rattle.numbers.proofs.within.Goals as goal
-use Rattle.numbers.proofs.within.Goals.{Else-limit-gt9223372036854775807, Start}
 
-bz : (s : Start) → Back s.args.z
-bz s = fit_back s.ranges.z
-
--- a limit below 2^63, and what is as far below 0
-module _ (c : Else-limit-gt9223372036854775807) where
-  bl : to_z w64 c.args.limit ≡ pos c.args.limit
-  bl = of_nat _ (omega arith)
-
-  less : SFits w64 (pos 0 -ℤ pos c.args.limit)
-  less = minus_fits c.args.limit (omega arith)
-
-  bm : Back (pos 0 -ℤ pos c.args.limit)
-  bm = fit_back less
-
-pub returns-then-limit-gt9223372036854775807 : goal.returns-then-limit-gt9223372036854775807
-returns-then-limit-gt9223372036854775807 c = no_limit c.args.z c.args.limit c.ranges.z (omega arith)
+pub returns-in_default : goal.returns-in_default
+returns-in_default c = no_limit c.args.z c.args.limit c.ranges.z c.in_default.ensures
 
 pub returns-then-most-z : goal.returns-then-most-z
 returns-then-most-z c =
-    let e = c.before in
-    let s = e.before in
-    above_limit s.args.z s.args.limit (lt_true (simp (bz s, bl e) at c.if-most-z.true))
+    let (fits, most) = c.in-Ok.ensures in
+    let back : Back c.args.z × Back (pos c.args.limit) × Back (pos 0 -ℤ pos c.args.limit) = (fit_back c.ranges.z, fit_back fits, fit_back (minus_fits _ fits)) in
+    simp (most, back.0, back.1, back.2) (above_decides c.args.z c.args.limit (simp (most, back.0, back.1, back.2) at c.if-most-z.true))
 
-pub overflow_sub-most : goal.overflow_sub-most
-overflow_sub-most c = simp (bl c.before) (less c.before)
-
-pub returns-then-z-most : goal.returns-then-z-most
-returns-then-z-most c =
-    let e = c.before.before in
-    let s = e.before in
-    below_limit s.args.z s.args.limit (lt_true (simp (bz s, bl e, bm e) at c.if-z-most.true))
-
-pub returns : goal.returns
-returns c =
-    let e = c.before.before in
-    let s = e.before in
-    inside_limit s.args.z s.args.limit (lt_false (simp (bz s, bl e) at c.if-most-z.false)) (lt_false (simp (bz s, bl e, bm e) at c.if-z-most.false))
+pub returns-else-most-z : goal.returns-else-most-z
+returns-else-most-z c =
+    let (fits, most) = c.in-Ok.ensures in
+    let back : Back c.args.z × Back (pos c.args.limit) × Back (pos 0 -ℤ pos c.args.limit) = (fit_back c.ranges.z, fit_back fits, fit_back (minus_fits _ fits)) in
+    let below = simp (most, back.0, back.1, back.2) at c.if-most-z.false in
+    simp (most, back.0, back.1, back.2) (below ∙ below_limit c.args.z c.args.limit below)

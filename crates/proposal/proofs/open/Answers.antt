@@ -1,49 +1,34 @@
--- `proposal::open` meets its contract: the tables' judgement where they stop the case, else the share file's, else the proposals'.
-use mathlib.Core.List.{List}
-use Prim.Native.Nat.{ℕ}
-use lib.IntN.{ℤ}
-use lib.ListN.{length}
-use Rattle.meaning.specs.Editions.{by_system}
-use Rattle.meaning.specs.Study.{runs_of}
-use Rattle.meaning.proofs.Systems.{by_system_lem}
-use Rattle.tables.specs.declared.Opened.{Opened}
-use Rattle.tables.specs.Opens.{Opens}
-use Rattle.proposal.proofs.Opening.{tables_stop, passed_reference, passed_judgeable, share_stops, proposals_decide}
+-- `proposal::open` meets its contract: what stops the tables, else what the share file does, else what the proposals do.
+use Rattle.std.proofs.Common.{refl, sym, ap₂, ◌∙◌}
+use Rattle.meaning.specs.Answers.{yields}
+use Rattle.meaning.proofs.Answers.{refuses, let_through, yields_stops, yields_passes, stops_first, passes-first}
+use Rattle.tables.proofs.Lent.{stopped, given}
+use Rattle.proposal.proofs.Opening.{tables_stop, passed_reference, passed_judgeable, rest_decides}
 use Rattle.proposal.proofs.open.Goals as goal
 
--- a case opened for the lengths of the runs that are lent
-opened_by_runs : {file : List ℕ} {o : Opened} (base wider local peak_base peak_wider : List ℤ)
-    → Opens file (by_system (length base) (length wider) (length local) (length peak_base) (length peak_wider)) o
-    → Opens file (λ s. length (runs_of base wider local peak_base peak_wider s)) o
-opened_by_runs base wider local peak_base peak_wider h = rw (by_system_lem length base wider local peak_base peak_wider) at h
+pub returns-in_err-open : goal.returns-in_err-open
+returns-in_err-open c =
+    let s = stopped _ _ (refuses c.from_residual.ensures) (tables_stop _ _ c.args.share.now c.open.ensures (sym (yields_stops _ c.in_err-open.was))) in
+    record { judged = s.0; possible = s.1 }
 
-pub returns-in-Stops : goal.returns-in-Stops
-returns-in-Stops c =
-    let a = c.args in
-    let runs = runs_of a.base.now a.wider.now a.local.now a.peak_base.now a.peak_wider.now in
-    tables_stop a.file.now runs a.share.now c.open-read.result (opened_by_runs _ _ _ _ _ c.open-read.ensures) c.in-Stops.is
+pub returns-in_err-share_stage : goal.returns-in_err-share_stage
+returns-in_err-share_stage c =
+    let read = sym (yields_passes _ c.in_ok-open.was) in
+    let rest = rest_decides _ _ _ c.open.ensures read (stops_first _ c.share_stage.ensures c.in_err-share_stage.was) in
+    let s = stopped _ _ (refuses c.from_residual-in_err-share_stage.ensures) rest in
+    record { judged = s.0; possible = s.1 }
 
-pub case_of-requires : goal.case_of-requires
-case_of-requires c =
-    let a = c.args in
-    let runs = runs_of a.base.now a.wider.now a.local.now a.peak_base.now a.peak_wider.now in
-    passed_reference a.file.now runs a.share.now c.open-read.result (opened_by_runs _ _ _ _ _ c.open-read.ensures) c.in-Passes.is
+pub case_of-k-requires : goal.case_of-k-requires
+case_of-k-requires c = passed_reference _ _ c.args.share.now c.open.ensures (sym (yields_passes _ c.in_ok-open.was))
 
 pub proposals-requires : goal.proposals-requires
-proposals-requires c =
-    let a = c.args in
-    let runs = runs_of a.base.now a.wider.now a.local.now a.peak_base.now a.peak_wider.now in
-    passed_judgeable a.file.now runs a.share.now c.open-read.result (opened_by_runs _ _ _ _ _ c.open-read.ensures) c.in-Passes.is _ c.case_of.ensures
+proposals-requires c = rw c.case_of-k.ensures (passed_judgeable _ _ c.args.share.now c.open.ensures (sym (yields_passes _ c.in_ok-open.was)))
 
-pub returns-in-Stops-of_share : goal.returns-in-Stops-of_share
-returns-in-Stops-of_share c =
-    let a = c.args in
-    let runs = runs_of a.base.now a.wider.now a.local.now a.peak_base.now a.peak_wider.now in
-    share_stops a.file.now runs a.share.now c.open-read.result (opened_by_runs _ _ _ _ _ c.open-read.ensures) c.in-Passes.is _ c.share_stage-of_share.ensures c.in-Stops-of_share.is _ c.with_judgement.ensures
-
-pub returns-in-Passes-of_share : goal.returns-in-Passes-of_share
-returns-in-Passes-of_share c =
-    let a = c.args in
-    let runs = runs_of a.base.now a.wider.now a.local.now a.peak_base.now a.peak_wider.now in
-    proposals_decide a.file.now runs a.share.now c.open-read.result (opened_by_runs _ _ _ _ _ c.open-read.ensures) c.in-Passes.is _ c.share_stage-of_share.ensures c.in-Passes-of_share.is
-    _ c.case_of.ensures _ c.proposals.ensures _ c.with_judgement-in-Passes-of_share.ensures
+pub returns : goal.returns
+returns c =
+    let read = sym (yields_passes _ c.in_ok-open.was) in
+    let rest = rest_decides _ _ _ c.open.ensures read (passes-first _ c.share_stage.ensures c.in_ok-share_stage.was (rw (← c.case_of-k.ensures) c.proposals.ensures)) in
+    record {
+      judged = ap₂ yields (sym rest) (let_through _ _ c.open.ensures.judged read).1;
+      possible = given _ _ (rw read at c.open.ensures.possible);
+    }

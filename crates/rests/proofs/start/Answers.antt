@@ -9,13 +9,13 @@ use Rattle.rests.proofs.start.Goals.{After-magnitude}
 tested : (c : After-magnitude) → c.magnitude.result ≡ nat_abs c.args.target
 tested c = simp (fit_back c.ranges.target) at c.magnitude.ensures
 
-pub divided-requires : goal.divided-requires
-divided-requires c =
+pub of-requires : goal.of-requires
+of-requires c =
     simp (fit_back c.ranges.target) (says_divides c.args.target c.args.payers.0 (simp (tested c.before) at c.if-k-magnitude.true))
 
 pub returns-then-k-magnitude : goal.returns-then-k-magnitude
 returns-then-k-magnitude c =
-    simp (fit_back c.ranges.target) at c.divided.ensures
+    simp (fit_back c.ranges.target) at c.of.ensures
     ∙ sym (start_in c.args.target c.args.payers.0 (simp (tested c.before.before) at c.if-k-magnitude.true))
 
 pub returns : goal.returns

@@ -11,4 +11,4 @@ returns-then-in_force c =
 pub returns : goal.returns
 returns c =
     let a = c.args in
-    unforced_shares a.edition a.zones a.nodes a.zone a.by_type a.share.now c.in_force.ensures c.if-in_force.false c.no_shares.ensures
+    unforced_shares a.edition a.zones a.nodes a.zone a.by_type a.share.now c.in_force.ensures c.if-in_force.false c.none.ensures

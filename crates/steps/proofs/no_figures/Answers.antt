@@ -4,4 +4,4 @@ use Rattle.steps.proofs.no_figures.Goals as goal
 
 pub returns : goal.returns
 unfolding no_figures
-returns c = rw (c.no_side-side.ensures, c.no_local-node.ensures)
+returns c = rw (c.no_side-side.ensures, c.no_local.ensures)

@@ -4,4 +4,4 @@ use Rattle.steps.proofs.no_side.Goals as goal
 
 pub returns : goal.returns
 unfolding no_side
-returns c = rw c.no_line-line.ensures
+returns c = rw c.no_line.ensures

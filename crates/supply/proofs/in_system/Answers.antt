@@ -1,19 +1,17 @@
 use mathlib.Core.Path.{refl}
+use Rattle.std.proofs.Common.{rules}
+use mathlib.Core.Logic.{⊎_elim}
 use Rattle.supply.specs.Supply.{supply_in}
 use Rattle.supply.proofs.in_system.Goals as goal
 
-pub returns-in-YearRound : goal.returns-in-YearRound
+pub returns-in-Base-YearRound : goal.returns-in-Base-YearRound
 unfolding supply_in
-returns-in-YearRound c = rw (c.in-Base.is, c.in-YearRound.is) refl
+returns-in-Base-YearRound c = search rules
 
-pub returns-in-Peak : goal.returns-in-Peak
+pub returns-in-Base-Peak : goal.returns-in-Base-Peak
 unfolding supply_in
-returns-in-Peak c = rw (c.in-Base.is, c.in-Peak.is) refl
+returns-in-Base-Peak c = search rules
 
 pub returns-in-Wider : goal.returns-in-Wider
 unfolding supply_in
-returns-in-Wider c = rw c.in-Wider.is refl
-
-pub returns-in-Local : goal.returns-in-Local
-unfolding supply_in
-returns-in-Local c = rw c.in-Local.is refl
+returns-in-Wider c = ⊎_elim (λ e. rw e.1 refl) (λ e. rw e refl) c.in-Wider.is

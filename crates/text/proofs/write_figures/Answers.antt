@@ -1,6 +1,6 @@
 -- `text::write_figures` meets its contract: no text, a short buffer, or the text copied to the front of the buffer.
 use mathlib.Core.Path.{◌≡◌, sym, ◌∙◌}
-use Prim.Native.Nat.{ℕ, ◌-◌, ◌≤◌}
+use Prim.Native.Nat.{ℕ, ◌≤◌}
 use native.Mathlib.Omega.{arith}
 use lib.ListN.{length, take, replicate, length-replicate}
 use Rattle.meaning.specs.Sheet.{sheet_text}
@@ -33,8 +33,7 @@ returns-then-sized c =
     let is_text : text_of a.figures a.file.now a.rows ≡ whole = text_sized a.figures a.file.now a.rows (sym c.sized.ensures ∙ c.if-sized.true) in
     let room : length whole ≤ length a.out.now = omega (arith, c.put_figures-length.ensures.next, c.if-out-length.false) in
     let n = c.put_figures-length.result in
-    let e : n - 0 ≡ n = omega arith in
-    let part : take (n - 0) c.put_figures-length.new.out ≡ whole = rw e (front c.put_figures-length.ensures wide) in
+    let part : take n c.put_figures-length.new.out ≡ whole = front c.put_figures-length.ensures wide in
     rw is_text
     (fitted_written whole a.out.now _ _ room
     (written (rw part at c.put_bytes.ensures) room))

@@ -18,15 +18,15 @@ loop-visited-init c = walk_begins empty_has c.with_node-reached.ensures
 
 pub returns-then-size-n : goal.returns-then-size-n
 returns-then-size-n c =
-    rw (sym c.least-n.ensures, sym c.least-m.ensures)
-    (walk_full c.loop-visited.invariant (omega (arith, c.least-n.ensures)) (sym c.size.ensures ∙ c.if-size-n.true))
+    rw (sym c.min-n.ensures, sym c.min-m.ensures)
+    (walk_full c.loop-visited.invariant (omega (arith, c.min-n.ensures)) (sym c.size.ensures ∙ c.if-size-n.true))
 
 pub returns-then-next-eq256 : goal.returns-then-next-eq256
 returns-then-next-eq256 c =
     let waiting = c.without-waiting.result in
     let still : IsFirst (has waiting) 256 256 = rw c.if-next-eq256.true at c.lowest-next.ensures in
-    rw (sym c.least-n.ensures, sym c.least-m.ensures)
-    (walk_still c.loop-visited.invariant waiting (omega (arith, c.least-n.ensures)) c.without-waiting.ensures still)
+    rw (sym c.min-n.ensures, sym c.min-m.ensures)
+    (walk_still c.loop-visited.invariant waiting (omega (arith, c.min-n.ensures)) c.without-waiting.ensures still)
 
 pub bounds-waiting-w : goal.bounds-waiting-w
 bounds-waiting-w c = omega (arith, found c.lowest-next.ensures.within c.if-next-eq256.false)

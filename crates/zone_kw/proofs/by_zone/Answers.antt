@@ -1,83 +1,23 @@
-use mathlib.Core.Path.{◌≡◌}
-use mathlib.Core.Bool.{true, ◌&&◌}
-use Prim.Native.Nat.{ℕ, ◌<◌}
-use lib.Dec.{ltb}
+use mathlib.Core.Path.{sym}
 use native.Mathlib.Omega.{arith}
-use Rattle.meaning.proofs.Says.{says_lt, ◌also◌}
 use Rattle.zone_kw.proofs.ZoneLaws.{sums_none, sums_more, sums_past, sums_fit, sums_done}
 use Rattle.zone_kw.proofs.by_zone.Goals as goal
-
--- there is another node, and a row for it
-another : (v nodes : ℕ) → (ltb v nodes && ltb v 256) ≡ true → (v < nodes) × (v < 256)
-another v nodes e = (says_lt also says_lt).0 e
+use Rattle.zone_kw.proofs.by_zone.Goals.{in-Some, in_default}
 
 pub loop-v-init : goal.loop-v-init
-loop-v-init c = (omega arith, omega arith, sums_none c.args.zone c.args.kw)
-
-pub offset_bounds-zone-v : goal.offset_bounds-zone-v
-offset_bounds-zone-v c =
-    let on = another c.loop-v.v c.args.nodes c.loop-v-test.true in
-    omega (arith, on.1)
-
-pub bounds-zone-v : goal.bounds-zone-v
-bounds-zone-v c =
-    let on = another c.loop-v.v c.args.nodes c.loop-v-test.true in
-    on.1
-
-pub offset_bounds-kw-v : goal.offset_bounds-kw-v
-offset_bounds-kw-v c =
-    let on = another c.loop-v.v c.args.nodes c.loop-v-test.true in
-    omega (arith, on.1)
-
-pub bounds-kw-v : goal.bounds-kw-v
-bounds-kw-v c =
-    let on = another c.loop-v.v c.args.nodes c.loop-v-test.true in
-    on.1
-
-pub overflow_add-v : goal.overflow_add-v
-overflow_add-v c = omega arith
-
-pub offset_bounds-sums-slot : goal.offset_bounds-sums-slot
-offset_bounds-sums-slot c = omega arith
-
-pub bounds-sums-slot : goal.bounds-sums-slot
-bounds-sums-slot c = omega arith
+loop-v-init c = sums_none c.args.zone c.args.kw
 
 pub overflow_add-sums : goal.overflow_add-sums
 overflow_add-sums c =
-    let on = another c.loop-v.v c.args.nodes c.loop-v-test.true in
-    omega (arith, sums_fit c.args.zone c.args.kw c.loop-v.v c.slot_of-slot.result c.loop-v.invariant.2 c.kept-more.ensures on.1 (omega arith))
-
-pub bounds-sums-slot-then-slot-lt32 : goal.bounds-sums-slot-then-slot-lt32
-bounds-sums-slot-then-slot-lt32 c = omega arith
-
-pub loop-v-smaller-then-slot-lt32 : goal.loop-v-smaller-then-slot-lt32
-loop-v-smaller-then-slot-lt32 c =
-    let on = another c.loop-v.v c.args.nodes c.loop-v-test.true in
-    omega (arith, on.1)
-
-pub loop-v-preserved-then-slot-lt32 : goal.loop-v-preserved-then-slot-lt32
-loop-v-preserved-then-slot-lt32 c =
-    let on = another c.loop-v.v c.args.nodes c.loop-v-test.true in
-    let a = c.args in (
-      omega (arith, on.0),
-      omega (arith, on.1),
-      sums_more a.zone a.kw c.loop-v.v _ c.loop-v.invariant.2 c.slot_of-slot.ensures c.kept-more.ensures (omega arith),
-    )
-
-pub loop-v-smaller : goal.loop-v-smaller
-loop-v-smaller c =
-    let on = another c.loop-v.v c.args.nodes c.loop-v-test.true in
-    omega (arith, on.1)
+    omega (arith, sums_fit c.args.zone c.args.kw c.loop-v.v c.in-Some.slot c.loop-v.invariant c.kept.ensures (omega (arith, c.min-v-end.ensures)) c.in-Some.ensures.1)
 
 pub loop-v-preserved : goal.loop-v-preserved
 loop-v-preserved c =
-    let on = another c.loop-v.v c.args.nodes c.loop-v-test.true in
-    let a = c.args in (
-      omega (arith, on.0),
-      omega (arith, on.1),
-      sums_past a.zone a.kw c.loop-v.v _ c.loop-v.invariant.2 c.slot_of-slot.ensures (omega arith),
-    )
+    let a = c.args in
+    elim c.match-slot_of.branch [
+      | in-Some w ↦ rw w.sums-is (sums_more a.zone a.kw c.loop-v.v _ c.loop-v.invariant w.in-Some.ensures.0 w.kept.ensures w.in-Some.ensures.1)
+      | in_default w ↦ rw w.sums-is (sums_past a.zone a.kw c.loop-v.v 32 c.loop-v.invariant (sym w.in_default.ensures) (omega arith))
+    ]
 
 pub returns : goal.returns
-returns c = sums_done _ _ _ c.loop-v.v c.loop-v.invariant.2 c.loop-v.invariant.0 c.loop-v.invariant.1 c.loop-v-test.false
+returns c = sums_done _ _ c.args.nodes c.loop-v.v c.loop-v.invariant c.min-v-end.ensures c.loop-v.auto.v-end c.loop-v-test.false

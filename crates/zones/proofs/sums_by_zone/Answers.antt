@@ -9,41 +9,11 @@ use Rattle.zones.proofs.Laws.{reached_most, sums_start, sums_turn, all_fit, fits
 use Rattle.zones.proofs.sums_by_zone.Goals as goal
 use Rattle.zones.proofs.sums_by_zone.Goals.{After-part_of-part, At-loop-v}
 
-pub nodes_in-count-requires : goal.nodes_in-count-requires
-nodes_in-count-requires c = tt
-
 pub loop-v-init : goal.loop-v-init
 loop-v-init c =
     let a = c.args in
     let r = reached_most a.nodes (length a.wider.now) in
-    (omega arith, rw c.nodes_in-count.ensures r.0, rw c.nodes_in-count.ensures r.1, sums_start a.side a.zone a.weight a.paying a.wider.now)
-
-pub offset_bounds-zone-v : goal.offset_bounds-zone-v
-offset_bounds-zone-v c = omega arith
-
-pub bounds-zone-v : goal.bounds-zone-v
-bounds-zone-v c = omega arith
-
-pub offset_bounds-weight-v : goal.offset_bounds-weight-v
-offset_bounds-weight-v c = omega arith
-
-pub bounds-weight-v : goal.bounds-weight-v
-bounds-weight-v c = omega arith
-
-pub offset_bounds-paying-v : goal.offset_bounds-paying-v
-offset_bounds-paying-v c = omega arith
-
-pub bounds-paying-v : goal.bounds-paying-v
-bounds-paying-v c = omega arith
-
-pub offset_bounds-wider-v : goal.offset_bounds-wider-v
-offset_bounds-wider-v c = omega arith
-
-pub bounds-wider-v : goal.bounds-wider-v
-bounds-wider-v c = omega arith
-
-pub part_of-part-requires : goal.part_of-part-requires
-part_of-part-requires c = tt
+    (rw c.nodes_in-count.ensures r.0, rw c.nodes_in-count.ensures r.1, rw c.nothing-all.ensures (sums_start a.side a.zone a.weight a.paying a.wider.now))
 
 -- what the node adds
 module _ (c : After-part_of-part) where
@@ -65,33 +35,27 @@ offset_bounds-all-k c = omega (arith, (fits c).slot)
 pub bounds-all-k : goal.bounds-all-k
 bounds-all-k c = (fits c).slot
 
-pub with_part-requires : goal.with_part-requires
-with_part-requires c =
-    let p = c.before in
+pub plus-requires : goal.plus-requires
+plus-requires c =
+    let p = c.before.before in
     let a = (l p).args in
-    (all_fit a.side a.zone a.weight a.paying a.wider.now (l p).loop-v.v _ (omega arith) (fits p).slot (l p).loop-v.invariant.3, fits p)
+    (all_fit a.side a.zone a.weight a.paying a.wider.now (l p).loop-v.v _ (omega arith) (fits p).slot (l p).loop-v.invariant.2, (fits p).adds)
 
 pub offset_bounds-all-k-in-loop-v : goal.offset_bounds-all-k-in-loop-v
-offset_bounds-all-k-in-loop-v c = omega (arith, (fits c.before.before).slot)
+offset_bounds-all-k-in-loop-v c = omega (arith, (fits c.before.before.before).slot)
 
 pub bounds-all-k-in-loop-v : goal.bounds-all-k-in-loop-v
-bounds-all-k-in-loop-v c = (fits c.before.before).slot
-
-pub overflow_add-v : goal.overflow_add-v
-overflow_add-v c = omega arith
-
-pub loop-v-smaller : goal.loop-v-smaller
-loop-v-smaller c = omega arith
+bounds-all-k-in-loop-v c = (fits c.before.before.before).slot
 
 pub loop-v-preserved : goal.loop-v-preserved
 loop-v-preserved c =
-    let p = c.before.before in
+    let p = c.before.before.before in
     let a = (l p).args in
     let e = added p in
-    (omega arith, omega arith, omega arith, rw e (sums_turn a.side a.zone a.weight a.paying a.wider.now (l p).loop-v.v (l p).loop-v.invariant.3 (rw e at c.with_part.ensures)))
+    (omega arith, omega arith, rw e (sums_turn a.side a.zone a.weight a.paying a.wider.now (l p).loop-v.v (l p).loop-v.invariant.2 (rw e at c.plus.ensures)))
 
 pub returns : goal.returns
 unfolding zone_sums
 returns c =
     let e : c.loop-v.v ≡ nodes_in c.args.nodes (length c.args.wider.now) = omega (arith, c.nodes_in-count.ensures) in
-    rw e at c.loop-v.invariant.3
+    rw e at c.loop-v.invariant.2

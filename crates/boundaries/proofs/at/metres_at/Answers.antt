@@ -1,26 +1,18 @@
-use mathlib.Core.Path.{◌∙◌}
-use Prim.Native.Nat.{◌-◌}
+use mathlib.Core.Path.{◌∙◌, ap}
+use Prim.Native.Nat.{ℕ}
 use native.Mathlib.Omega.{arith}
+use lib.IntN.{pos}
+use lib.ListN.{get_or}
 use Rattle.integers.proofs.Machine.{back}
-use Rattle.meaning.specs.Columns.{metres_at}
-use Rattle.chains.proofs.Laws.{in_array, zone_in, zone_out}
+use Rattle.meaning.specs.declared.Metres.{Metres}
+use Rattle.meaning.specs.Columns.{distance}
+use Rattle.chains.proofs.Laws.{zone_read}
+use Rattle.boundaries.specs.Boundaries.{close}
 use Rattle.boundaries.proofs.at.metres_at.Goals as goal
 
-pub overflow_sub-m : goal.overflow_sub-m
-overflow_sub-m c = (in_array _ c.if-z.true).0
-
-pub offset_bounds-metres-z : goal.offset_bounds-metres-z
-offset_bounds-metres-z c = omega (arith, in_array c.args.z c.if-z.true)
-
-pub bounds-metres-z : goal.bounds-metres-z
-bounds-metres-z c = omega (arith, in_array c.args.z c.if-z.true)
-
-pub returns-then-z : goal.returns-then-z
-returns-then-z c =
-    let a = c.args in
-    back _ c.close.type_inv
-    ∙ simp (back (metres_at a.metres (a.z - 1)) (omega (arith, c.struct_told-1.given))) at c.close.ensures
-    ∙ zone_in _ _ a.z c.if-z.true
-
 pub returns : goal.returns
-returns c = zone_out _ _ c.args.z c.if-z.false
+unfolding close
+returns c =
+    let a = c.args in
+    back _ c.close.type_inv ∙ simp (back c.of_zone.result.0 (omega arith)) at c.close.ensures ∙ ap (λ (m : Metres). close m.0) c.of_zone.ensures
+    ∙ zone_read (distance (pos 0)) (λ (i : ℕ). get_or a.metres.now i (distance (pos 0))) (λ (m : Metres). close m.0) a.z

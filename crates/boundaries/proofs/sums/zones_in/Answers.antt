@@ -1,12 +1,8 @@
-use native.Mathlib.Omega.{arith}
 use Rattle.boundaries.proofs.Laws.{zones_all_lem, zones_none}
 use Rattle.boundaries.proofs.sums.zones_in.Goals as goal
 
-pub returns-then-zones-le32 : goal.returns-then-zones-le32
-returns-then-zones-le32 c = zones_all_lem _ c.args.zones c.if-in_force.true _ (omega arith)
-
 pub returns-then-in_force : goal.returns-then-in_force
-returns-then-in_force c = zones_all_lem _ c.args.zones c.if-in_force.true 32 (omega arith)
+returns-then-in_force c = zones_all_lem _ c.args.zones c.if-in_force.true _ c.min.ensures
 
 pub returns : goal.returns
 returns c = zones_none _ c.args.zones c.if-in_force.false

@@ -4,6 +4,7 @@ use Rattle.circuit_table.proofs.lengths.length_at.Goals as goal
 
 pub returns : goal.returns
 returns c =
-    c.expanded.ensures
-    ∙ length_read _ _ _ _ _ _ _ _ _ _ c.u32_at-voltage.ensures.value c.u32_at-overhead.ensures.value
-    c.u32_at-cable.ensures.value c.factor_at-own.ensures c.overhead_factor-over.ensures c.cable_factor-under.ensures
+    let voltage = rw c.row_at-at.ensures at c.u32_at-voltage.ensures.value in
+    let overhead = rw c.row_at-at.ensures at c.u32_at-overhead.ensures.value in
+    let cable = rw c.row_at-at.ensures at c.u32_at-cable.ensures.value in
+    c.expanded.ensures ∙ length_read _ _ _ _ _ _ _ _ _ _ voltage overhead cable c.factor_at.ensures c.factors_for-over.ensures.overhead c.factors_for-over.ensures.cable

@@ -1,37 +1,28 @@
-use mathlib.Core.Path.{◌≡◌, sym, ap, ◌∙◌}
+use mathlib.Core.Path.{sym, ap, ◌∙◌}
 use mathlib.Core.Bool.{not}
 use native.Mathlib.Omega.{arith}
-use Rattle.meaning.specs.File.{row_at, circuit_at}
-use Rattle.meaning.specs.Tables.{sound_circuit_row}
-use Rattle.meaning.proofs.Frame.{row_low}
 use Rattle.meaning.proofs.Rows.{passed_zero, passed_more}
 use Rattle.meaning.proofs.First.{first_stops, first_ends}
-use Rattle.layout.specs.Readable.{readable}
 use Rattle.circuit_table.proofs.CircuitLaws.{few, ends_at}
 use Rattle.circuit_table.proofs.row.first_unsound.Goals as goal
 
-pub loop-i-init : goal.loop-i-init
-loop-i-init c = (omega arith, passed_zero _)
+pub loop-row-init : goal.loop-row-init
+loop-row-init c = passed_zero _
 
-pub bounds-columns-i : goal.bounds-columns-i
-bounds-columns-i c = omega (arith, few _ c.requires)
+pub bounds-columns-row : goal.bounds-columns-row
+bounds-columns-row c = omega (arith, few _ c.requires)
 
-pub bounds-columns-i-in-loop-i : goal.bounds-columns-i-in-loop-i
-bounds-columns-i-in-loop-i c = omega (arith, few _ c.requires)
+pub bounds-columns-row-in-loop-row : goal.bounds-columns-row-in-loop-row
+bounds-columns-row-in-loop-row c = omega (arith, few _ c.requires)
 
 pub sound_row-requires : goal.sound_row-requires
-sound_row-requires c =
-    rw c.row_at.ensures (ends_at _ c.requires c.loop-i.i (omega arith) (row_low c.args.rows (omega arith) (omega arith) (omega arith)))
+sound_row-requires c = ends_at _ c.requires c.loop-row.row (omega arith)
 
-pub loop-i-preserved : goal.loop-i-preserved
-loop-i-preserved c =
-    let told : let a = c.args in sound_circuit_row (readable a.file.now).nodes (circuit_at a.file.now a.rows.size (row_at a.rows c.loop-i.i)) ≡ c.sound_row.result = sym (rw c.row_at.ensures at c.sound_row.ensures) in
-    (omega arith, passed_more c.loop-i.invariant.1 (ap not (told ∙ c.if-sound_row.true)))
+pub loop-row-preserved : goal.loop-row-preserved
+loop-row-preserved c = passed_more c.loop-row.invariant (ap not (sym c.sound_row.ensures ∙ c.if-not-sound_row.false))
 
-pub returns-else-sound_row : goal.returns-else-sound_row
-returns-else-sound_row c =
-    let told : let a = c.args in sound_circuit_row (readable a.file.now).nodes (circuit_at a.file.now a.rows.size (row_at a.rows c.loop-i.i)) ≡ c.sound_row.result = sym (rw c.row_at.ensures at c.sound_row.ensures) in
-    first_stops c.loop-i.invariant.1 (omega arith) (ap not (told ∙ c.if-sound_row.false))
+pub returns-then-not-sound_row : goal.returns-then-not-sound_row
+returns-then-not-sound_row c = (omega arith, first_stops c.loop-row.invariant (omega arith) (ap not (sym c.sound_row.ensures ∙ c.if-not-sound_row.true)))
 
 pub returns : goal.returns
-returns c = first_ends c.loop-i.invariant.1 (omega arith)
+returns c = first_ends c.loop-row.invariant (omega arith)

@@ -1,15 +1,12 @@
-use mathlib.Core.Path.{sym, ◌∙◌}
-use Rattle.flows.proofs.Signed.{counts_are}
+use Rattle.std.proofs.Common.{◌≡◌, ◌∙◌, arith}
+use denote.Enum.Bare.{sameb}
+use Rattle.meaning.specs.contracts.Background.{the_type}
+use Rattle.meaning.specs.declared.Background.{Background}
+use Rattle.meaning.specs.Editions.{same_background}
 use Rattle.flows.proofs.marks.counts_in.Goals as goal
 
-pub returns-in-YearRound-background : goal.returns-in-YearRound-background
-returns-in-YearRound-background c = counts_are _ _ c.in-YearRound-background.is (sym c.background_of.ensures ∙ c.in-YearRound.is)
+same_is : (a b : Background) → sameb the_type a b ≡ same_background a b
+same_is a b = grind arith
 
-pub returns-in-Peak-background : goal.returns-in-Peak-background
-returns-in-Peak-background c = counts_are _ _ c.in-Peak-background.is (sym c.background_of.ensures ∙ c.in-YearRound.is)
-
-pub returns-in-YearRound-background-2 : goal.returns-in-YearRound-background-2
-returns-in-YearRound-background-2 c = counts_are _ _ c.in-YearRound-background-2.is (sym c.background_of.ensures ∙ c.in-Peak.is)
-
-pub returns-in-Peak-background-2 : goal.returns-in-Peak-background-2
-returns-in-Peak-background-2 c = counts_are _ _ c.in-Peak-background-2.is (sym c.background_of.ensures ∙ c.in-Peak.is)
+pub returns : goal.returns
+returns c = c.eq.ensures ∙ rw c.background_of.ensures (same_is c.args.background _)

@@ -1,4 +1,5 @@
 use mathlib.Core.Path.{◌≡◌, sym, ◌∙◌}
+use mathlib.Core.Logic.{⊎_elim}
 use Prim.Native.Nat.{◌*◌, ◌≤◌}
 use native.Mathlib.Omega.{arith}
 use lib.IntN.{pos, ◌-ℤ◌}
@@ -21,7 +22,7 @@ pub returns-in-Idle : goal.returns-in-Idle
 returns-in-Idle c =
     let short : c.args.long ≤ 30000000000 = omega arith in
     let directed : c.direction_of.result ≡ direction c.args.flow = let b : Back c.args.flow = fit_back c.ranges.flow in simp b at c.direction_of.ensures in
-    idle_length _ _ short (sym c.in-Idle.is ∙ directed)
+    ⊎_elim (λ e. idle_length _ _ short (sym e ∙ directed)) (λ e. doubtful_length _ _ short (sym e ∙ directed)) c.in-Idle.is
 
 pub returns-in-Forward : goal.returns-in-Forward
 returns-in-Forward c =
@@ -37,9 +38,3 @@ returns-in-Backward c =
     let bt : Back (pos 0 -ℤ pos (1000000 * c.args.long)) = fit_back (turned_fits (1000000 * c.args.long) (omega arith)) in
     let directed : c.direction_of.result ≡ direction c.args.flow = let b : Back c.args.flow = fit_back c.ranges.flow in simp b at c.direction_of.ensures in
     simp (bn, bt) (backward_length _ _ short (sym c.in-Backward.is ∙ directed))
-
-pub returns-in-InDoubt : goal.returns-in-InDoubt
-returns-in-InDoubt c =
-    let short : c.args.long ≤ 30000000000 = omega arith in
-    let directed : c.direction_of.result ≡ direction c.args.flow = let b : Back c.args.flow = fit_back c.ranges.flow in simp b at c.direction_of.ensures in
-    doubtful_length _ _ short (sym c.in-InDoubt.is ∙ directed)

@@ -14,11 +14,7 @@ overflow_add-start c =
 
 pub loop-section-preserved : goal.loop-section-preserved
 loop-section-preserved c =
-    chained_on c.loop-section.invariant (omega (arith, c.sections-sections.ensures.0)) c.offset.ensures.0 (rw c.version-version.ensures at c.record_size.ensures) c.count.ensures.0 c.count.ensures.1
-
-pub overflow_add-result : goal.overflow_add-result
-overflow_add-result c =
-    omega (arith, c.loop-section.invariant.within, c.loop-section.invariant.low, c.sections-sections.ensures)
+    chained_on c.loop-section.invariant (omega (arith, c.sections-section-end.ensures.0)) c.offset.ensures.0 (rw c.version-version.ensures at c.record_size.ensures) c.count.ensures.0 c.count.ensures.1
 
 pub returns : goal.returns
-returns c = chained_is c.loop-section.invariant (omega (arith, c.sections-sections.ensures.0)) c.trailer_size.ensures.0
+returns c = chained_is c.loop-section.invariant (omega (arith, c.sections-section-end.ensures.0)) c.trailer_size.ensures.0

@@ -1,4 +1,5 @@
 use mathlib.Core.Path.{sym, ap}
+use native.Mathlib.Omega.{arith}
 use borrow.Author.Tests.{ne_eqb}
 use Rattle.meaning.specs.File.{circuit_size}
 use Rattle.layout.proofs.trailer.circuit_size.Goals as goal
@@ -9,4 +10,4 @@ returns-in-2 c = sym (ap circuit_size c.in-2.is)
 
 pub returns-in_default : goal.returns-in_default
 unfolding circuit_size
-returns-in_default c = simp (ne_eqb _ _ c.in_default.in_default-own.rest.1)
+returns-in_default c = simp (ne_eqb c.args.version 2 (λ e. omega arith))

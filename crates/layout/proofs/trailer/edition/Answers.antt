@@ -1,4 +1,5 @@
 use mathlib.Core.Path.{refl, sym, ◌∙◌, ap}
+use native.Mathlib.Omega.{arith}
 use borrow.Author.Tests.{ne_eqb}
 use Rattle.meaning.specs.Editions.{edition_of}
 use Rattle.meaning.specs.File.{edition_at}
@@ -10,4 +11,4 @@ returns-in-2 c = ap edition_of (sym c.in-2.is ∙ c.u32_at.ensures.value)
 
 pub returns-in_default : goal.returns-in_default
 unfolding edition_at edition_of
-returns-in_default c = rw (sym c.u32_at.ensures.value, ne_eqb _ _ c.in_default.in_default-own.rest.1) refl
+returns-in_default c = rw (sym c.u32_at.ensures.value, ne_eqb c.u32_at.result 2 (λ e. omega arith)) refl

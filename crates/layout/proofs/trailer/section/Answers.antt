@@ -19,9 +19,6 @@ offset-requires c = let p = c.requires in (omega (arith, (whole_file _ p.0).long
 pub version-requires : goal.version-requires
 version-requires c = omega (arith, (whole_file _ c.requires.0).long)
 
-pub record_size-requires : goal.record_size-requires
-record_size-requires c = let b = below _ _ c.requires.1 in omega (arith, b)
-
 pub overflow_cast-result-2 : goal.overflow_cast-result-2
 overflow_cast-result-2 c = omega (arith, small _ _ c.record_size.ensures)
 

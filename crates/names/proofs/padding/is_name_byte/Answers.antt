@@ -5,4 +5,4 @@ use Rattle.names.proofs.padding.is_name_byte.Goals as goal
 
 pub returns : goal.returns
 unfolding name_byte ◌between◌and◌
-returns c = refl
+returns c = rw (c.is_ascii_uppercase.ensures.value, c.is_ascii_digit.ensures.value) refl

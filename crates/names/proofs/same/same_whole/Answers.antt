@@ -5,4 +5,4 @@ use Rattle.names.proofs.same.same_whole.Goals as goal
 pub returns : goal.returns
 returns c =
     let a = c.args in
-    same_numbers a.file.now (λ i. omega (arith, c.shared_slice_known-1.given i)) a.a a.b (omega arith) (omega arith) c.whole_u64.ensures c.whole_u64-2.ensures c.whole_u32.ensures.0 c.whole_u32-2.ensures.0
+    same_numbers a.file.now (λ i. omega (arith, c.type_inv.file i)) a.a a.b (omega arith) (omega arith) c.whole_u64.ensures c.whole_u64-2.ensures c.whole_u32.ensures c.whole_u32-2.ensures

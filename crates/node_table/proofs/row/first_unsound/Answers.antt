@@ -1,29 +1,14 @@
-use mathlib.Core.Path.{◌≡◌, sym, ap, ◌∙◌}
-use mathlib.Core.Bool.{not}
-use native.Mathlib.Omega.{arith}
-use Rattle.meaning.specs.File.{row_at, node_at}
-use Rattle.meaning.specs.Tables.{sound_node_row}
-use Rattle.meaning.proofs.Frame.{row_low}
-use Rattle.meaning.proofs.Rows.{passed_zero, passed_more}
-use Rattle.meaning.proofs.First.{first_stops, first_ends}
+use mathlib.Core.Path.{◌≡◌}
+use mathlib.Core.Bool.{true, false}
+use Prim.Native.Nat.{ℕ}
+use Rattle.std.proofs.Common.{rules}
+use Rattle.std.proofs.lemmas.Iterator.{first_from_Range}
+use Rattle.node_table.specs.Told.{unsound_node}
+use Rattle.meaning.proofs.First.{first_found}
 use Rattle.node_table.proofs.row.first_unsound.Goals as goal
 
-pub loop-i-init : goal.loop-i-init
-loop-i-init c = (omega arith, passed_zero _)
-
-pub sound_row-requires : goal.sound_row-requires
-sound_row-requires c =
-    omega (arith, c.row_at.ensures, row_low c.args.rows {i = c.loop-i.i} (omega arith) (omega arith) (omega arith))
-
-pub loop-i-preserved : goal.loop-i-preserved
-loop-i-preserved c =
-    let told : let a = c.args in sound_node_row a.settings (node_at a.file.now (row_at a.rows c.loop-i.i)) ≡ c.sound_row.result = sym (rw c.row_at.ensures at c.sound_row.ensures) in
-    (omega arith, passed_more c.loop-i.invariant.1 (ap not (told ∙ c.if-sound_row.true)))
-
-pub returns-else-sound_row : goal.returns-else-sound_row
-returns-else-sound_row c =
-    let told : let a = c.args in sound_node_row a.settings (node_at a.file.now (row_at a.rows c.loop-i.i)) ≡ c.sound_row.result = sym (rw c.row_at.ensures at c.sound_row.ensures) in
-    first_stops c.loop-i.invariant.1 (omega arith) (ap not (told ∙ c.if-sound_row.false))
-
 pub returns : goal.returns
-returns c = first_ends c.loop-i.invariant.1 (omega arith)
+returns c =
+    let a = c.args in
+    let unsound = unsound_node a.settings a.file.now a.rows in
+    first_found unsound a.rows.count _ (first_from_Range _ _ _ _ (λ (i : ℕ). unsound i ≡ true) (λ (i : ℕ). unsound i ≡ false) c.find.ensures.ran (λ x q k. search rules) (λ x q k. search rules))

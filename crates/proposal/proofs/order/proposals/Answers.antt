@@ -1,24 +1,56 @@
--- `proposal::order::proposals` meets its contract: what follows systems 1 and 4 is judged where they pass, and that is 02's order. A base system has the offset 0 whatever the headings.
-use mathlib.Core.Path.{◌∙◌}
+-- `proposal::order::proposals` meets its contract: each stage is judged where those before it pass, in the order of the edition. A base system has the offset 0 whatever the headings.
+use Rattle.std.proofs.Common.{◌∙◌}
 use Rattle.meaning.specs.declared.Background.TheVariants.{YearRound, Peak}
 use Rattle.meaning.specs.declared.System.TheVariants.{Base}
-use Rattle.meaning.proofs.Answers.{stops_first, passes-first}
+use Rattle.meaning.proofs.Answers.{refuses, stops_first, passes-first}
 use Rattle.flows.specs.Flows.{offset_in}
-use Rattle.proposal.proofs.Told.{in_two_parts, of_peak, flows_first}
+use Rattle.proposal.proofs.Told.{one_by_one, of_peak}
 use Rattle.proposal.proofs.order.proposals.Goals as goal
 
-pub of_flows-of_base-requires : goal.of_flows-of_base-requires
-of_flows-of_base-requires c = c.requires (Base YearRound) tt
+pub of_flows-requires : goal.of_flows-requires
+of_flows-requires c = c.requires (Base YearRound) tt
 
-pub of_peak_flows-of_peak_base-requires : goal.of_peak_flows-of_peak_base-requires
-of_peak_flows-of_peak_base-requires c = λ e. c.requires (Base Peak) (of_peak e)
+pub of_peak_flows-requires : goal.of_peak_flows-requires
+of_peak_flows-requires c = λ e. c.requires (Base Peak) (of_peak e)
 
-pub returns-in-Stops : goal.returns-in-Stops
+pub returns-in_err-of_flows : goal.returns-in_err-of_flows
 unfolding offset_in
-returns-in-Stops c =
-    stops_first _ (c.of_peak_flows-of_peak_base.ensures ∙ flows_first _ _ _ c.of_flows-of_base.ensures) c.in-Stops.is ∙ in_two_parts _ _ _ _
+returns-in_err-of_flows c = refuses c.from_residual.ensures ∙ stops_first _ c.of_flows.ensures c.in_err-of_flows.was ∙ one_by_one _ _ _ _
 
-pub returns-in-Passes : goal.returns-in-Passes
+pub returns-in_err-of_peak_flows : goal.returns-in_err-of_peak_flows
 unfolding offset_in
-returns-in-Passes c =
-    passes-first _ (c.of_peak_flows-of_peak_base.ensures ∙ flows_first _ _ _ c.of_flows-of_base.ensures) c.in-Passes.is c.after_flows.ensures ∙ in_two_parts _ _ _ _
+returns-in_err-of_peak_flows c =
+    passes-first _ c.of_flows.ensures c.in_ok-of_flows.was
+    (refuses c.from_residual-in_err-of_peak_flows.ensures ∙ stops_first _ c.of_peak_flows.ensures c.in_err-of_peak_flows.was)
+    ∙ one_by_one _ _ _ _
+
+pub returns-in_err-backgrounds : goal.returns-in_err-backgrounds
+unfolding offset_in
+returns-in_err-backgrounds c =
+    let backgrounds = rw c.headings-headings.ensures at c.backgrounds.ensures in
+    passes-first _ c.of_flows.ensures c.in_ok-of_flows.was
+    (passes-first _ c.of_peak_flows.ensures c.in_ok-of_peak_flows.was
+    (refuses c.from_residual-in_err-backgrounds.ensures ∙ stops_first _ backgrounds c.in_err-backgrounds.was))
+    ∙ one_by_one _ _ _ _
+
+pub returns-in_err-directions : goal.returns-in_err-directions
+unfolding offset_in
+returns-in_err-directions c =
+    let backgrounds = rw c.headings-headings.ensures at c.backgrounds.ensures in
+    let directions = rw c.headings-headings.ensures at c.directions.ensures in
+    passes-first _ c.of_flows.ensures c.in_ok-of_flows.was
+    (passes-first _ c.of_peak_flows.ensures c.in_ok-of_peak_flows.was
+    (passes-first _ backgrounds c.in_ok-backgrounds.was
+    (refuses c.from_residual-in_err-directions.ensures ∙ stops_first _ directions c.in_err-directions.was)))
+    ∙ one_by_one _ _ _ _
+
+pub returns : goal.returns
+unfolding offset_in
+returns c =
+    let backgrounds = rw c.headings-headings.ensures at c.backgrounds.ensures in
+    let directions = rw c.headings-headings.ensures at c.directions.ensures in
+    let lengths = rw c.headings-headings.ensures at c.distances.ensures in
+    passes-first _ c.of_flows.ensures c.in_ok-of_flows.was
+    (passes-first _ c.of_peak_flows.ensures c.in_ok-of_peak_flows.was
+    (passes-first _ backgrounds c.in_ok-backgrounds.was (passes-first _ directions c.in_ok-directions.was lengths)))
+    ∙ one_by_one _ _ _ _

@@ -6,7 +6,7 @@ pub of_distances-requires : goal.of_distances-requires
 of_distances-requires c = c.requires c.in-Second.is
 
 pub returns-in-First : goal.returns-in-First
-returns-in-First c = first_alone _ _ _ c.in-First.is
+returns-in-First c = first_alone _ _ c.in-First.is
 
 pub returns-in-Second : goal.returns-in-Second
-returns-in-Second c = c.of_distances.ensures ∙ second_too _ _ _ c.in-Second.is
+returns-in-Second c = c.of_distances.ensures ∙ second_too _ _ c.in-Second.is

@@ -9,18 +9,9 @@ use Rattle.station_table.proofs.tec.cell_of.Goals.{Then-node-nodes}
 known : (c : Then-node-nodes) → let a = c.args in Cell a.nodes a.node a.plant
 known c = cell_known _ _ _ c.if-node-nodes.true
 
-pub overflow_mul-result : goal.overflow_mul-result
-overflow_mul-result c = let k = known c in omega arith
-
-pub overflow_add-result : goal.overflow_add-result
-overflow_add-result c = let k = known c in omega arith
-
-pub overflow_sub-result : goal.overflow_sub-result
-overflow_sub-result c = let k = known c in omega arith
-
 pub returns-then-node-nodes : goal.returns-then-node-nodes
 unfolding cell_of ◌between◌and◌
-returns-then-node-nodes c = rw c.if-node-nodes.true refl
+returns-then-node-nodes c = let k = known c in (rw c.if-node-nodes.true refl, omega arith)
 
 pub returns : goal.returns
 unfolding cell_of ◌between◌and◌

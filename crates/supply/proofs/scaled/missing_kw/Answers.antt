@@ -11,13 +11,7 @@ use Rattle.supply.proofs.scaled.missing_kw.Goals.{After-share-missing, At-loop-v
 pub loop-v-init : goal.loop-v-init
 loop-v-init c =
     let a = c.args in
-    (omega arith, omega (arith, sum-zero (whole_share a.n (kw_at a.tec) a.demand.0)))
-
-pub offset_bounds-tec-v : goal.offset_bounds-tec-v
-offset_bounds-tec-v c = omega arith
-
-pub bounds-tec-v : goal.bounds-tec-v
-bounds-tec-v c = omega arith
+    omega (arith, sum-zero (whole_share a.n (kw_at a.tec.now) a.demand.0))
 
 -- a turn's share
 module _ (c : After-share-missing) where
@@ -25,13 +19,13 @@ module _ (c : After-share-missing) where
   l = c.before.before.before
 
   abbrev share : ℕ → ℕ
-  share = let a = l.args in whole_share a.n (kw_at a.tec) a.demand.0
+  share = let a = l.args in whole_share a.n (kw_at a.tec.now) a.demand.0
 
   answered : c.share-missing.result.0 ≡ share l.loop-v.v
   answered = c.share-missing.ensures ∙ share_is _ _ _ _ l.requires l.loop-v.v
 
   holds : share l.loop-v.v ≤ l.loop-v.missing
-  holds = missing_holds _ _ _ _ l.requires l.loop-v.missing l.loop-v.v l.loop-v.invariant.1 (omega arith)
+  holds = missing_holds _ _ _ _ l.requires l.loop-v.missing l.loop-v.v l.loop-v.invariant (omega arith)
 
 pub share-missing-requires : goal.share-missing-requires
 share-missing-requires c = (tec_small _ _ _ _ c.requires _ (omega arith), omega arith, omega arith)
@@ -39,16 +33,10 @@ share-missing-requires c = (tec_small _ _ _ _ c.requires _ (omega arith), omega 
 pub overflow_sub-missing : goal.overflow_sub-missing
 overflow_sub-missing c = omega (arith, answered c.before, holds c.before)
 
-pub overflow_add-v : goal.overflow_add-v
-overflow_add-v c = omega arith
-
-pub loop-v-smaller : goal.loop-v-smaller
-loop-v-smaller c = omega arith
-
 pub loop-v-preserved : goal.loop-v-preserved
-loop-v-preserved c = let b = c.before in (omega arith, omega (arith, answered b, holds b, sum_more (l b).loop-v.v (share b)))
+loop-v-preserved c = let b = c.before in omega (arith, answered b, holds b, sum_more (l b).loop-v.v (share b))
 
 pub returns : goal.returns
 returns c =
     let e : c.loop-v.v ≡ c.args.n = omega arith in
-    missing_all _ _ _ _ c.requires _ (rw e at c.loop-v.invariant.1)
+    missing_all _ _ _ _ c.requires _ (rw e at c.loop-v.invariant)

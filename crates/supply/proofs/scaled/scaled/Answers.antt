@@ -14,13 +14,7 @@ pub missing_kw-missing-requires : goal.missing_kw-missing-requires
 missing_kw-missing-requires c = c.requires
 
 pub loop-v-init : goal.loop-v-init
-loop-v-init c = (omega arith, sym (sum-zero _), sym (column_none (kilowatts 0) 256 _))
-
-pub offset_bounds-tec-v : goal.offset_bounds-tec-v
-offset_bounds-tec-v c = omega arith
-
-pub bounds-tec-v : goal.bounds-tec-v
-bounds-tec-v c = omega arith
+loop-v-init c = (sym (sum-zero _), sym (column_none (kilowatts 0) 256 _))
 
 -- ---- a turn's node: its share and what is left over, as they were answered
 module _ (c : After-kw-1) where
@@ -33,13 +27,13 @@ module _ (c : After-kw-1) where
   in_table : v < s.args.n
   in_table = omega arith
 
-  more : let f = left_over s.args.n (kw_at s.args.tec) s.args.demand.0 in sum (v + 1) f ≡ sum v f + f v
-  more = sum_more v (left_over s.args.n (kw_at s.args.tec) s.args.demand.0)
+  more : let f = left_over s.args.n (kw_at s.args.tec.now) s.args.demand.0 in sum (v + 1) f ≡ sum v f + f v
+  more = sum_more v (left_over s.args.n (kw_at s.args.tec.now) s.args.demand.0)
 
-over-answered : (c : After-over-more) → c.over-more.result ≡ let a = (s c.before).args in left_over a.n (kw_at a.tec) a.demand.0 (v c.before)
+over-answered : (c : After-over-more) → c.over-more.result ≡ let a = (s c.before).args in left_over a.n (kw_at a.tec.now) a.demand.0 (v c.before)
 over-answered c = c.over-more.ensures ∙ over_is _ _ _ _ (s c.before).requires (v c.before)
 
-share-answered : (c : After-share) → c.share.result.0 ≡ let a = (s c.before.before).args in whole_share a.n (kw_at a.tec) a.demand.0 (v c.before.before)
+share-answered : (c : After-share) → c.share.result.0 ≡ let a = (s c.before.before).args in whole_share a.n (kw_at a.tec.now) a.demand.0 (v c.before.before)
 share-answered c = c.share.ensures ∙ share_is _ _ _ _ (s c.before.before).requires (v c.before.before)
 
 pub over-more-requires : goal.over-more-requires
@@ -53,34 +47,21 @@ with_over-requires c =
     let k = c.before.before in
     (omega (arith, share-answered c, share_small _ _ _ _ (s k).requires (v k) (in_table k)), omega (arith, over-answered c.before, over_one _ _ _ _ (s k).requires (v k)))
 
-pub offset_bounds-scaled-v : goal.offset_bounds-scaled-v
-offset_bounds-scaled-v c = omega arith
-
-pub bounds-scaled-v : goal.bounds-scaled-v
-bounds-scaled-v c = omega arith
-
 pub overflow_add-before : goal.overflow_add-before
 overflow_add-before c =
     let k = c.before.before.before in
-    omega (arith, k.loop-v.invariant.1, over-answered c.before.before, over_one _ _ _ _ (s k).requires (v k), before_small _ _ _ _ (s k).requires (v k) (in_table k))
-
-pub overflow_add-v : goal.overflow_add-v
-overflow_add-v c = omega arith
-
-pub loop-v-smaller : goal.loop-v-smaller
-loop-v-smaller c = omega arith
+    omega (arith, k.loop-v.invariant.0, over-answered c.before.before, over_one _ _ _ _ (s k).requires (v k), before_small _ _ _ _ (s k).requires (v k) (in_table k))
 
 pub loop-v-preserved : goal.loop-v-preserved
 loop-v-preserved c =
     let k = c.before.before.before in
     let o = over-answered c.before.before in (
-      omega arith,
-      omega (arith, k.loop-v.invariant.1, o, more k),
-      column_turn (kilowatts 0) 256 _ (v k) (omega arith) k.loop-v.invariant.2 (ap kilowatts (c.with_over.ensures
-          ∙ scaled_is _ _ _ _ (s k).requires (v k) _ _ _ _ (share-answered c.before) o k.loop-v.invariant.1 k.missing_kw-missing.ensures)),
+      omega (arith, k.loop-v.invariant.0, o, more k),
+      column_turn (kilowatts 0) 256 _ (v k) (omega arith) k.loop-v.invariant.1 (ap kilowatts (c.with_over.ensures
+          ∙ scaled_is _ _ _ _ (s k).requires (v k) _ _ _ _ (share-answered c.before) o k.loop-v.invariant.0 k.missing_kw-missing.ensures)),
     )
 
 pub returns : goal.returns
 returns c =
     let e : c.loop-v.v ≡ c.args.n = omega arith in
-    rw e at c.loop-v.invariant.2
+    rw e at c.loop-v.invariant.1

@@ -1,22 +1,39 @@
--- `tables::read::tables` meets its contract: each table is judged over what is shown of it.
-use mathlib.Core.Path.{◌≡◌, refl}
-use Rattle.tables.specs.Order.{then_nodes, then_circuits}
-use Rattle.meaning.specs.Tables.{nodes_stage, circuits_stage, stations_stage}
-use Rattle.tables.proofs.OrderLaws.{judged_after}
+-- `tables::read::tables` meets its contract.
+use Rattle.std.proofs.Common.{refl, sym, ◌∙◌}
+use Rattle.meaning.specs.Answers.{◌or_else◌}
+use Rattle.meaning.proofs.Answers.{refuses, let_through, held_back, yields_passes}
+use Rattle.tables.specs.Order.{rows_after}
+use Rattle.tables.specs.Opens.{opened_of}
+use Rattle.tables.proofs.Lent.{stopped, given}
 use Rattle.tables.proofs.read.tables.Goals as goal
 
+pub returns-in_err-judge : goal.returns-in_err-judge
+unfolding rows_after ◌or_else◌
+returns-in_err-judge c =
+    let s = stopped _ _ (refuses c.from_residual.ensures) (rw (← c.judge.ensures, c.in_err-judge.was) refl) in
+    record { judged = s.0; possible = s.1 }
+
+pub returns-in-Err : goal.returns-in-Err
+unfolding rows_after ◌or_else◌
+returns-in-Err c =
+    let s = stopped _ _ refl (rw (← c.judge.ensures, c.in_ok-judge.was, held_back _ _ c.judge-2.ensures c.in-Err.is) refl) in
+    record { judged = s.0; possible = s.1 }
+
+pub returns-in-Err-judge : goal.returns-in-Err-judge
+unfolding rows_after ◌or_else◌
+returns-in-Err-judge c =
+    let circuits = let_through _ _ c.judge-2.ensures c.in-Ok.is in
+    let s = stopped _ _ refl (rw (← c.judge.ensures, c.in_ok-judge.was, circuits.0, held_back _ _ c.judge-3.ensures.judged c.in-Err-judge.is) refl) in
+    record { judged = s.0; possible = s.1 }
+
 pub returns : goal.returns
+unfolding rows_after opened_of ◌or_else◌
 returns c =
-    let after-nodes : let a = c.args in c.or_else-after_nodes.result ≡ then_nodes a.frame a.file.now = judged_after nodes_stage _ _ (rw (c.or_else-after_nodes.ensures, c.judge.ensures, c.shown.ensures) refl) in
-    let after-circuits : let a = c.args in c.or_else-after_circuits.result ≡ then_circuits a.frame a.file.now = judged_after circuits_stage _ _ (rw (c.or_else-after_circuits.ensures, c.judge-judged.ensures.0, c.shown-network.ensures, after-nodes) refl) in
+    let circuits = let_through _ _ c.judge-2.ensures c.in-Ok.is in
+    let stations = let_through _ _ c.judge-3.ensures.judged c.in-Ok-judge.is in
     record {
-      rows = judged_after stations_stage _ _ (rw (c.or_else.ensures, c.judge-summed.ensures.0, c.shown-2.ensures, after-circuits) refl);
-      columns = record {
-        counts = c.counts-counts.ensures;
-        settings = c.settings-settings.ensures;
-        nodes = rw (c.columns-nodes.ensures, c.shown-network.ensures, after-nodes) refl;
-        circuits = rw (c.judge-judged.ensures.1, c.shown-network.ensures, after-nodes) refl;
-        by_type = rw (c.judge-summed.ensures.1, c.shown-2.ensures, after-circuits) refl;
-        possible = c.judge-summed.ensures.2;
-      };
+      judged =
+          rw (c.counts-opened.ensures, c.settings-opened.ensures, c.columns-opened.ensures, circuits.1, stations.1)
+          (sym (yields_passes _ refl) ∙ yields_passes _ (rw (← c.judge.ensures, c.in_ok-judge.was, circuits.0, stations.0) refl));
+      possible = given _ _ (rw c.in-Ok-judge.is at c.judge-3.ensures.possible);
     }

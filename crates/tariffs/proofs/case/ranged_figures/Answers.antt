@@ -14,18 +14,18 @@ figures_from-requires c =
     -- the totals, as they were tested
     let as_tested = ap₂ ◌&&◌ (ap₂ ◌&&◌ (sym c.totals_fit-generation.ensures) (sym c.totals_fit-served.ensures)) (sym c.shares_fit-shared.ensures) in
     let p = c.requires in
-    case_fits a.settings a.sides a.nodes a.tec a.paying a.demand a.local.now a.shares c.total-payers.ensures c.total-load.ensures (as_tested ∙ c.if-generation-served.true) p.0 p.1 p.2
+    case_fits a.settings a.sides.now a.nodes a.tec.now a.paying.now a.demand.now a.local.now a.shares.now c.total-payers.ensures c.total-load.ensures (as_tested ∙ c.if-generation-served.true) p.0 p.1 p.2
 
 pub returns-then-generation-served : goal.returns-then-generation-served
 returns-then-generation-served c =
     let a = c.args in
     -- the totals, as they were tested
     let as_tested = ap₂ ◌&&◌ (ap₂ ◌&&◌ (sym c.totals_fit-generation.ensures) (sym c.totals_fit-served.ensures)) (sym c.shares_fit-shared.ensures) in
-    c.figures_from.ensures ∙ ranged a.settings a.sides a.nodes a.tec a.paying a.demand a.local.now a.shares c.total-payers.ensures c.total-load.ensures (as_tested ∙ c.if-generation-served.true)
+    c.figures_from.ensures ∙ ranged a.settings a.sides.now a.nodes a.tec.now a.paying.now a.demand.now a.local.now a.shares.now c.total-payers.ensures c.total-load.ensures (as_tested ∙ c.if-generation-served.true)
 
 pub returns : goal.returns
 returns c =
     let a = c.args in
     -- the totals, as they were tested
     let as_tested = ap₂ ◌&&◌ (ap₂ ◌&&◌ (sym c.totals_fit-generation.ensures) (sym c.totals_fit-served.ensures)) (sym c.shares_fit-shared.ensures) in
-    c.no_figures.ensures ∙ no_totals a.settings a.sides a.nodes a.tec a.paying a.demand a.local.now a.shares c.total-payers.ensures c.total-load.ensures (as_tested ∙ c.if-generation-served.false)
+    c.no_figures.ensures ∙ no_totals a.settings a.sides.now a.nodes a.tec.now a.paying.now a.demand.now a.local.now a.shares.now c.total-payers.ensures c.total-load.ensures (as_tested ∙ c.if-generation-served.false)

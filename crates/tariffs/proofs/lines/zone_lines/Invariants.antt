@@ -1,7 +1,7 @@
 -- The invariant: a column of the zones passed.
 use mathlib.Core.Path.{◌≡◌}
 use mathlib.Core.List.{List}
-use Prim.Native.Nat.{ℕ, ◌≤◌, ◌-◌}
+use Prim.Native.Nat.{ℕ}
 use Rattle.meaning.specs.declared.MicroPerKw.{MicroPerKw}
 use Rattle.meaning.specs.declared.WiderFigures.{WiderFigures}
 use Rattle.meaning.specs.declared.SharedFigures.{SharedFigures}
@@ -15,7 +15,4 @@ abbrev pub mine : MicroPerKw → List ZoneSums → (year_round peak : List Wider
 mine residual sums y p s k = line_from (sums_in sums k).weight (wider_at y k) (wider_at p k) (shared_at s k) residual
 
 abbrev pub invariant-loop-k : goal.invariant-loop-k
-invariant-loop-k l = (l.k ≤ l.count) × (l.all ≡ column no_line 32 l.k (mine l.residual l.sums l.year_round l.peak l.shared))
-
-abbrev pub decreases-loop-k : goal.decreases-loop-k
-decreases-loop-k l = l.count - l.k
+invariant-loop-k l = l.all ≡ column no_line 32 l.k (mine l.residual l.sums l.year_round l.peak l.shared)

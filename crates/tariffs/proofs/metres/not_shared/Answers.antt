@@ -1,36 +1,11 @@
-use mathlib.Core.Path.{◌≡◌, refl, sym}
-use native.Mathlib.Omega.{arith}
+use borrow.Author.Rules.{rules}
 use lib.IntN.{pos}
 use Rattle.meaning.specs.Columns.{distance}
-use Rattle.meaning.proofs.Columns.{column_none, column_turn}
-use Rattle.tariffs.specs.Sides.{not_shared_over}
+use Rattle.tariffs.specs.Sides.{no_parts, parts_in, not_shared_over}
+use Rattle.tariffs.proofs.Mapped.{mapped_column}
 use Rattle.tariffs.proofs.metres.not_shared.Goals as goal
-
-pub loop-k-init : goal.loop-k-init
-loop-k-init c = (omega arith, sym (column_none _ _ _))
-
-pub offset_bounds-parts-k : goal.offset_bounds-parts-k
-offset_bounds-parts-k c = omega arith
-
-pub bounds-parts-k : goal.bounds-parts-k
-bounds-parts-k c = omega arith
-
-pub offset_bounds-all-k : goal.offset_bounds-all-k
-offset_bounds-all-k c = omega arith
-
-pub bounds-all-k : goal.bounds-all-k
-bounds-all-k c = omega arith
-
-pub overflow_add-k : goal.overflow_add-k
-overflow_add-k c = omega arith
-
-pub loop-k-smaller : goal.loop-k-smaller
-loop-k-smaller c = omega arith
-
-pub loop-k-preserved : goal.loop-k-preserved
-loop-k-preserved c =
-    (omega arith, column_turn (distance (pos 0)) 32 _ c.loop-k.k (omega arith) c.loop-k.invariant.1 refl)
 
 pub returns : goal.returns
 unfolding not_shared_over
-returns c = let e : c.loop-k.k ≡ 32 = omega arith in rw e at c.loop-k.invariant.1
+returns c =
+    mapped_column (distance (pos 0)) no_parts (λ k. (parts_in c.args.parts.now k).not_shared) c.map.ensures.items (λ i p q y l post. search rules)

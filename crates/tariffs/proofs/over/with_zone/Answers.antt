@@ -48,19 +48,19 @@ module _ (over : Over) (zone : ZoneSums) (fit : OverFits over × SumsFit zone) w
   bw : Back (old +ℤ m *ℤ pos kw)
   bw = fit_back all_fit
 
-pub overflow_mul-sum : goal.overflow_mul-sum
-overflow_mul-sum c =
+pub overflow_mul-result : goal.overflow_mul-result
+overflow_mul-result c =
     let o = c.args.over in
     let z = c.args.zone in
     let f = c.requires in
-    simp (c.metres_of-metres.ensures, bm o z f, bk o z f) (fits o z f)
+    simp (c.metres_of.ensures, bm o z f, bk o z f) (fits o z f)
 
-pub overflow_add-sum : goal.overflow_add-sum
-overflow_add-sum c =
+pub overflow_add-result : goal.overflow_add-result
+overflow_add-result c =
     let o = c.args.over in
     let z = c.args.zone in
     let f = c.requires in
-    simp (c.metres_of-metres.ensures, bo o z f, bm o z f, bk o z f, bp o z f) (all_fit o z f)
+    simp (c.metres_of.ensures, bo o z f, bm o z f, bk o z f, bp o z f) (all_fit o z f)
 
 pub returns : goal.returns
 unfolding with_zone
@@ -68,4 +68,4 @@ returns c =
     let o = c.args.over in
     let z = c.args.zone in
     let f = c.requires in
-    simp (c.metres_of-metres.ensures, bo o z f, bm o z f, bk o z f, bp o z f, bw o z f)
+    simp (c.metres_of.ensures, bo o z f, bm o z f, bk o z f, bp o z f, bw o z f)

@@ -46,9 +46,6 @@ module _ (s : Start) where
 
 ruleset E = (bm, bk, bf, bp, bw)
 
-pub overflow_mul-product : goal.overflow_mul-product
-overflow_mul-product c = simp E (first c.before.before)
-
 pub overflow_mul-product-2 : goal.overflow_mul-product-2
 overflow_mul-product-2 c = simp E (whole c.before.before)
 

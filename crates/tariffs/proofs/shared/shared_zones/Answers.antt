@@ -2,10 +2,10 @@ use mathlib.Core.Path.{refl}
 use Rattle.tariffs.specs.Sides.{shared_zones}
 use Rattle.tariffs.proofs.shared.shared_zones.Goals as goal
 
-pub returns-then-in_force : goal.returns-then-in_force
+pub returns-then-in_force-clause-zones : goal.returns-then-in_force-clause-zones
 unfolding shared_zones
-returns-then-in_force c = rw c.if-in_force.true refl
+returns-then-in_force-clause-zones c = rw c.if-in_force.true refl
 
-pub returns : goal.returns
+pub returns-clause-zones : goal.returns-clause-zones
 unfolding shared_zones
-returns c = rw c.if-in_force.false refl
+returns-clause-zones c = rw c.if-in_force.false refl

@@ -1,18 +1,6 @@
 use native.Mathlib.Omega.{arith}
-use lib.Seq.{take_all}
-use Rattle.lines.proofs.Making.{kept, within, copy_none, copy_more}
+use Rattle.lines.proofs.Making.{put_word}
 use Rattle.text.proofs.put.put_bytes.Goals as goal
 
-pub loop-i-init : goal.loop-i-init
-loop-i-init c = (omega arith, omega arith, copy_none c.args.out.now c.args.at)
-
-pub loop-i-preserved : goal.loop-i-preserved
-loop-i-preserved c =
-    let a = c.args in
-    let p = copy_more a.text.now c.loop-i.i (omega arith) c.loop-i.invariant.2 in
-    (omega arith, kept p, p)
-
 pub returns : goal.returns
-returns c =
-    let a = c.args in
-    within (rw (take_all c.loop-i.i a.text.now (omega arith)) at c.loop-i.invariant.2) (omega arith)
+returns c = put_word _ _ _ c.copy_from_slice.ensures.after (omega arith)

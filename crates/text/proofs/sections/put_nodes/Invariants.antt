@@ -1,6 +1,6 @@
 -- `text::sections::put_nodes` meets its contract: the rows before v are written.
 use mathlib.Core.List.{List}
-use Prim.Native.Nat.{ℕ, ◌≤◌, ◌-◌, ◌*◌}
+use Prim.Native.Nat.{ℕ, ◌*◌}
 use Rattle.meaning.specs.Rows.{joined}
 use Rattle.meaning.specs.declared.Section.{Section}
 use Rattle.meaning.specs.declared.LocalFigures.{LocalFigures}
@@ -14,7 +14,4 @@ abbrev pub row : List LocalFigures → (file : List ℕ) → Section → ℕ →
 row local file rows v = node_line (name_of file rows v) (local_in local v)
 
 abbrev pub invariant-loop-v : goal.invariant-loop-v
-invariant-loop-v l = (l.v ≤ l.nodes) × Put (57 * l.v) l.initial.out l.from (joined l.v (row l.local l.file l.rows)) l.out l.at
-
-abbrev pub decreases-loop-v : goal.decreases-loop-v
-decreases-loop-v l = l.nodes - l.v
+invariant-loop-v l = Put (57 * l.v) l.initial.out l.from (joined l.v (row l.local l.names.file.now l.names.rows)) l.out l.at

@@ -1,6 +1,6 @@
 -- `text::sections::put_zones` meets its contract: the rows before k are written.
 use mathlib.Core.List.{List}
-use Prim.Native.Nat.{ℕ, ◌≤◌, ◌-◌, ◌*◌}
+use Prim.Native.Nat.{ℕ, ◌*◌}
 use Rattle.meaning.specs.Rows.{joined}
 use Rattle.meaning.specs.Text.{line}
 use Rattle.meaning.specs.declared.Side.{Side}
@@ -15,7 +15,4 @@ abbrev pub row : Side → SideFigures → ℕ → List ℕ
 row side f k = line (zone_row side (side_in f) k)
 
 abbrev pub invariant-loop-k : goal.invariant-loop-k
-invariant-loop-k l = (l.k ≤ l.f.zones) × Put (width * l.k) l.initial.out l.from (joined l.k (row l.side l.f)) l.out l.at
-
-abbrev pub decreases-loop-k : goal.decreases-loop-k
-decreases-loop-k l = l.f.zones - l.k
+invariant-loop-k l = Put (width * l.k) l.initial.out l.from (joined l.k (row l.side l.f)) l.out l.at

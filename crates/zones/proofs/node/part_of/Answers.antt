@@ -41,6 +41,6 @@ returns-then-in_ranges c =
 
 pub returns : goal.returns
 returns c =
-    let d = c.before in
+    let d = c.before.before in
     let a = (s d).args in
-    sym (part_none a.side a.zone a.weight a.paying a.potential (sym (tested d) ∙ c.if-in_ranges.false))
+    rw c.nothing.ensures (sym (part_none a.side a.zone a.weight a.paying a.potential (sym (tested d) ∙ c.if-in_ranges.false)))

@@ -1,7 +1,0 @@
-use native.Mathlib.Omega.{arith}
-use Rattle.meaning.specs.File.{u32}
-use Rattle.names.proofs.bytes.whole_u32.Goals as goal
-
-pub returns : goal.returns
-unfolding u32
-returns c = omega arith
