@@ -9,7 +9,7 @@ use boundaries::Shares;
 use meaning::{Edition, Figures, Kw, Refusal, Solutions};
 use plants::Counted;
 use station_table::by_node;
-use tables::Opened;
+use tables::{Lengths, Opened};
 
 // The TEC that pays in peak, by node; none is looked for in edition 1, which has no peak.
 fn paying_at_peak(edition: Edition, by_type: [Kw; 1792]) -> [Kw; 256]
@@ -58,13 +58,24 @@ fn figures_of(opened: &Opened, runs: &Solutions, share: &[u8]) -> Figures
     )
 }
 
-// The figures of a case, made of the columns that were judged, or what stops it first among 1 to 11 and 13 to 16.
-pub fn charge(file: &[u8], runs: &Solutions, share: &[u8]) -> Result<Figures, Refusal>
+// Judges a case once, and makes its figures of the columns that were judged.
+fn of_columns(file: &[u8], runs: &Solutions, share: &[u8]) -> Result<Figures, Refusal>
     ensures { result ≡ charged_of file.now (lent runs.now) share.now }
 {
     let mut opened = tables::nothing_read();
     match proposal::open(file, runs, share, &mut opened) {
         Err(cause) => Err(cause),
         Ok(()) => Ok(figures_of(&opened, runs, share)),
+    }
+}
+
+// The figures of a case, or what stops it first among 1 to 11 and 13 to 16. A file that is not whole, or a bad setting, is answered before there is room for any table: a function zeroes all its room as it begins, so that room is another's.
+pub fn charge(file: &[u8], runs: &Solutions, share: &[u8]) -> Result<Figures, Refusal>
+    ensures { result ≡ charged_of file.now (lent runs.now) share.now }
+{
+    // Neither `?` nor an early return: each zeroes room for the figures once more.
+    match tables::frame(file, Lengths::of(runs)) {
+        Err(cause) => Err(cause),
+        Ok(()) => of_columns(file, runs, share),
     }
 }

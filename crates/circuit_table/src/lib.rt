@@ -6,12 +6,11 @@ mod lengths;
 mod row;
 
 ghost use Rattle.std.specs.Prelude.{◌≡◌};
-ghost use Rattle.meaning.specs.Answers.{yields};
 ghost use Rattle.meaning.specs.Tables.{circuits_stage};
 ghost use Rattle.layout.specs.Readable.{readable};
 ghost use Rattle.circuit_table.specs.Columns.{circuits_of};
 
-use meaning::Refusal;
+use meaning::Judgement;
 
 // Numbers of each circuit's end nodes, the count of nodes where there is none; reactance, expanded length in mm, local mark.
 #[derive(Clone, Copy)]
@@ -44,16 +43,15 @@ fn columns(file: &[u8]) -> CircuitColumns
     }
 }
 
-// 4: the lowest circuit that is not sound; else the columns. Names are resolved once for both.
-pub fn judge(file: &[u8]) -> Result<CircuitColumns, Refusal>
-    ensures { result ≡ yields (circuits_stage (readable file.now)) (circuits_of (readable file.now)) }
+// 4: the lowest circuit that is not sound. The columns are in the room that was lent for them, those of a table that is stopped too; names are resolved once for both.
+pub fn judge(file: &[u8], room: &mut CircuitColumns) -> Judgement
+    ensures judged { result ≡ circuits_stage (readable file.now) }
+    ensures read { room.new ≡ circuits_of (readable file.now) }
 {
     let nodes = layout::section(file, layout::NODES);
     let rows = layout::section(file, layout::CIRCUITS);
-    let columns = columns(file);
-    // No `?` where columns are answered: it keeps room for them on the stack.
-    match row::stage(file, nodes.count as usize, rows, &columns) {
-        Err(cause) => Err(cause),
-        Ok(()) => Ok(columns),
-    }
+    let read = columns(file);
+    let judged = row::stage(file, nodes.count as usize, rows, &read);
+    *room = read;
+    judged
 }

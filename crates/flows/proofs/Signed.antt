@@ -16,6 +16,8 @@ use Rattle.integers.proofs.Core.{Z}
 use Rattle.integers.proofs.Laws.{abs_neg}
 use Rattle.meaning.specs.declared.Direction.{Direction}
 use Rattle.meaning.specs.declared.Direction.TheVariants.{Idle, Forward, Backward, InDoubt}
+use denote.Enum.Bare.{sameb}
+use Rattle.meaning.specs.contracts.Background.{the_type}
 use Rattle.meaning.specs.Editions.{same_background}
 use Rattle.meaning.specs.Direction.{direction, signed, background}
 use Rattle.meaning.specs.declared.Background.{Background}
@@ -131,3 +133,7 @@ module _ (edition : Edition) (n : ℕ) (mark : List ℕ) (base peak_base : List 
   pub headings_past : circuits_in n (length base) ≤ c → c < 512 → get_or (headings_of edition n mark base peak_base) c no_heading ≡ no_heading
   unfolding headings_of
   headings_past h l = column_past no_heading 512 (heading_at edition n mark base peak_base) no_heading _ c h l
+
+-- code's equality of backgrounds is the definition's
+pub same_is : (a b : Background) → sameb the_type a b ≡ same_background a b
+same_is a b = grind arith

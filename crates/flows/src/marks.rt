@@ -23,6 +23,7 @@ pub fn signed_length(long: u64, flow: i64) -> i64
 }
 
 // Whether a circuit that counts so counts for a background.
+#[tactic(auto, using(crate::proofs::Signed::same_is))]
 pub fn counts_in(background: Background, counting: Counting) -> bool
     ensures { result ≡ same_background background (own_background counting) }
 {

@@ -23,7 +23,8 @@ pub fn push_decimal(line: &mut Line, z: i64)
     requires { line.old.len + 20 ≤ width }
     ensures { Adds 20 line.old (decimal z) line.new }
 {
-    if z < 0 {
+    let below_zero = z < 0;
+    if below_zero {
         push(line, b'-');
     }
     push_natural(line, z.unsigned_abs());

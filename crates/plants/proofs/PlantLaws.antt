@@ -7,6 +7,8 @@ use native.Mathlib.Nat.{mul-le-mul_right}
 use native.Mathlib.Omega.{arith}
 use lib.ListN.{get_or}
 use Rattle.integers.specs.Numbers.{sum}
+use denote.Enum.Bare.{sameb}
+use Rattle.meaning.specs.contracts.Plant.{the_type}
 use Rattle.meaning.specs.declared.Edition.{Edition}
 use Rattle.meaning.specs.declared.Edition.TheVariants.{First, Second}
 use Rattle.meaning.specs.declared.Background.{Background}
@@ -129,3 +131,8 @@ module _ (G : Grid) where
     pub variable_tec_lem : over_types (part_of (Variable G.settings.edition b)) G ≡ variable_tec G b
     unfolding part_of variable_tec
     variable_tec_lem = refl
+
+-- code's equality of plant types is the definition's
+pub same_is : (a b : Plant) → sameb the_type a b ≡ same_plant a b
+unfolding same_plant type_of
+same_is a b = grind arith

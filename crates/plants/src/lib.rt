@@ -42,11 +42,19 @@ pub enum Counted {
 fn pays(plant: Plant) -> bool
     ensures { result ≡ pays_at_all plant }
 {
-    !matches!(plant, Plant::Interconnector)
+    match plant {
+        Plant::Intermittent => true,
+        Plant::NuclearAndCcs => true,
+        Plant::Interconnector => false,
+        Plant::Hydro => true,
+        Plant::PumpedStorage => true,
+        Plant::Peaking => true,
+        Plant::Other => true,
+    }
 }
 
 // What counts of the TEC of a plant type.
-#[tactic(auto, using(crate::proofs::PlantLaws::low_percentage), unfolding(crate::specs::Counted::part_of))]
+#[tactic(auto, using(crate::proofs::PlantLaws::low_percentage, crate::proofs::PlantLaws::same_is), unfolding(crate::specs::Counted::part_of))]
 pub fn part(counted: Counted, plant: Plant, kw: Kw) -> Kw
     ensures { result.0 ≡ part_of counted plant kw.0 }
 {

@@ -12,7 +12,15 @@ use meaning::{Plant, Running};
 pub fn pays(plant: Plant) -> bool
     ensures { result ≡ pays_in Peak plant }
 {
-    !matches!(plant, Plant::Intermittent | Plant::Interconnector)
+    match plant {
+        Plant::Intermittent => false,
+        Plant::NuclearAndCcs => true,
+        Plant::Interconnector => false,
+        Plant::Hydro => true,
+        Plant::PumpedStorage => true,
+        Plant::Peaking => true,
+        Plant::Other => true,
+    }
 }
 
 // How it runs.

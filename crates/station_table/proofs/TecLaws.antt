@@ -5,7 +5,7 @@ use mathlib.Core.List.{List}
 use Prim.Native.Nat.{ℕ, suc, ◌+◌, ◌*◌, ◌-◌, ◌/◌, ◌%◌, ◌^◌, ◌≤◌, ◌<◌}
 use native.Mathlib.Decide.{dec_le, dec_lt}
 use native.Mathlib.Omega.{arith}
-use borrow.Author.Tests.{eq-eqb, ne_eqb, le-leb, lt-leb, lt-ltb}
+use borrow.Author.Tests.{eq-eqb, ne_eqb, le-leb, lt-leb}
 use lib.Dec.{eqb, leb, ltb}
 use lib.ListN.{length, get_or, set, replicate, get_or-eq_default}
 use Rattle.integers.specs.Numbers.{sum}
@@ -23,7 +23,7 @@ use Rattle.plants.specs.declared.Counted.{Counted}
 use Rattle.plants.specs.Counted.{part_of}
 use Rattle.plants.proofs.PlantLaws.{part_low}
 use Rattle.layout.specs.Readable.{readable}
-use Rattle.meaning.specs.Columns.{kilowatts, number_at, kw_at, column}
+use Rattle.meaning.specs.Columns.{kilowatts, number_at, kw_at}
 use Rattle.station_table.specs.Columns.{stations_of}
 use Rattle.station_table.specs.Tec.{cell_of, cell_tec, types_of, Possible, possible_kw, types_tec, by_node}
 use Rattle.station_table.specs.declared.StationColumns.{StationColumns}

@@ -4,14 +4,13 @@
 mod row;
 mod tec;
 
-ghost use Rattle.std.specs.Prelude.{◌≡◌, IfOk};
-ghost use Rattle.meaning.specs.Answers.{yields};
+ghost use Rattle.std.specs.Prelude.{◌≡◌};
 ghost use Rattle.meaning.specs.Tables.{stations_stage};
 ghost use Rattle.layout.specs.Readable.{readable};
 ghost use Rattle.station_table.specs.Columns.{stations_of};
 ghost use Rattle.station_table.specs.Tec.{types_of, Possible, by_node};
 
-use meaning::{Kw, Refusal};
+use meaning::{Judgement, Kw};
 use plants::Counted;
 
 // The number of each station's node, its plant type and TEC.
@@ -34,19 +33,18 @@ fn columns(file: &[u8]) -> StationColumns
     StationColumns { node, plant, tec }
 }
 
-// 5: the lowest station that is not sound; else the TEC of each node by plant type, type t of node v at 7 v + t - 1. Names are resolved once for both.
-pub fn judge(file: &[u8]) -> Result<[Kw; 1792], Refusal>
-    ensures judged { result ≡ yields (stations_stage (readable file.now)) (types_of (readable file.now)) }
-    ensures possible { IfOk result Possible }
+// 5: the lowest station that is not sound. The TEC of each node by plant type, type t of node v at 7 v + t - 1, is in the room that was lent for it, that of a table that is stopped too; names are resolved once for both.
+pub fn judge(file: &[u8], room: &mut [Kw; 1792]) -> Judgement
+    ensures judged { result ≡ stations_stage (readable file.now) }
+    ensures summed { room.new ≡ types_of (readable file.now) }
+    ensures possible { Possible room.new }
 {
     let nodes = layout::section(file, layout::NODES).count as usize;
     let rows = layout::section(file, layout::STATIONS);
     let columns = columns(file);
-    // No `?` where columns are answered: it keeps room for them on the stack.
-    match row::stage(file, nodes, rows, &columns.node) {
-        Err(cause) => Err(cause),
-        Ok(()) => Ok(tec::by_type(&columns, nodes, rows.count as usize)),
-    }
+    let judged = row::stage(file, nodes, rows, &columns.node);
+    *room = tec::by_type(&columns, nodes, rows.count as usize);
+    judged
 }
 
 // What counts of the TEC of each node, its types added up. A cell above what 512 stations can have, which no file has, counts as none.

@@ -41,6 +41,7 @@ pub fn in_system(system: System, year_round: [i64; 256], peak: [i64; 256]) -> [i
     match system {
         System::Base(Background::YearRound) => year_round,
         System::Base(Background::Peak) => peak,
-        System::Wider(_) | System::Local => [0; 256],
+        System::Wider(_) => [0; 256],
+        System::Local => [0; 256],
     }
 }

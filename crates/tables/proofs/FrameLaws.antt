@@ -1,5 +1,5 @@
 -- 1 and 2: a file that is not whole, runs of another length, and the settings of a whole file.
-use mathlib.Core.Path.{◌≡◌, refl, ◌∙◌, ap, ap₂}
+use mathlib.Core.Path.{◌≡◌, refl, ◌∙◌, ap₂}
 use mathlib.Core.Bool.{Bool, true, false, cond, ◌&&◌}
 use mathlib.Core.List.{List}
 use Prim.Native.Nat.{ℕ, ◌+◌, ◌≤◌}
@@ -30,7 +30,8 @@ use Rattle.layout.specs.Readable.{readable}
 use Rattle.layout.specs.Frame.{counts_of}
 use Rattle.meaning.proofs.Whole.{whole_file}
 use Rattle.layout.proofs.Rows.{readable_whole, counts_are, few}
-use Rattle.tables.specs.Order.{frame_stage}
+use Rattle.tables.specs.declared.Lengths.{Lengths}
+use Rattle.tables.specs.Order.{frame_stage, lengths_of, long_of}
 
 module _ (file : List ℕ) (long : System → ℕ) where
   pub file_stops : file_whole file ≡ false → Err BadFile ≡ frame_stage file long
@@ -84,16 +85,21 @@ module _ (file : List ℕ) {r : RowCounts} (t : r ≡ counts_of (readable file))
           five (eqb base (solution_count file)) (eqb wider (solution_count file)) (eqb local (solution_count file)) (eqb peak_base (solution_count file))
           (eqb peak_wider (solution_count file))
 
-  -- the same of the solutions that are lent, as code asks it
-  pub runs_asked : file_whole file ≡ true → {s : Settings} → s ≡ (readable file).settings → (l : Solutions) {peak : ℕ} {y p : Bool}
+  -- the same of the lengths that code is told
+  pub runs_asked : file_whole file ≡ true → {s : Settings} → s ≡ (readable file).settings → (l : Lengths) {peak : ℕ} {y p : Bool}
       → let k = r.nodes + r.circuits in
-      y ≡ (eqb (length l.base.now) k && eqb (length l.wider.now) k && eqb (length l.local.now) k)
-      → peak ≡ by_edition 0 k s.edition → p ≡ (eqb (length l.peak_base.now) peak && eqb (length l.peak_wider.now) peak)
-      → (y && p) ≡ runs_whole file (λ s. length (lent l s))
-  runs_asked whole q l ey ek ep =
-      ap₂ ◌&&◌ ey (rw ek at ep)
-      ∙ runs_are whole q (length l.base.now) (length l.wider.now) (length l.local.now) (length l.peak_base.now) (length l.peak_wider.now)
-      ∙ ap (runs_whole file) (by_system_lem length l.base.now l.wider.now l.local.now l.peak_base.now l.peak_wider.now)
+      y ≡ (eqb l.base k && eqb l.wider k && eqb l.local k)
+      → peak ≡ by_edition 0 k s.edition → p ≡ (eqb l.peak_base peak && eqb l.peak_wider peak)
+      → (y && p) ≡ runs_whole file (long_of l)
+  runs_asked whole q l ey ek ep = ap₂ ◌&&◌ ey (rw ek at ep) ∙ runs_are whole q l.base l.wider l.local l.peak_base l.peak_wider
+
+-- the lengths of the runs that are lent, by system
+pub long_lent : (l : Solutions) → long_of (lengths_of l) ≡ (λ s. length (lent l s))
+unfolding lengths_of
+long_lent l = by_system_lem length l.base.now l.wider.now l.local.now l.peak_base.now l.peak_wider.now
+
+pub long_is : {l : Lengths} (s : Solutions) → l ≡ lengths_of s → long_of l ≡ (λ t. length (lent s t))
+long_is s e = rw e (long_lent s)
 
 -- the run of a system of the file's edition
 pub run_length_lem : (file : List ℕ) (s : System) → HasSystem (edition_at file) s → run_length file s ≡ solution_count file

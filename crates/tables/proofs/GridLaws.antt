@@ -12,15 +12,14 @@ use Rattle.meaning.specs.declared.Background.TheVariants.{YearRound, Peak}
 use Rattle.meaning.specs.declared.System.{System}
 use Rattle.meaning.specs.declared.Refusal.TheVariants.{Unscalable}
 use Rattle.meaning.specs.Answers.{Judgement}
-use Rattle.std.specs.Prelude.{Result, Ok, Err}
-use Rattle.meaning.specs.declared.Refusal.{Refusal}
+use Rattle.std.specs.Prelude.{Ok}
 use Rattle.meaning.specs.Answers.{◌or_else◌, unless, in_second}
 use Rattle.meaning.specs.Columns.{kw_at}
 use Rattle.meaning.specs.Grid.{Grid, grid_of, totals_stage, chargeable_stage}
 use Rattle.meaning.specs.Generation.{scalable, scaling_stage}
 use Rattle.meaning.specs.Network.{network_of}
 use Rattle.meaning.specs.Outcome.{grid_stage, tables_stage}
-use Rattle.meaning.proofs.Answers.{or_else_same, passes-unless, let_through, held_back}
+use Rattle.meaning.proofs.Answers.{or_else_same, passes-unless}
 use Rattle.meaning.proofs.Generation.{node_runs}
 use Rattle.meaning.proofs.Networks.{SameEnds, reach_same}
 use Rattle.plants.specs.declared.Counted.{Counted}
@@ -31,13 +30,13 @@ use Rattle.layout.specs.Readable.{readable}
 use Rattle.layout.proofs.Rows.{counts_are, few}
 use Rattle.walk.specs.Walk.{walked}
 use Rattle.tables.specs.declared.Opened.{Opened}
-use Rattle.tables.specs.Order.{frame_stage}
-use Rattle.tables.specs.Opens.{Reads}
+use Rattle.tables.specs.Order.{frame_stage, rows_after}
+use Rattle.tables.specs.Opens.{Columns}
 use Rattle.tables.specs.Reads.{totals_of, chargeable_of, scalable_of, scaling_in, grid_in}
-use Rattle.tables.proofs.ReadLaws.{StudyColumns, columns_opened}
+use Rattle.tables.proofs.ReadLaws.{StudyColumns, rows_read}
 use Rattle.tables.proofs.NetworkLaws.{columns_network}
 use Rattle.tables.proofs.NodeLaws.{SameNodes, columns_nodes, all_at, fixed_at, variable_at, total_demand_lem, total_tec_lem, total_paying, total_fixed_lem, total_variable_lem}
-use Rattle.tables.proofs.OrderLaws.{chain_is}
+use Rattle.tables.proofs.OrderLaws.{rows_pass}
 
 module _ (file : List ℕ) {a : Opened} (t : StudyColumns (readable file) a) where
   abbrev G : Grid
@@ -119,23 +118,7 @@ module _ (file : List ℕ) {a : Opened} (t : StudyColumns (readable file) a) whe
       (or_else_same (totals_of n a.nodes.demand (column All)) (λ p. ap₂ ◌or_else◌ chargeable_is (scaling_is p))
       ∙ ap (λ (r : Judgement). r or_else chargeable_stage G or_else scaling_stage G) totals_are)
 
--- ---- a file whose frame and rows were judged, and read
-module _ (file : List ℕ) (long : System → ℕ) where
-  module _ {frame : Judgement} (ef : frame ≡ frame_stage file long) where
-    pub frame_stops : {r : Refusal} → frame ≡ Err r → tables_stage file long ≡ Err r
-    unfolding ◌or_else◌
-    frame_stops h = sym (chain_is file long) ∙ rw (← ef, h) refl
-
-    module _ (pf : frame ≡ Ok tt) {read : Result Opened Refusal} (t : Reads file read) where
-      pub rows_stop : {r : Refusal} → read ≡ Err r → tables_stage file long ≡ Err r
-      unfolding ◌or_else◌
-      rows_stop h = sym (chain_is file long) ∙ rw (← ef, pf, held_back _ _ t.judged h) refl
-
-      module _ {a : Opened} (h : read ≡ Ok a) where
-        rows_columns : StudyColumns (readable file) a
-        rows_columns = columns_opened (let_through _ _ t.judged h).1 (rw h at t.possible)
-
-        -- then 6, 7, 13 and 14 decide
-        pub grid_decides : {x : Judgement} → x ≡ grid_in a → tables_stage file long ≡ x
-        unfolding ◌or_else◌
-        grid_decides e = sym (chain_is file long) ∙ rw (← ef, pf, (let_through _ _ t.judged h).0, ← grid_judgement file rows_columns) (sym e)
+-- ---- a file whose frame and rows were judged, and read: 6, 7, 13 and 14 decide
+pub grid_decides : {file : List ℕ} (long : System → ℕ) {before after : Opened} → Columns (frame_stage file long) file before after
+    → {x y : Judgement} → x ≡ (frame_stage file long or_else rows_after (readable file)) → x ≡ Ok tt → y ≡ grid_in after → tables_stage file long ≡ y
+grid_decides {file} long t e h g = rows_pass file long e h ∙ sym (grid_judgement file (rows_read t (sym e ∙ h))) ∙ sym g

@@ -4,6 +4,6 @@ pub mod NetworkLaws
 pub mod NodeLaws
 pub mod ScalingLaws
 pub mod Lent
-mod GridLaws
+pub mod GridLaws
 pub mod FrameLaws
 pub mod Sound

@@ -1,5 +1,5 @@
 -- 14: totals are added as they are, cut off at 10^8 + 1.
-use mathlib.Core.Path.{◌≡◌, sym, ap}
+use mathlib.Core.Path.{ap}
 use mathlib.Core.List.{List}
 use Prim.Native.Nat.{ℕ, ◌≤◌}
 use native.Mathlib.Decide.{dec_le}

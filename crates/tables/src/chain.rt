@@ -4,6 +4,7 @@ ghost use Rattle.meaning.specs.Editions.{by_edition};
 ghost use Rattle.tables.specs.Reads.{totals_of, chargeable_of, scaling_of, background_in, scaling_in, grid_in};
 
 use crate::Opened;
+use answers::or_else;
 use meaning::{Background, Edition, Judgement, Kw, Refusal};
 use plants::Counted;
 use station_table::by_node;
@@ -97,13 +98,14 @@ fn scaling(edition: Edition, n: usize, by_type: [Kw; 1792], demand: [Kw; 256]) -
     match edition {
         Edition::First => Ok(()),
         Edition::Second => {
-            background_stage(edition, Background::YearRound, n, by_type, demand)?;
-            background_stage(edition, Background::Peak, n, by_type, demand)
+            let year_round = background_stage(edition, Background::YearRound, n, by_type, demand);
+            let peak = background_stage(edition, Background::Peak, n, by_type, demand);
+            or_else(year_round, peak)
         }
     }
 }
 
-// 6, 7, 13 and 14.
+// 6, 7, 13 and 14. Each is judged, and the first that stops the case is answered: no `?`, so that a program which asks them in another order differs in nothing but the order.
 pub fn grid_stage(all: &Opened) -> Judgement
     ensures { result ≡ grid_in all.now }
 {
@@ -111,16 +113,18 @@ pub fn grid_stage(all: &Opened) -> Judgement
     let demand = all.nodes.demand;
     let reference = from_zero(all.settings.reference);
     let circuits = all.counts.circuits;
-    walk::stage(
+    let reached = walk::stage(
         n,
         reference,
         circuits,
         &all.circuits.first,
         &all.circuits.second,
-    )?;
+    );
     let tec = by_node(all.by_type, Counted::All);
-    totals_stage(n, demand, tec)?;
+    let totalled = totals_stage(n, demand, tec);
     let paying = by_node(all.by_type, Counted::Paying);
-    chargeable_stage(n, paying)?;
-    scaling(all.settings.edition, n, all.by_type, demand)
+    let charged = chargeable_stage(n, paying);
+    let asked = or_else(reached, or_else(totalled, charged));
+    let scaled = scaling(all.settings.edition, n, all.by_type, demand);
+    or_else(asked, scaled)
 }

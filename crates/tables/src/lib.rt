@@ -5,11 +5,10 @@ mod chain;
 mod read;
 mod settings;
 
-ghost use Rattle.std.specs.Prelude.{◌≡◌, length};
+ghost use Rattle.std.specs.Prelude.{◌≡◌};
 ghost use Rattle.meaning.specs.Answers.{yields};
-ghost use Rattle.meaning.specs.Study.{lent};
-ghost use Rattle.tables.specs.Order.{frame_stage};
-ghost use Rattle.tables.specs.Opens.{Opens, nothing_read};
+ghost use Rattle.tables.specs.Order.{frame_stage, lengths_of, long_of};
+ghost use Rattle.tables.specs.Opens.{Opens, Columns, nothing_read};
 
 use circuit_table::CircuitColumns;
 use layout::RowCounts;
@@ -24,6 +23,31 @@ pub struct Opened {
     pub nodes: NodeColumns,
     pub circuits: CircuitColumns,
     pub by_type: [Kw; 1792],
+}
+
+// How many numbers the run of each system has.
+#[derive(Clone, Copy)]
+pub struct Lengths {
+    pub base: usize,
+    pub wider: usize,
+    pub local: usize,
+    pub peak_base: usize,
+    pub peak_wider: usize,
+}
+
+impl Lengths {
+    // Of the runs that are lent.
+    pub fn of(runs: &Solutions) -> Lengths
+        ensures { result ≡ lengths_of runs.now }
+    {
+        Lengths {
+            base: runs.base.len(),
+            wider: runs.wider.len(),
+            local: runs.local.len(),
+            peak_base: runs.peak_base.len(),
+            peak_wider: runs.peak_wider.len(),
+        }
+    }
 }
 
 // Room for the columns of a case: nothing is read.
@@ -46,8 +70,8 @@ pub fn nothing_read() -> Opened
 }
 
 // 1 and 2, before any table is read: a file that is not whole, a run of another length, a setting out of its range.
-pub fn frame(file: &[u8], runs: &Solutions) -> Judgement
-    ensures { result ≡ frame_stage file.now (λ s. length (lent runs.now s)) }
+pub fn frame(file: &[u8], long: Lengths) -> Judgement
+    ensures { result ≡ frame_stage file.now (long_of long) }
 {
     if !layout::whole(file) {
         return Err(Refusal::BadFile);
@@ -56,19 +80,19 @@ pub fn frame(file: &[u8], runs: &Solutions) -> Judgement
     let settings = layout::settings(file);
     let count = counts.nodes + counts.circuits;
     let peak = chain::peak_count(settings.edition, count);
-    if chain::year_round_runs(count, runs.base.len(), runs.wider.len(), runs.local.len())
-        & chain::peak_runs(peak, runs.peak_base.len(), runs.peak_wider.len())
+    if chain::year_round_runs(count, long.base, long.wider, long.local)
+        & chain::peak_runs(peak, long.peak_base, long.peak_wider)
     {
         return settings::stage(settings, counts.nodes);
     }
     Err(Refusal::BadFile)
 }
 
-// The columns of a file, by the lengths of the five runs, or what stops it first: its tables are read in their order, and its names resolved once.
-pub fn open(file: &[u8], runs: &Solutions, opened: &mut Opened) -> Judgement
-    ensures { Opens file.now (λ s. length (lent runs.now s)) (yields result opened.new) }
+// What stops a file first, by the lengths of the five runs: its tables are read in their order, and its names resolved once. Its columns are in the room that was lent for them; of a file that is stopped, those of the tables that were read.
+pub fn open(file: &[u8], long: Lengths, room: &mut Opened) -> Judgement
+    ensures judged { Opens file.now (long_of long) (yields result room.new) }
+    ensures columns { Columns (frame_stage file.now (long_of long)) file.now room.old room.new }
 {
-    frame(file, runs)?;
-    read::tables(file, opened)?;
-    chain::grid_stage(opened)
+    read::tables(frame(file, long), file, room)?;
+    chain::grid_stage(room)
 }

@@ -1,25 +1,24 @@
 // A file's tables, read and judged in their order: each once, and only where nothing before it stops the file.
-ghost use Rattle.meaning.specs.Answers.{yields};
-ghost use Rattle.tables.specs.Opens.{Reads};
+ghost use Rattle.std.specs.Prelude.{◌≡◌};
+ghost use Rattle.meaning.specs.Answers.{◌or_else◌};
+ghost use Rattle.layout.specs.Readable.{readable};
+ghost use Rattle.tables.specs.Order.{rows_after};
+ghost use Rattle.tables.specs.Opens.{Columns};
 
 use crate::Opened;
 use meaning::Judgement;
 
-// 3, 4 and 5: what stops the file first; where nothing does, its columns are in what was lent for them. The columns are lent, since each `Result` that holds them keeps room for them on the stack.
-pub fn tables(file: &[u8], opened: &mut Opened) -> Judgement
-    ensures { Reads file.now (yields result opened.new) }
+// What stops the file first among 3, 4 and 5 where its frame was judged so, and the columns that were read on the way, in the room that was lent for them: each `Result` that holds them keeps room for them on the stack.
+pub fn tables(frame: Judgement, file: &[u8], room: &mut Opened) -> Judgement
+    ensures rows { result ≡ (frame or_else rows_after (readable file.now)) }
+    ensures columns { Columns frame file.now room.old room.new }
 {
+    room.counts = layout::counts(file);
+    room.settings = layout::settings(file);
+    frame?;
     node_table::judge(file)?;
-    match circuit_table::judge(file) {
-        Err(cause) => return Err(cause),
-        Ok(circuits) => opened.circuits = circuits,
-    }
-    match station_table::judge(file) {
-        Err(cause) => return Err(cause),
-        Ok(by_type) => opened.by_type = by_type,
-    }
-    opened.counts = layout::counts(file);
-    opened.settings = layout::settings(file);
-    opened.nodes = node_table::columns(file);
-    Ok(())
+    room.nodes = node_table::columns(file);
+    let circuits = circuit_table::judge(file, &mut room.circuits);
+    circuits?;
+    station_table::judge(file, &mut room.by_type)
 }

@@ -28,7 +28,7 @@ use Rattle.zone_kw.proofs.ZoneLaws.{kept_low, zone_low}
 
 -- ---- one plant type
 module _ (plant : Plant) (kw factor : ℕ) where
-  load_is : part_of Paying plant kw * kept 1000 factor ≡ load_of plant kw factor
+  pub load_is : part_of Paying plant kw * kept 1000 factor ≡ load_of plant kw factor
   unfolding part_of load_of
   load_is = go (pays plant)
     where

@@ -1,11 +1,9 @@
 -- `charges::charge` meets its contract.
-use Rattle.std.proofs.Common.{sym}
-use Rattle.meaning.proofs.Answers.{yields_stops, yields_passes}
-use Rattle.charges.proofs.Charging.{stopped, charged}
+use Rattle.std.proofs.Common.{ap, ◌∙◌}
+use Rattle.tables.specs.Order.{frame_stage}
+use Rattle.tables.proofs.FrameLaws.{long_is}
+use Rattle.charges.proofs.Charging.{frame_stopped}
 use Rattle.charges.proofs.charge.Goals as goal
 
 pub returns-in-Err : goal.returns-in-Err
-returns-in-Err c = stopped _ _ _ c.open.ensures (sym (yields_stops _ c.in-Err.is))
-
-pub returns-in-Ok : goal.returns-in-Ok
-returns-in-Ok c = charged _ _ _ c.open.ensures (sym (yields_passes _ c.in-Ok.is)) c.figures_of.ensures
+returns-in-Err c = frame_stopped _ _ _ (c.frame.ensures ∙ ap (frame_stage _) (long_is c.args.runs.now c.of.ensures)) c.in-Err.is

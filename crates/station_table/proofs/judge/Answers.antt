@@ -1,20 +1,11 @@
-use Rattle.std.proofs.Common.{Ok, sym, ◌∙◌, ap}
+use Rattle.std.proofs.Common.{sym, ap}
 use Prim.Native.Nat.{ℕ, ◌<◌, ◌^◌}
 use native.Mathlib.Omega.{arith}
 use Rattle.meaning.specs.Columns.{kw_at}
-use Rattle.meaning.proofs.Answers.{yields_passes, yields_stops}
 use Rattle.layout.proofs.Rows.{nodes_from, nodes_few, stations_from, stations_few}
 use Rattle.station_table.specs.declared.StationColumns.{StationColumns}
 use Rattle.station_table.proofs.TecLaws.{cells_all, tec_below, by_type_is}
 use Rattle.station_table.proofs.judge.Goals as goal
-
-pub stage-requires : goal.stage-requires
-stage-requires c =
-    record {
-      nodes = sym (nodes_from _ c.section-nodes.ensures).count;
-      section = c.section-rows.ensures;
-      column = ap (λ (s : StationColumns). s.node) c.columns-columns.ensures;
-    }
 
 pub by_type-requires : goal.by_type-requires
 by_type-requires c =
@@ -23,20 +14,23 @@ by_type-requires c =
     tec_below c.args.file.now (λ i. omega (arith, c.shared_slice_known-1.given i)) c.columns-columns.ensures in
     (nodes_few _ c.section-nodes.ensures, stations_few _ c.section-rows.ensures, below)
 
-pub returns-in-Err-clause-judged : goal.returns-in-Err-clause-judged
-returns-in-Err-clause-judged c =
-    yields_stops _ (sym c.stage.ensures ∙ c.in-Err.is)
+pub stage-judged-requires : goal.stage-judged-requires
+stage-judged-requires c =
+    record {
+      nodes = sym (nodes_from _ c.section-nodes.ensures).count;
+      section = c.section-rows.ensures;
+      column = ap (λ (s : StationColumns). s.node) c.columns-columns.ensures;
+    }
 
-pub returns-in-Ok-clause-judged : goal.returns-in-Ok-clause-judged
-returns-in-Ok-clause-judged c =
+pub returns-clause-summed : goal.returns-clause-summed
+returns-clause-summed c =
     let nodes = nodes_from _ c.section-nodes.ensures in
     let stations = stations_from _ c.section-rows.ensures in
     let few = stations_few _ c.section-rows.ensures in
-    let by = by_type_is _ _ _ _ _ (sym nodes.count) (sym stations.count) c.columns-columns.ensures few c.by_type.ensures in
-    ap Ok by ∙ yields_passes _ (sym c.stage.ensures ∙ c.in-Ok.is)
+    by_type_is _ _ _ _ _ (sym nodes.count) (sym stations.count) c.columns-columns.ensures few c.by_type.ensures
 
-pub returns-in-Ok-clause-possible : goal.returns-in-Ok-clause-possible
-returns-in-Ok-clause-possible c =
+pub returns-clause-possible : goal.returns-clause-possible
+returns-clause-possible c =
     -- a station's TEC is a u32
     let below : (k : ℕ) → kw_at c.columns-columns.result.tec k < 2 ^ 32 =
     tec_below c.args.file.now (λ i. omega (arith, c.shared_slice_known-1.given i)) c.columns-columns.ensures in

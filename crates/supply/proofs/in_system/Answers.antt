@@ -1,6 +1,5 @@
 use mathlib.Core.Path.{refl}
 use Rattle.std.proofs.Common.{rules}
-use mathlib.Core.Logic.{⊎_elim}
 use Rattle.supply.specs.Supply.{supply_in}
 use Rattle.supply.proofs.in_system.Goals as goal
 
@@ -14,4 +13,8 @@ returns-in-Base-Peak c = search rules
 
 pub returns-in-Wider : goal.returns-in-Wider
 unfolding supply_in
-returns-in-Wider c = ⊎_elim (λ e. rw e.1 refl) (λ e. rw e refl) c.in-Wider.is
+returns-in-Wider c = rw c.in-Wider.is refl
+
+pub returns-in-Local : goal.returns-in-Local
+unfolding supply_in
+returns-in-Local c = rw c.in-Local.is refl

@@ -1,27 +1,33 @@
 -- `tables::open` meets its contract.
-use Rattle.std.proofs.Common.{refl, sym, ap₂, ◌∙◌}
-use Rattle.meaning.specs.Answers.{yields}
-use Rattle.meaning.proofs.Answers.{refuses, let_through, yields_stops, yields_passes}
-use Rattle.tables.proofs.GridLaws.{frame_stops, rows_stop, grid_decides}
+use Rattle.std.proofs.Common.{sym, ap, ap₂, ◌∙◌}
+use Rattle.meaning.specs.Answers.{Judgement, yields, ◌or_else◌}
+use Rattle.meaning.proofs.Answers.{refuses}
+use Rattle.layout.specs.Readable.{readable}
+use Rattle.tables.specs.Order.{rows_after}
+use Rattle.tables.proofs.OrderLaws.{rows_stop}
+use Rattle.tables.proofs.ReadLaws.{rows_read, columns_same}
+use Rattle.tables.proofs.GridLaws.{grid_decides}
 use Rattle.tables.proofs.Lent.{stopped, given}
 use Rattle.tables.proofs.open.Goals as goal
 
-pub returns-in_err-frame : goal.returns-in_err-frame
-returns-in_err-frame c =
-    let s = stopped _ _ (refuses c.from_residual.ensures) (frame_stops _ _ c.frame.ensures c.in_err-frame.was) in
+pub returns-in_err-tables-clause-judged : goal.returns-in_err-tables-clause-judged
+returns-in_err-tables-clause-judged c =
+    let rows = c.tables.ensures.rows ∙ ap (λ (j : Judgement). j or_else rows_after (readable c.args.file.now)) c.frame.ensures in
+    let s = stopped _ _ (refuses c.from_residual.ensures) (rows_stop _ _ rows c.in_err-tables.was) in
     record { judged = s.0; possible = s.1 }
 
-pub returns-in_err-tables : goal.returns-in_err-tables
-returns-in_err-tables c =
-    let rows = rows_stop _ _ c.frame.ensures c.in_ok-frame.was c.tables.ensures (sym (yields_stops _ c.in_err-tables.was)) in
-    let s = stopped _ _ (refuses c.from_residual-in_err-tables.ensures) rows in
-    record { judged = s.0; possible = s.1 }
+pub returns-in_err-tables-clause-columns : goal.returns-in_err-tables-clause-columns
+returns-in_err-tables-clause-columns c = rw c.frame.ensures at c.tables.ensures.columns
 
-pub returns : goal.returns
-returns c =
-    let read = sym (yields_passes _ c.in_ok-tables.was) in
-    let grid = grid_decides _ _ c.frame.ensures c.in_ok-frame.was c.tables.ensures read c.grid_stage.ensures in
+pub returns-clause-judged : goal.returns-clause-judged
+returns-clause-judged c =
+    let rows = c.tables.ensures.rows ∙ ap (λ (j : Judgement). j or_else rows_after (readable c.args.file.now)) c.frame.ensures in
+    let columns = rw c.frame.ensures at c.tables.ensures.columns in
+    let read = rows_read columns (sym rows ∙ c.in_ok-tables.was) in
     record {
-      judged = ap₂ yields (sym grid) (let_through _ _ c.tables.ensures.judged read).1;
-      possible = given _ _ (rw read at c.tables.ensures.possible);
+      judged = ap₂ yields (sym (grid_decides _ columns rows c.in_ok-tables.was c.grid_stage.ensures)) (columns_same read);
+      possible = given _ _ read.possible;
     }
+
+pub returns-clause-columns : goal.returns-clause-columns
+returns-clause-columns c = rw c.frame.ensures at c.tables.ensures.columns

@@ -8,7 +8,7 @@ use Rattle.meaning.specs.Text.{natural}
 use Rattle.lines.specs.declared.Line.{Line}
 use Rattle.lines.proofs.Making.{both, within}
 use Rattle.lines.proofs.Numbers.{decimal_below, decimal_above, decimal_i64}
-use Rattle.lines.proofs.digits.push_decimal.Goals.{then-z-lt0, else-z-lt0}
+use Rattle.lines.proofs.digits.push_decimal.Goals.{then-below_zero, else-below_zero}
 use Rattle.lines.proofs.digits.push_decimal.Goals as goal
 
 pub push_natural-requires : goal.push_natural-requires
@@ -16,12 +16,12 @@ push_natural-requires c =
     let z = c.args.z in
     let back : Back z = fit_back c.ranges.z in
     let n = ap (λ (m : ℕ). length (natural m)) (rw back at c.unsigned_abs.ensures.value) in
-    elim c.if-z-lt0.branch [
-      | then-z-lt0 w ↦
-          let is = decimal_below z (lt_true (rw back at w.if-z-lt0.true)) in
+    elim c.if-below_zero.branch [
+      | then-below_zero w ↦
+          let is = decimal_below z (lt_true (rw back at w.if-below_zero.true)) in
           omega (arith, ap (λ (l : Line). l.len) w.line-is, w.push.ensures.next, n, ap length is, decimal_i64 z c.ranges.z)
-      | else-z-lt0 w ↦
-          let is = decimal_above z (lt_false (rw back at w.if-z-lt0.false)) in
+      | else-below_zero w ↦
+          let is = decimal_above z (lt_false (rw back at w.if-below_zero.false)) in
           omega (arith, ap (λ (l : Line). l.len) w.line-is, n, ap length is, decimal_i64 z c.ranges.z)
     ]
 
@@ -30,12 +30,12 @@ returns c =
     let z = c.args.z in
     let back : Back z = fit_back c.ranges.z in
     let digits = rw (rw back at c.unsigned_abs.ensures.value) at c.push_natural.ensures in
-    elim c.if-z-lt0.branch [
-      | then-z-lt0 w ↦
-          let is = decimal_below z (lt_true (rw back at w.if-z-lt0.true)) in
+    elim c.if-below_zero.branch [
+      | then-below_zero w ↦
+          let is = decimal_below z (lt_true (rw back at w.if-below_zero.true)) in
           let rest = rw w.line-is at digits in
           within (rw (← is) at (both w.push.ensures rest)) (decimal_i64 z c.ranges.z)
-      | else-z-lt0 w ↦
-          let is = decimal_above z (lt_false (rw back at w.if-z-lt0.false)) in
+      | else-below_zero w ↦
+          let is = decimal_above z (lt_false (rw back at w.if-below_zero.false)) in
           within (rw (w.line-is, ← is) at digits) (decimal_i64 z c.ranges.z)
     ]
