@@ -58,7 +58,8 @@ fn figures_of(opened: &Opened, runs: &Solutions, share: &[u8]) -> Figures
     )
 }
 
-// Judges a case once, and makes its figures of the columns that were judged.
+// Judges a case once, and makes its figures of the columns that were judged. Not inlined: a function takes and zeroes its room as it begins, and `charge` answers 1 and 2 before.
+#[inline(never)]
 fn of_columns(file: &[u8], runs: &Solutions, share: &[u8]) -> Result<Figures, Refusal>
     ensures { result ≡ charged_of file.now (lent runs.now) share.now }
 {
@@ -69,7 +70,7 @@ fn of_columns(file: &[u8], runs: &Solutions, share: &[u8]) -> Result<Figures, Re
     }
 }
 
-// The figures of a case, or what stops it first among 1 to 11 and 13 to 16. A file that is not whole, or a bad setting, is answered before there is room for any table: a function zeroes all its room as it begins, so that room is another's.
+// The figures of a case, or what stops it first among 1 to 11 and 13 to 16. A file that is not whole, or a bad setting, is answered before there is room for any table.
 pub fn charge(file: &[u8], runs: &Solutions, share: &[u8]) -> Result<Figures, Refusal>
     ensures { result ≡ charged_of file.now (lent runs.now) share.now }
 {

@@ -7,13 +7,13 @@ use Rattle.meaning.proofs.Answers.{yields_stops}
 use Rattle.station_table.specs.Tec.{Possible}
 use mathlib.Core.Bool.{Bool, true, false, cond}
 use mathlib.Core.List.{List, []}
-use Prim.Native.Nat.{ℕ, ◌/◌, ◌%◌}
+use Prim.Native.Nat.{ℕ, zero, suc, ◌/◌, ◌%◌, ◌≤◌}
 use native.Mathlib.Omega.{arith}
 use lib.ListN.{get_or, replicate}
 use Rattle.meaning.specs.declared.Settings.{Settings}
 use Rattle.meaning.specs.Rows.{lowest, rows}
 use Rattle.meaning.specs.Name.{Name}
-use Rattle.meaning.specs.Columns.{kilowatts}
+use Rattle.meaning.specs.Columns.{kilowatts, kw_at}
 use Rattle.meaning.specs.Study.{Study, circuit, no_circuit}
 use Rattle.meaning.specs.File.{u32, section_count, section, file_whole, study_of}
 use Rattle.meaning.specs.Grid.{place, grid_of}
@@ -29,6 +29,7 @@ use Rattle.station_table.specs.Tec.{types_of}
 use Rattle.tables.specs.declared.Opened.{Opened}
 use Rattle.tables.specs.Order.{then_nodes, then_circuits}
 use Rattle.tables.specs.Opens.{opened_of, filled, Columns, nothing_read}
+use Rattle.tables.proofs.ReadLaws.{filled_stops}
 
 -- it was stopped, whatever is in them
 pub stopped : {j k : Judgement} {r : Refusal} (a b : Opened) → j ≡ Err r → k ≡ Err r → (yields j a ≡ yields k b) × IfOk (yields j a) (λ o. Possible o.by_type)
@@ -100,10 +101,16 @@ pub record WithoutRows (frame : Judgement) (file : List ℕ) (after : Opened) : 
   pub nodes : after.nodes ≡ nodes_of (readable (filled (then_nodes frame file) file []))
   pub circuits : after.circuits ≡ circuits_of (readable (filled (then_nodes frame file) file []))
   pub by_type : after.by_type ≡ types_of (readable (filled (then_circuits frame file) file []))
+  pub possible : Possible after.by_type
+
+none_possible : (n cell : ℕ) → kw_at (replicate n (kilowatts 0)) cell ≤ 2199023255040
+none_possible zero cell = omega arith
+none_possible (suc n) zero = omega arith
+none_possible (suc n) (suc cell) = none_possible n cell
 
 pub without_rows : {frame : Judgement} {file : List ℕ} {after : Opened} → Columns frame file nothing_read after → WithoutRows frame file after
-unfolding opened_of
-without_rows {frame} {file} t =
+unfolding opened_of nothing_read
+without_rows {frame} {file} {after} t =
     let u = rw nothing_is at t in
     record {
       counts = u.counts;
@@ -111,4 +118,9 @@ without_rows {frame} {file} t =
       nodes = u.nodes ∙ filled_over nodes_of _ file;
       circuits = u.circuits ∙ filled_over circuits_of _ file;
       by_type = u.by_type ∙ filled_over types_of _ file;
+      possible = go (then_circuits frame file) refl;
     }
+  where
+    go : (j : Judgement) → then_circuits frame file ≡ j → Possible after.by_type
+    go (Ok _) e = t.possible e
+    go (Err r) e = rw (t.by_type ∙ filled_stops _ _ e) (λ cell. none_possible 1792 cell)
