@@ -143,10 +143,10 @@ module _ (counted : Counted) (by : List Kw) (v : ℕ) where
   unfolding types_tec
   types_none = sym (sum-zero _)
 
-  pub types_more : (t : ℕ) {sums more : ℕ} {plant : Plant} → sums ≡ types_tec counted by t v → plant ≡ plant_of (suc t)
-      → more ≡ part_of counted plant (possible_kw (kw_at by (7 * v + t))) → sums + more ≡ types_tec counted by (t + 1) v
+  pub types_more : (t : ℕ) {sums more cell : ℕ} {plant : Plant} → sums ≡ types_tec counted by t v → plant ≡ plant_of (suc t)
+      → more ≡ part_of counted plant (possible_kw (kw_at by cell)) → cell ≡ 7 * v + t → sums + more ≡ types_tec counted by (t + 1) v
   unfolding types_tec
-  types_more t e p m = rw (e, m, p) (sym (sum_more t _))
+  types_more t e p m l = rw (e, m, p, l) (sym (sum_more t _))
 
   pub types_low : (t : ℕ) → types_tec counted by t v ≤ t * 2199023255040
   unfolding types_tec

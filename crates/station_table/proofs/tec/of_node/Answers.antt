@@ -14,4 +14,4 @@ overflow_add-sum c =
 pub loop-t-preserved : goal.loop-t-preserved
 loop-t-preserved c =
     let a = c.args in
-    types_more a.counted a.by_type.now a.node c.loop-t.t c.loop-t.invariant (types_at c.loop-t.t _ (omega arith)) c.part-sum.ensures.value
+    types_more a.counted a.by_type.now a.node c.loop-t.t c.loop-t.invariant (types_at c.loop-t.t _ (omega arith)) c.part-sum.ensures.value (omega arith)
