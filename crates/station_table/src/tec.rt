@@ -57,7 +57,7 @@ pub fn of_node(counted: Counted, by_type: &[Kw; 1792], node: usize) -> Kw
     requires { node < 256 }
     ensures { result ≡ kilowatts (types_tec counted by_type.now 7 node) }
 {
-    // Copied once: read in the loop, the constant is made anew for each type, and what edition 2 asks takes more than twice as long.
+    // Copied once: read in the loop, the constant is made anew for each type, and what is fixed or varies in edition 2 takes three times as long.
     let types = plants::TYPES;
     let mut sum = 0;
     for t in 0..7 {
